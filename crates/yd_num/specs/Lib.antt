@@ -1,0 +1,9 @@
+pub mod Fault
+pub mod Front
+pub mod Grammar
+pub mod Groups
+pub mod Law
+pub mod Number
+pub mod Reading
+pub mod Remainder
+pub mod Text

@@ -1,0 +1,18 @@
+//! Why a field could not be read, and where it begins.
+
+use thiserror::Error;
+
+/// What is wrong with a field. The number is the place of the field's first byte, counted in bytes
+/// from the start of what the cursor was made of (lib0, decoding; the limits are own).
+#[derive(Clone, Copy, Debug, PartialEq, Eq, Error)]
+pub enum NumFault {
+    /// The bytes end inside the field.
+    #[error("the bytes end inside the field at {0}")]
+    ShortInput(usize),
+    /// A number, or a field's length, is longer than 8 bytes or past 2^53-1.
+    #[error("the number at {0} is too large")]
+    NumberTooLarge(usize),
+    /// A text's bytes are not UTF-8.
+    #[error("the text at {0} is not UTF-8")]
+    BadUtf8(usize),
+}

@@ -1,0 +1,65 @@
+//! The fields at the front of a slice, each with how many bytes it takes.
+
+ghost use Rattle.yd_num.specs.Front.{StandsAtFront};
+ghost use Rattle.yd_num.specs.Number.{unsigned_at};
+ghost use Rattle.yd_num.specs.Text.{bytes_at, blob_at, text_at};
+
+use crate::fault::NumFault;
+use crate::groups::{Groups, groups_of};
+use simdutf8::from_utf8_baseline;
+
+/// The greatest unsigned number, 2^53-1, the last up to which JavaScript counts exactly.
+const MOST: u64 = (1 << 53) - 1;
+
+/// An unsigned number.
+#[tactic(auto, unfolding(crate::specs::Number::unsigned_at))]
+pub fn unsigned_of(bytes: &[u8], place: usize) -> Result<(u64, usize), NumFault>
+    ensures { StandsAtFront (λ v. v) bytes.now place result (unsigned_at bytes.now) }
+{
+    match groups_of(bytes, 8) {
+        Groups::Short => Err(NumFault::ShortInput(place)),
+        Groups::Long => Err(NumFault::NumberTooLarge(place)),
+        Groups::Number { value, len } => {
+            if value > MOST {
+                return Err(NumFault::NumberTooLarge(place));
+            }
+            Ok((value, len))
+        }
+    }
+}
+
+/// So many bytes.
+#[tactic(auto, unfolding(crate::specs::Text::bytes_at))]
+pub fn bytes_of(bytes: &[u8], count: u64, place: usize) -> Result<(&[u8], usize), NumFault>
+    ensures { StandsAtFront (λ b. b.now) bytes.now place result (bytes_at count bytes.now) }
+{
+    if count > bytes.len() as u64 {
+        return Err(NumFault::ShortInput(place));
+    }
+    let len = count as usize;
+    let (front, _) = bytes.split_at(len);
+    Ok((front, len))
+}
+
+/// A byte string.
+#[tactic(auto, unfolding(crate::specs::Text::blob_at))]
+pub fn blob_of(bytes: &[u8], place: usize) -> Result<(&[u8], usize), NumFault>
+    ensures { StandsAtFront (λ b. b.now) bytes.now place result (blob_at bytes.now) }
+{
+    let (size, head) = unsigned_of(bytes, place)?;
+    let (_, rest) = bytes.split_at(head);
+    let (blob, len) = bytes_of(rest, size, place)?;
+    Ok((blob, head + len))
+}
+
+/// A text.
+#[tactic(auto, unfolding(crate::specs::Text::text_at))]
+pub fn text_of(bytes: &[u8], place: usize) -> Result<(&str, usize), NumFault>
+    ensures { StandsAtFront (λ t. t.now) bytes.now place result (text_at bytes.now) }
+{
+    let (blob, len) = blob_of(bytes, place)?;
+    match from_utf8_baseline(blob) {
+        Ok(text) => Ok((text, len)),
+        Err(_) => Err(NumFault::BadUtf8(place)),
+    }
+}

@@ -1,0 +1,21 @@
+//! Numbers, texts and byte strings as lib0 writes them, read one field after the other.
+//!
+//! Each reading call of a [`Cursor`] reads the field at the front of what is left, exactly by the
+//! grammar in `specs/`, and takes no memory. A fault carries the place of the field's first byte
+//! and leaves the cursor as it was.
+//!
+//! ```rust
+//! let mut cursor = Cursor::new(&[0xac, 0x02, 0x03, 0x61, 0x62, 0x63]);
+//! assert_eq!(rt; cursor.unsigned()?, 300);
+//! assert_eq!(rt; cursor.text()?, "abc");
+//! ```
+#![tactic(auto)]
+
+mod cursor;
+mod fault;
+mod field;
+mod groups;
+pub mod law;
+
+pub use cursor::Cursor;
+pub use fault::NumFault;
