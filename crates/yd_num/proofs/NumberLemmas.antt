@@ -17,7 +17,7 @@ pub record Takes (most : ℕ) (bytes : List ℕ) (v : ℕ) (rest : List ℕ) : T
 takes_last : (most b : ℕ) (rest : List ℕ) → b < 128 → Takes (suc most) (b ∷ rest) b rest
 takes_last most b rest lt = record { field = b ∷ []; terminated = lt; within = omega arith; value = grind arith; joined = refl }
 
-terminated-cons : (b : ℕ) (field : List ℕ) → 128 ≤ b → IsTerminated field → IsTerminated (b ∷ field)
+pub terminated-cons : (b : ℕ) (field : List ℕ) → 128 ≤ b → IsTerminated field → IsTerminated (b ∷ field)
 terminated-cons b [] more is = absurd is
 terminated-cons b (c ∷ rest) more is = (more, is)
 

@@ -1,5 +1,7 @@
 -- Numbers in groups of seven bits, the least significant first (lib0, variable-length unsigned integers).
-use Rattle.std.specs.Prelude.{◌≡◌, ℕ, zero, suc, ◌+◌, ◌*◌, ◌%◌, ◌^◌, ◌<◌, ◌≤◌, List, [], ◌∷◌, length, Result, Ok, Err, nat_lt, if◌then◌else◌}
+use Rattle.std.specs.Prelude.{◌≡◌, ℕ, zero, suc, ◌+◌, ◌*◌, ◌%◌, ◌^◌, ◌<◌, ◌≤◌, ◌⊎◌, List, [], ◌∷◌, length, Result, Ok, Err, nat_lt, if◌then◌else◌}
+use Rattle.std.specs.List.{AllByRecursion}
+use Rattle.yd_num.specs.Grammar.{Begins}
 use Rattle.yd_num.specs.Reading.{Cause, short_input, number_too_large, ◌>>=◌}
 
 -- ---- the grammar
@@ -21,6 +23,25 @@ pub record SpellsUnsigned (bytes : List ℕ) (v : ℕ) : Type 0 where
   pub in_eight : length bytes ≤ 8
   pub value : grouped_value bytes ≡ v
   pub in_range : v < 2 ^ 53
+
+-- every byte says that more follow
+abbrev pub SayMore : List ℕ → Type 0
+SayMore bytes = AllByRecursion (λ b. 128 ≤ b) bytes
+
+-- eight bytes that all say that more follow
+pub record IsLong (bytes : List ℕ) : Type 0 where
+  pub say_more : SayMore bytes
+  pub are_eight : length bytes ≡ 8
+
+-- at most eight bytes that make a number past 2^53-1
+pub record IsPast (bytes : List ℕ) : Type 0 where
+  pub terminated : IsTerminated bytes
+  pub in_eight : length bytes ≤ 8
+  pub past : 2 ^ 53 ≤ grouped_value bytes
+
+-- the number at the front is longer than eight bytes, or past 2^53-1
+abbrev pub IsTooLarge : List ℕ → Type 0
+IsTooLarge bytes = Begins IsLong bytes ⊎ Begins IsPast bytes
 
 -- ---- reading
 

@@ -2,7 +2,7 @@
 use Rattle.std.specs.Prelude.{◌≡◌, ℕ, List, length, take, drop, Result, Ok, Err, nat_lt, if◌then◌else◌, IsUtf8}
 use Rattle.std.specs.Str.{is_utf8}
 use Rattle.yd_num.specs.Reading.{Cause, short_input, bad_utf8, ◌>>=◌}
-use Rattle.yd_num.specs.Grammar.{Joins}
+use Rattle.yd_num.specs.Grammar.{Joins, Begins}
 use Rattle.yd_num.specs.Number.{SpellsUnsigned, unsigned_at}
 
 -- ---- the grammar
@@ -15,6 +15,10 @@ SpellsBlob bytes blob = Joins (λ front. SpellsUnsigned front (length blob)) (λ
 pub record SpellsText (bytes text : List ℕ) : Type 0 where
   pub is_blob : SpellsBlob bytes text
   pub is_utf8 : IsUtf8 text
+
+-- a byte string whose bytes are not UTF-8 stands at the front
+abbrev pub IsOtherBlob : List ℕ → Type 0
+IsOtherBlob bytes = (blob : List ℕ) × ¬ (IsUtf8 blob) × Begins (λ front. SpellsBlob front blob) bytes
 
 -- ---- reading
 
