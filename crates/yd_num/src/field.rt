@@ -6,7 +6,7 @@ ghost use Rattle.yd_num.specs.Text.{bytes_at, blob_at, text_at};
 
 use crate::fault::NumFault;
 use crate::groups::{Groups, groups_of};
-use simdutf8::from_utf8_baseline;
+use simdutf8::basic::from_utf8;
 
 /// The greatest unsigned number, 2^53-1, the last up to which JavaScript counts exactly.
 const MOST: u64 = (1 << 53) - 1;
@@ -58,7 +58,7 @@ pub fn text_of(bytes: &[u8], place: usize) -> Result<(&str, usize), NumFault>
     ensures { StandsAtFront (λ t. t.now) bytes.now place result (text_at bytes.now) }
 {
     let (blob, len) = blob_of(bytes, place)?;
-    match from_utf8_baseline(blob) {
+    match from_utf8(blob) {
         Ok(text) => Ok((text, len)),
         Err(_) => Err(NumFault::BadUtf8(place)),
     }

@@ -1,0 +1,5 @@
+pub mod FormLemmas
+pub mod LoadingLemmas
+pub mod RunLemmas
+pub mod WordLemmas
+pub mod WritingLemmas

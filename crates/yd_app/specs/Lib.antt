@@ -1,0 +1,12 @@
+pub mod Ending
+pub mod Field
+pub mod FormReading
+pub mod Law
+pub mod Lines
+pub mod Loading
+pub mod OneText
+pub mod Run
+pub mod Seen
+pub mod Verdict
+pub mod Words
+pub mod Writing

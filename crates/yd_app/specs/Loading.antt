@@ -1,0 +1,38 @@
+-- What loading a file says of the bytes under its name (own).
+use Rattle.std.specs.Prelude.{◌≡◌, ℕ, ◌+◌, ◌^◌, ◌<◌, ◌≤◌, List, ◌++◌, length, take, drop, Option, Some, None, Result, Ok, Err, IfOk}
+use Rattle.std.specs.Global.{Vec}
+use Rattle.yd_world.specs.Shelf.{Shelf, Gives}
+use Rattle.yd_world.specs.declared.fault.Failed.{Failed}
+use Rattle.yd_app.specs.declared.fault.LoadFault.{LoadFault}
+use Rattle.yd_app.specs.declared.fault.LoadFault.TheVariants.{NoMemory, ReadFault, TooLarge}
+
+-- Ok has the bytes under the name, which are at most 2^26; TooLarge comes where they are more, and
+-- has read one more than that
+abbrev pub Loads : Option Shelf → Option Shelf → List ℕ → Result (Vec ℕ) LoadFault → Type 0
+Loads None new name result = Unit {0}
+Loads (Some old) None name result = ⊥
+Loads (Some old) (Some new) name (Ok bytes) = (old.bytes_under name ≡ Some bytes.items) × (length bytes.items ≤ 2 ^ 26)
+Loads (Some old) (Some new) name (Err TooLarge) =
+    (bytes : List ℕ) × (old.bytes_under name ≡ Some bytes) × (2 ^ 26 < length bytes) × (new.unread ≡ drop (2 ^ 26 + 1) bytes)
+Loads (Some old) (Some new) name (Err NoMemory) = Unit {0}
+Loads (Some old) (Some new) name (Err ReadFault) = Unit {0}
+
+-- the files are as they were
+abbrev pub KeepsFiles : Option Shelf → Option Shelf → Type 0
+KeepsFiles None new = Unit {0}
+KeepsFiles (Some old) None = ⊥
+KeepsFiles (Some old) (Some new) = new.bytes_under ≡ old.bytes_under
+
+-- these bytes were read of the name, and the others are unread
+abbrev pub IsReading : Option Shelf → Option Shelf → List ℕ → List ℕ → Type 0
+IsReading None now name read = Unit {0}
+IsReading (Some old) None name read = ⊥
+IsReading (Some old) (Some now) name read = (now.bytes_under ≡ old.bytes_under) × (old.bytes_under name ≡ Some (read ++ now.unread))
+
+-- one reading call filled the buffer behind its front
+pub record ReadsInto (told told_now : Option Shelf) (old new : List ℕ) (filled : ℕ) (result : Result ℕ Failed) : Type 0 where
+  pub into : List ℕ
+  pub buffer : new ≡ take filled old ++ into
+  pub length_of : length into + filled ≡ length old
+  pub within : IfOk result (λ count. count ≤ length into)
+  pub gives : Gives told told_now into result

@@ -1,0 +1,77 @@
+-- What a run promises: why each status comes, and what stands on out and on err then (own).
+use Rattle.std.specs.Prelude.{◌≡◌, ◌⊎◌, ℕ, List, [], ◌∷◌, Option}
+use Rattle.yd_world.specs.Faults.{Rose}
+use Rattle.yd_world.specs.Shelf.{Shelf}
+use Rattle.yd_app.specs.Lines.{line_of_status}
+use Rattle.yd_app.specs.OneText.{OneText}
+use Rattle.yd_app.specs.Verdict.{IsAccepted, IsRefused, IsTooLarge, HasBytes, LacksName, AsksWhere, output_of}
+use Rattle.yd_app.specs.Words.{AsksText, AreOfNoForm}
+use Rattle.yd_app.specs.Writing.{TakesAll, TakesFront}
+
+-- the number is one of these
+abbrev pub IsOneOf : ℕ → List ℕ → Type 0
+IsOneOf n [] = ⊥
+IsOneOf n (m ∷ others) = (n ≡ m) ⊎ IsOneOf n others
+
+-- how a count of faults stood before the run, and stands after it
+pub record Count : Type 0 where
+  pub before : ℕ
+  pub now : ℕ
+
+abbrev pub count_of : ℕ → ℕ → Count
+count_of before now = record { before = before; now = now }
+
+abbrev pub RoseIn : Count → Type 0
+RoseIn count = Rose count.before count.now
+
+-- why the status comes; want of memory, status 5, has no reason
+pub record HasReason (words : List (List ℕ)) (told : Option Shelf) (reads writes : Count) (status : ℕ) : Type 0 where
+  pub shown : status ≡ 0 → AsksWhere words told (λ root bytes. (update : OneText) × IsAccepted bytes update)
+  pub refused : status ≡ 1 → AsksWhere words told (λ root bytes. IsRefused bytes)
+  pub usage : status ≡ 2 → AreOfNoForm words
+  pub read_fault : status ≡ 3 → RoseIn reads
+  pub write_fault : status ≡ 4 → RoseIn writes
+  pub too_large : status ≡ 7 → AsksWhere words told (λ root bytes. IsTooLarge bytes)
+
+-- which statuses there are, and which of them can come
+pub record Comes (words : List (List ℕ)) (told : Option Shelf) (status : ℕ) : Type 0 where
+  pub is_status : IsOneOf status (0 ∷ 1 ∷ 2 ∷ 3 ∷ 4 ∷ 5 ∷ 7 ∷ [])
+  pub no_form : AreOfNoForm words → IsOneOf status (2 ∷ 5 ∷ [])
+  pub accepted : (root file bytes : List ℕ) (update : OneText) → AsksText words root file → HasBytes told file bytes → IsAccepted bytes update → IsOneOf status (0 ∷ 3 ∷ 4 ∷ 5 ∷ [])
+  pub refused : (root file bytes : List ℕ) → AsksText words root file → HasBytes told file bytes → IsRefused bytes → IsOneOf status (1 ∷ 3 ∷ 5 ∷ [])
+  pub too_large : (root file bytes : List ℕ) → AsksText words root file → HasBytes told file bytes → IsTooLarge bytes → IsOneOf status (3 ∷ 5 ∷ 7 ∷ [])
+  pub missing : (root file : List ℕ) → AsksText words root file → LacksName told file → IsOneOf status (3 ∷ 5 ∷ [])
+
+-- with nothing that fails, an accepted file is shown, or memory is wanted
+abbrev pub Completes : List (List ℕ) → Option Shelf → ℕ → Type 0
+Completes words told status = (root file bytes : List ℕ) (update : OneText) → AsksText words root file → HasBytes told file bytes → IsAccepted bytes update → IsOneOf status (0 ∷ 5 ∷ [])
+
+-- all that the update shows under the root was written, and a line feed, whoever made it and however its bytes spell it
+abbrev pub Shows : List (List ℕ) → Option Shelf → Option (List ℕ) → Option (List ℕ) → Type 0
+Shows words told taken now = AsksWhere words told (λ root bytes. (update : OneText) × IsAccepted bytes update × TakesAll taken now (output_of root update))
+
+-- a front of that was written
+abbrev pub ShowsFront : List (List ℕ) → Option Shelf → Option (List ℕ) → Option (List ℕ) → Type 0
+ShowsFront words told taken now = AsksWhere words told (λ root bytes. (update : OneText) × IsAccepted bytes update × TakesFront taken now (output_of root update))
+
+-- what stands on out where the run ended within its output
+pub record CutsOff (words : List (List ℕ)) (told : Option Shelf) (taken now : Option (List ℕ)) (status : ℕ) : Type 0 where
+  pub write_fault : status ≡ 4 → ShowsFront words told taken now
+  pub no_memory : status ≡ 5 → (now ≡ taken) ⊎ ShowsFront words told taken now
+
+-- the status's line was written, or a front of it where err failed
+abbrev pub TellsLine : List (List ℕ) → Option (List ℕ) → Option (List ℕ) → Count → ℕ → Type 0
+TellsLine words taken now errs status =
+    TakesFront taken now (line_of_status words status) × (TakesAll taken now (line_of_status words status) ⊎ RoseIn errs)
+
+-- a front of the line for want of memory was written, or of the line of the status that was due
+abbrev pub TellsNoMemory : List (List ℕ) → Option Shelf → Count → Count → Option (List ℕ) → Option (List ℕ) → Type 0
+TellsNoMemory words told reads writes taken now =
+    TakesFront taken now (line_of_status words 5)
+    ⊎ ((due : ℕ) × IsOneOf due (1 ∷ 2 ∷ 3 ∷ 4 ∷ 7 ∷ []) × HasReason words told reads writes due × TakesFront taken now (line_of_status words due))
+
+-- what stands on err
+pub record TellsErr (words : List (List ℕ)) (told : Option Shelf) (reads writes errs : Count) (taken now : Option (List ℕ)) (status : ℕ) : Type 0 where
+  pub shown : status ≡ 0 → now ≡ taken
+  pub line : IsOneOf status (1 ∷ 2 ∷ 3 ∷ 4 ∷ 7 ∷ []) → TellsLine words taken now errs status
+  pub no_memory : status ≡ 5 → TellsNoMemory words told reads writes taken now

@@ -1,0 +1,98 @@
+//! How a run ends: its status, and its line on err.
+
+ghost use Rattle.std.specs.Prelude.{◌≡◌, ◌≢◌, ◌≤◌, ◌⊎◌, ◌++◌, Err, IsOk, OnOk, IsErrOf};
+ghost use Rattle.yd_world.specs.Faults.{Rose};
+ghost use Rattle.yd_app.specs.Ending.{status_of, line_of};
+ghost use Rattle.yd_app.specs.Writing.{TakesAll, TakesFront};
+
+use crate::writing::write_out;
+use yd_world::{Outage, Sink};
+
+/// How a run ends.
+#[derive(Clone, Copy)]
+pub enum Ending<'a> {
+    /// The output was written.
+    Shown,
+    /// The file, as the word gives it, is outside the form that runs.
+    Refused(&'a str),
+    /// The words are of no form.
+    Usage,
+    /// The library failed at this name.
+    ReadFault(&'a str),
+    /// The output could not be written.
+    WriteFault,
+    /// A growth found no memory.
+    NoMemory,
+    /// The file of this name has more bytes than a file may have.
+    TooLarge(&'a str),
+}
+
+/// The words that run, and those that will.
+const USAGE: &str = "usage: ydoc show|merge|cut|vector|convert|edit|serve|sync|check|generate";
+
+/// Writes the ending's line, and answers the status.
+pub fn report<S: Sink>(ending: Ending<'_>, err: &mut S) -> u8
+    ensures status { (result ≡ status_of ending.entry) ⊎ ((result ≡ 5) × (status_of ending.entry ≢ 0)) }
+    ensures silent { status_of ending.entry ≡ 0 → err.new ≡ err.old }
+    ensures front { TakesFront (S.bytes_taken err.old) (S.bytes_taken err.new) (line_of ending.entry) }
+    ensures whole { result ≢ 5
+        → TakesAll (S.bytes_taken err.old) (S.bytes_taken err.new) (line_of ending.entry)
+        ⊎ Rose (S.faults err.old) (S.faults err.new) }
+{
+    match tell(ending, err) {
+        Err(Outage::NoMemory) => 5,
+        _ => status(ending),
+    }
+}
+
+fn tell<S: Sink>(ending: Ending<'_>, err: &mut S) -> Result<(), Outage>
+    ensures silent { status_of ending.entry ≡ 0 → IsOk result × (err.new ≡ err.old) }
+    ensures whole { OnOk result (TakesAll (S.bytes_taken err.old) (S.bytes_taken err.new) (line_of ending.entry)) }
+    ensures front { TakesFront (S.bytes_taken err.old) (S.bytes_taken err.new) (line_of ending.entry) }
+    ensures failed { IsErrOf result Outage.Failed → Rose (S.faults err.old) (S.faults err.new) }
+{
+    match ending {
+        Ending::Shown => Ok(()),
+        Ending::Refused(file) => write_line(err, "refused ", file, " Unbuilt 0\n"),
+        Ending::Usage => write_line(err, USAGE, "", "\n"),
+        Ending::ReadFault(name) => write_line(err, "read fault ", name, "\n"),
+        Ending::WriteFault => write_line(err, "write fault", "", "\n"),
+        Ending::NoMemory => write_line(err, "no memory", "", "\n"),
+        Ending::TooLarge(name) => write_line(err, "limit ", name, " TooLarge\n"),
+    }
+}
+
+fn status(ending: Ending<'_>) -> u8
+    ensures { result ≡ status_of ending.entry }
+{
+    match ending {
+        Ending::Shown => 0,
+        Ending::Refused(_) => 1,
+        Ending::Usage => 2,
+        Ending::ReadFault(_) => 3,
+        Ending::WriteFault => 4,
+        Ending::NoMemory => 5,
+        Ending::TooLarge(_) => 7,
+    }
+}
+
+/// Writes three texts, one after the other. After an error a front of them was written.
+pub fn write_line<S: Sink>(
+    sink: &mut S,
+    before: &str,
+    middle: &str,
+    after: &str,
+) -> Result<(), Outage>
+    ensures whole { OnOk result (TakesAll (S.bytes_taken sink.old) (S.bytes_taken sink.new)
+        (before.now ++ middle.now ++ after.now)) }
+    ensures front { TakesFront (S.bytes_taken sink.old) (S.bytes_taken sink.new)
+        (before.now ++ middle.now ++ after.now) }
+    ensures counts { S.faults sink.old ≤ S.faults sink.new }
+    ensures failed { IsErrOf result Outage.Failed → Rose (S.faults sink.old) (S.faults sink.new) }
+    ensures calm { S.is_calm sink.old → S.is_calm sink.new × (result ≢ Err Outage.Failed)
+        × (S.faults sink.new ≡ S.faults sink.old) }
+{
+    write_out(sink, before.as_bytes())?;
+    write_out(sink, middle.as_bytes())?;
+    write_out(sink, after.as_bytes())
+}

@@ -1,0 +1,27 @@
+//! The program: what the words ask for, what is written, and how it ends.
+//!
+//! [`run`] is the whole program over the traits of the outside. Its contract says which status comes
+//! when, what stands on `out` and on `err` then, and that `show` writes what the update alone
+//! defines, whoever wrote it and however its bytes spell it.
+//!
+//! ```rust
+//! let status = run(rt.alloc(), &words, &mut library, &mut out, &mut err, &mut board);
+//! assert_eq!(rt; (status, out.as_slice()), (0, b"abc\n".as_slice()));
+//! ```
+#![tactic(auto)]
+
+mod ending;
+mod fault;
+pub mod law;
+mod loading;
+mod one_text;
+mod program;
+mod request;
+mod word;
+mod writing;
+
+pub use fault::{LoadFault, NoMemory};
+pub use loading::read_all;
+pub use program::run;
+pub use word::Word;
+pub use writing::write_out;

@@ -1,0 +1,107 @@
+//! The program over the traits of the outside.
+
+ghost use Rattle.std.specs.Prelude.{◌≡◌, ◌≢◌, ◌∷◌, [], Err, OnOk, IsErrOf};
+ghost use Rattle.yd_world.specs.Faults.{Rose};
+ghost use Rattle.yd_app.specs.Ending.{status_of, Ends, ReadsCalmly};
+ghost use Rattle.yd_app.specs.Run.{IsOneOf, count_of, HasReason, Comes, Completes, Shows, CutsOff, TellsErr};
+ghost use Rattle.yd_app.specs.Seen.{seen};
+ghost use Rattle.yd_app.specs.Verdict.{output_of};
+ghost use Rattle.yd_app.specs.Writing.{TakesAll, TakesFront};
+
+use crate::ending::{Ending, report, write_line};
+use crate::fault::LoadFault;
+use crate::loading::read_all;
+use crate::one_text::{StringUpdate, one_text_of};
+use crate::request::request_of;
+use crate::word::Word;
+use std::alloc::Global;
+use yd_world::{Library, Outage, Sink, Switchboard};
+
+/// Does what the words ask for, and answers the status. `show --text NAME v1:FILE` is the form of
+/// words that runs, and the file is an update of one string in a root; all else is refused by name.
+pub fn run<L: Library, S: Sink, B: Switchboard>(
+    alloc: Global,
+    words: &[Word],
+    library: &mut L,
+    out: &mut S,
+    err: &mut S,
+    board: &mut B,
+) -> u8
+    // Why the status comes, and which can come.
+    ensures reason { HasReason words.now (L.told library.old)
+        (count_of (L.faults library.old) (L.faults library.new))
+        (count_of (S.faults out.old) (S.faults out.new)) result }
+    ensures comes { Comes words.now (L.told library.old) result }
+    ensures completes { L.is_calm library.old → S.is_calm out.old
+        → Completes words.now (L.told library.old) result }
+
+    // What is shown is what the update alone defines.
+    ensures converges { result ≡ 0 → Shows words.now (L.told library.old)
+        (S.bytes_taken out.old) (S.bytes_taken out.new) }
+    ensures cuts_off { CutsOff words.now (L.told library.old)
+        (S.bytes_taken out.old) (S.bytes_taken out.new) result }
+    ensures untouched { IsOneOf result (1 ∷ 2 ∷ 3 ∷ 7 ∷ []) → out.new ≡ out.old }
+
+    // What is said on err, and that the network is left alone.
+    ensures err { TellsErr words.now (L.told library.old)
+        (count_of (L.faults library.old) (L.faults library.new))
+        (count_of (S.faults out.old) (S.faults out.new))
+        (count_of (S.faults err.old) (S.faults err.new))
+        (S.bytes_taken err.old) (S.bytes_taken err.new) result }
+    ensures board { board.new ≡ board.old }
+{
+    let ending = answer(alloc, words, library, out);
+    report(ending, err)
+}
+
+// Does what the words ask for, and says how it ended.
+fn answer<'a, L: Library, S: Sink>(
+    alloc: Global,
+    words: &'a [Word],
+    library: &mut L,
+    out: &mut S,
+) -> Ending<'a>
+    ensures ends { Ends words.now (L.told library.old)
+        (count_of (L.faults library.old) (L.faults library.new))
+        (count_of (S.faults out.old) (S.faults out.new))
+        (S.bytes_taken out.old) (S.bytes_taken out.new) result }
+    ensures untouched { IsOneOf (status_of result) (1 ∷ 2 ∷ 3 ∷ 7 ∷ []) → out.new ≡ out.old }
+    ensures reads { L.is_calm library.old
+        → ReadsCalmly words.now (L.told library.old) (status_of result) }
+    ensures writes { S.is_calm out.old → status_of result ≢ 4 }
+{
+    let Some(request) = request_of(words) else {
+        return Ending::Usage;
+    };
+    let bytes = match read_all(alloc, library, request.name) {
+        Ok(bytes) => bytes,
+        Err(LoadFault::NoMemory) => return Ending::NoMemory,
+        Err(LoadFault::ReadFault) => return Ending::ReadFault(request.name),
+        Err(LoadFault::TooLarge) => return Ending::TooLarge(request.name),
+    };
+    let Ok(update) = one_text_of(&bytes) else {
+        return Ending::Refused(request.file);
+    };
+    match show(update, request.root, out) {
+        Ok(()) => Ending::Shown,
+        Err(Outage::NoMemory) => Ending::NoMemory,
+        Err(Outage::Failed) => Ending::WriteFault,
+    }
+}
+
+// Writes what the root shows of the update, and a line feed.
+fn show<S: Sink>(update: StringUpdate<'_>, root: &str, out: &mut S) -> Result<(), Outage>
+    ensures whole { OnOk result (TakesAll (S.bytes_taken out.old) (S.bytes_taken out.new)
+        (output_of root.now (seen update.entry))) }
+    ensures front { TakesFront (S.bytes_taken out.old) (S.bytes_taken out.new)
+        (output_of root.now (seen update.entry)) }
+    ensures failed { IsErrOf result Outage.Failed → Rose (S.faults out.old) (S.faults out.new) }
+    ensures calm { S.is_calm out.old → result ≢ Err Outage.Failed }
+{
+    let text = if update.root == root {
+        update.content
+    } else {
+        ""
+    };
+    write_line(out, "", text, "\n")
+}

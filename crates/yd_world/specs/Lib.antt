@@ -1,0 +1,10 @@
+pub mod Faults
+pub mod FileLibrary
+pub mod MemoryLibrary
+pub mod MemorySink
+pub mod Plan
+pub mod ScriptBoard
+pub mod Shelf
+pub mod StdSink
+pub mod Taken
+pub mod Traffic

@@ -1,0 +1,53 @@
+//! `ydoc` shows what stands in Yjs updates: the program over the system's files and streams.
+#![tactic(auto)]
+
+use std::env;
+use std::io::ErrorKind;
+use std::process::ExitCode;
+use yd_app::{NoMemory, Word, run, write_out};
+use yd_world::{FileLibrary, ScriptBoard, StdSink};
+
+fn main(rt: HostRuntime) -> ExitCode {
+    let mut library = FileLibrary::new(&rt);
+    let mut out = StdSink::out(&rt);
+    let mut err = StdSink::err(&rt);
+    let mut board = ScriptBoard::new(rt.alloc());
+    let status = match words(&rt) {
+        Ok(words) => run(
+            rt.alloc(),
+            words.as_slice(),
+            &mut library,
+            &mut out,
+            &mut err,
+            &mut board,
+        ),
+        Err(NoMemory) => {
+            let _ = write_out(&mut err, b"no memory\n");
+            5
+        }
+    };
+    ExitCode::from(status)
+}
+
+// The words behind the program's name, or none where one is not UTF-8.
+fn words(rt: &HostRuntime) -> Result<Vec<Word>, NoMemory> {
+    let mut words = Vec::new(rt.alloc());
+    match env::args(rt) {
+        Ok(arguments) => {
+            for argument in arguments.skip(1) {
+                let word = Word::copy_of(rt.alloc(), argument.as_str())?;
+                if words.push(word).is_err() {
+                    return Err(NoMemory);
+                }
+            }
+            Ok(words)
+        }
+        Err(error) => {
+            if error.kind() == ErrorKind::InvalidData {
+                Ok(words)
+            } else {
+                Err(NoMemory)
+            }
+        }
+    }
+}
