@@ -9,6 +9,7 @@ use Rattle.yd_app.specs.Writing.{TakesAll}
 use Rattle.yd_app.specs.declared.ending.Ending.{Ending}
 use Rattle.yd_app.specs.declared.ending.Ending.TheVariants.{Shown, Refused, Usage, ReadFault, WriteFault, NoMemory, TooLarge}
 
+-- its status
 abbrev pub status_of : Ending → ℕ
 status_of Shown = 0
 status_of (Refused file) = 1

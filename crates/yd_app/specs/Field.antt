@@ -4,6 +4,7 @@ use Rattle.yd_num.specs.Grammar.{Joins}
 use Rattle.yd_num.specs.Number.{SpellsUnsigned}
 use Rattle.yd_num.specs.Text.{SpellsText}
 
+-- a number, one byte as it stands, or a text
 pub data Field : Type 0 where
   number : ℕ → Field
   byte : ℕ → Field

@@ -7,6 +7,7 @@ use Rattle.yd_app.specs.Field.{Field, number, byte, text}
 use Rattle.yd_app.specs.OneText.{OneText}
 use Rattle.yd_app.specs.declared.one_text.Unbuilt.{Unbuilt}
 
+-- what kind of field is read
 pub data Kind : Type 0 where
   a_number : Kind
   a_byte : Kind

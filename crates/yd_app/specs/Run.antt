@@ -18,9 +18,11 @@ pub record Count : Type 0 where
   pub before : ℕ
   pub now : ℕ
 
+-- the count that was so, and is so
 abbrev pub count_of : ℕ → ℕ → Count
 count_of before now = record { before = before; now = now }
 
+-- the count rose in the run
 abbrev pub RoseIn : Count → Type 0
 RoseIn count = Rose count.before count.now
 

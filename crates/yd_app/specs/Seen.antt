@@ -5,6 +5,7 @@ use Rattle.yd_app.specs.OneText.{OneText}
 use Rattle.yd_app.specs.declared.one_text.StringUpdate.{StringUpdate}
 use Rattle.yd_app.specs.declared.one_text.Unbuilt.{Unbuilt}
 
+-- the update that was read
 abbrev pub seen : StringUpdate → OneText
 seen update = record { client = update.client; root = update.root.now; content = update.content.now }
 

@@ -32,9 +32,11 @@ const USAGE: &str = "usage: ydoc show|merge|cut|vector|convert|edit|serve|sync|c
 
 /// Writes the ending's line, and answers the status.
 pub fn report<S: Sink>(ending: Ending<'_>, err: &mut S) -> u8
-    ensures status { (result ≡ status_of ending.entry) ⊎ ((result ≡ 5) × (status_of ending.entry ≢ 0)) }
+    ensures status { (result ≡ status_of ending.entry)
+        ⊎ ((result ≡ 5) × (status_of ending.entry ≢ 0)) }
     ensures silent { status_of ending.entry ≡ 0 → err.new ≡ err.old }
-    ensures front { TakesFront (S.bytes_taken err.old) (S.bytes_taken err.new) (line_of ending.entry) }
+    ensures front { TakesFront (S.bytes_taken err.old) (S.bytes_taken err.new)
+        (line_of ending.entry) }
     ensures whole { result ≢ 5
         → TakesAll (S.bytes_taken err.old) (S.bytes_taken err.new) (line_of ending.entry)
         ⊎ Rose (S.faults err.old) (S.faults err.new) }
@@ -47,8 +49,10 @@ pub fn report<S: Sink>(ending: Ending<'_>, err: &mut S) -> u8
 
 fn tell<S: Sink>(ending: Ending<'_>, err: &mut S) -> Result<(), Outage>
     ensures silent { status_of ending.entry ≡ 0 → IsOk result × (err.new ≡ err.old) }
-    ensures whole { OnOk result (TakesAll (S.bytes_taken err.old) (S.bytes_taken err.new) (line_of ending.entry)) }
-    ensures front { TakesFront (S.bytes_taken err.old) (S.bytes_taken err.new) (line_of ending.entry) }
+    ensures whole { OnOk result (TakesAll (S.bytes_taken err.old) (S.bytes_taken err.new)
+        (line_of ending.entry)) }
+    ensures front { TakesFront (S.bytes_taken err.old) (S.bytes_taken err.new)
+        (line_of ending.entry) }
     ensures failed { IsErrOf result Outage.Failed → Rose (S.faults err.old) (S.faults err.new) }
 {
     match ending {

@@ -1,7 +1,7 @@
 //! The program: what the words ask for, what is written, and how it ends.
 //!
-//! [`run`] is the whole program over the traits of the outside. Its contract says which status comes
-//! when, what stands on `out` and on `err` then, and that `show` writes what the update alone
+//! [`run`] is the whole program over the traits of the outside. Its contract says which status
+//! comes when, what stands on `out` and on `err` then, and that `show` writes what the update alone
 //! defines, whoever wrote it and however its bytes spell it.
 //!
 //! ```rust

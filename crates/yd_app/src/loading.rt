@@ -24,9 +24,11 @@ pub fn read_all<L: Library>(
     ensures loads { Loads (L.told library.old) (L.told library.new) name.now result }
     ensures files { KeepsFiles (L.told library.old) (L.told library.new) }
     ensures counts { L.faults library.old ≤ L.faults library.new }
-    ensures failed { IsErrOf result LoadFault.ReadFault → Rose (L.faults library.old) (L.faults library.new) }
-    ensures calm { L.is_calm library.old → HasName (L.told library.old) name.now → L.is_calm library.new
-        × (result ≢ Err LoadFault.ReadFault) × (L.faults library.new ≡ L.faults library.old) }
+    ensures failed { IsErrOf result LoadFault.ReadFault
+        → Rose (L.faults library.old) (L.faults library.new) }
+    ensures calm { L.is_calm library.old → HasName (L.told library.old) name.now
+        → L.is_calm library.new × (result ≢ Err LoadFault.ReadFault)
+        × (L.faults library.new ≡ L.faults library.old) }
 {
     library.begin(name)?;
     let mut buffer = Vec::new(alloc);
@@ -77,7 +79,8 @@ fn read_piece<L: Library>(
     filled: usize,
 ) -> Result<usize, Failed>
     requires { filled ≤ vec_len buffer.old }
-    ensures reads { ReadsInto (L.told library.old) (L.told library.new) buffer.old.items buffer.new.items filled result }
+    ensures reads { ReadsInto (L.told library.old) (L.told library.new)
+        buffer.old.items buffer.new.items filled result }
     ensures len { vec_len buffer.new ≡ vec_len buffer.old }
     ensures cause { HasCause (L.faults library.old) (L.faults library.new) result }
     ensures calm { L.is_calm library.old → L.is_calm library.new × IsOk result

@@ -35,8 +35,10 @@ pub fn request_of(words: &[Word]) -> Option<Request<'_>>
 
 // The name behind the format, which is not empty.
 fn name_of(file: &str) -> Option<&str>
-    ensures found { IfSome result (λ name. (file.now ≡ codes "v1:" ++ name.now) × (0 < length name.now)) }
-    ensures none { IfNone result ((name : List ℕ) → 0 < length name → file.now ≡ codes "v1:" ++ name → ⊥) }
+    ensures found { IfSome result (λ name. (file.now ≡ codes "v1:" ++ name.now)
+        × (0 < length name.now)) }
+    ensures none { IfNone result ((name : List ℕ) → 0 < length name
+        → file.now ≡ codes "v1:" ++ name → ⊥) }
 {
     let name = file.strip_prefix("v1:")?;
     if name.is_empty() { None } else { Some(name) }

@@ -8,7 +8,8 @@ use yd_world::{Outage, Sink};
 
 /// Writes all of the bytes. After an error a front of them was written.
 pub fn write_out<S: Sink>(out: &mut S, bytes: &[u8]) -> Result<(), Outage>
-    ensures whole { OnOk result (TakesAll (S.bytes_taken out.old) (S.bytes_taken out.new) bytes.now) }
+    ensures whole { OnOk result
+        (TakesAll (S.bytes_taken out.old) (S.bytes_taken out.new) bytes.now) }
     ensures front { TakesFront (S.bytes_taken out.old) (S.bytes_taken out.new) bytes.now }
     ensures counts { S.faults out.old ≤ S.faults out.new }
     ensures failed { IsErrOf result Outage.Failed → Rose (S.faults out.old) (S.faults out.new) }

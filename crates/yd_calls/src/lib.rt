@@ -1,0 +1,9 @@
+//! Each public call once, with memory at hand and an answer from outside.
+#![tactic(auto)]
+
+#[cfg(test)]
+mod app;
+#[cfg(test)]
+mod num;
+#[cfg(test)]
+mod world;

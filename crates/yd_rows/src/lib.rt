@@ -1,0 +1,7 @@
+//! What the program writes, case by case: its words, its files and what fails outside.
+#![tactic(auto)]
+
+#[cfg(test)]
+mod show;
+#[cfg(test)]
+mod stage;
