@@ -1,0 +1,4 @@
+pub mod CharLemmas
+pub mod CutLemmas
+pub mod HalfLemmas
+pub mod TextLemmas
