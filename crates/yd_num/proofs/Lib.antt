@@ -5,4 +5,6 @@ pub mod GroupLemmas
 pub mod NumberFaultLemmas
 pub mod NumberLemmas
 pub mod ReadingLemmas
+pub mod SignedFaultLemmas
+pub mod SignedLemmas
 pub mod TextLemmas

@@ -4,13 +4,13 @@ use Rattle.std.proofs.Math.Nat.{pow-le-pow_right, pow-suc}
 use Rattle.std.proofs.lemmas.Bool.{cases_lt, lt-ltb, le-ltb}
 use Rattle.yd_num.specs.Grammar.{Begins, EndsInside}
 use Rattle.yd_num.specs.Law.{Fails, Never}
-use Rattle.yd_num.specs.Number.{IsTerminated, grouped_value, SpellsUnsigned, SayMore, IsLong, IsPast, IsTooLarge, groups_at, unsigned_at}
+use Rattle.yd_num.specs.Number.{IsTerminated, grouped_value, SpellsUnsigned, SayMore, IsPast, IsTooLong, IsTooLarge, groups_at, unsigned_at}
 use Rattle.yd_num.specs.Reading.{short_input, number_too_large}
 use Rattle.yd_num.proofs.FaultLemmas.{Finds, value, short, large, fails_from}
 use Rattle.yd_num.proofs.NumberLemmas.{groups_again, terminated-cons}
 
 -- what stands at the front: the groups of a number, groups that end too early, or too many groups
-data Front (most : ℕ) (bytes : List ℕ) : Type 0 where
+pub data Front (most : ℕ) (bytes : List ℕ) : Type 0 where
   number : (field rest : List ℕ) → IsTerminated field → length field ≤ most → bytes ≡ field ++ rest → Front most bytes
   few : SayMore bytes → length bytes < most → Front most bytes
   many : (front back : List ℕ) → SayMore front → length front ≡ most → bytes ≡ front ++ back → Front most bytes
@@ -20,7 +20,7 @@ front-cons most b bytes more (number field rest is within joined) = number (b �
 front-cons most b bytes more (few all lt) = few (more, all) (omega arith)
 front-cons most b bytes more (many front back all len joined) = many (b ∷ front) back (more, all) (omega arith) (ap (λ (l : List ℕ). b ∷ l) joined)
 
-front_of : (most : ℕ) (bytes : List ℕ) → Front most bytes
+pub front_of : (most : ℕ) (bytes : List ℕ) → Front most bytes
 front_of zero bytes = many [] bytes tt refl refl
 front_of (suc most) [] = few tt (omega arith)
 front_of (suc most) (b ∷ bytes) =
@@ -30,14 +30,14 @@ front_of (suc most) (b ∷ bytes) =
     ]
 
 -- groups that end too early
-groups_few : (most : ℕ) (bytes : List ℕ) → SayMore bytes → length bytes < most → groups_at most bytes ≡ Err short_input
+pub groups_few : (most : ℕ) (bytes : List ℕ) → SayMore bytes → length bytes < most → groups_at most bytes ≡ Err short_input
 unfolding groups_at
 groups_few zero bytes all lt = absurd (omega arith)
 groups_few (suc most) [] all lt = refl
 groups_few (suc most) (b ∷ bytes) all lt = rw (le-ltb b 128 all.0, groups_few most bytes all.1 (omega arith)) refl
 
 -- too many groups
-groups_many : (most : ℕ) (front back : List ℕ) → SayMore front → length front ≡ most → groups_at most (front ++ back) ≡ Err number_too_large
+pub groups_many : (most : ℕ) (front back : List ℕ) → SayMore front → length front ≡ most → groups_at most (front ++ back) ≡ Err number_too_large
 unfolding groups_at
 groups_many zero [] back all len = refl
 groups_many zero (b ∷ front) back all len = absurd (omega arith)
@@ -49,14 +49,14 @@ terminated-more : (b : ℕ) (bytes : List ℕ) → 0 < length bytes → IsTermin
 terminated-more b [] some is = absurd (omega arith)
 terminated-more b (c ∷ rest) some is = is
 
-terminated-append : (bytes more : List ℕ) → 0 < length more → IsTerminated (bytes ++ more) → SayMore bytes
+pub terminated-append : (bytes more : List ℕ) → 0 < length more → IsTerminated (bytes ++ more) → SayMore bytes
 terminated-append [] more some is = tt
 terminated-append (b ∷ bytes) more some is =
     let parts = terminated-more b (bytes ++ more) (omega (arith, length-append bytes more)) is in
     (parts.0, terminated-append bytes more some parts.1)
 
 -- one byte 0 ends a number
-terminated-zero : (bytes : List ℕ) → SayMore bytes → IsTerminated (bytes ++ 0 ∷ [])
+pub terminated-zero : (bytes : List ℕ) → SayMore bytes → IsTerminated (bytes ++ 0 ∷ [])
 terminated-zero [] all = omega arith
 terminated-zero (b ∷ bytes) all = terminated-cons b (bytes ++ 0 ∷ []) all.0 (terminated-zero bytes all.1)
 
@@ -82,7 +82,7 @@ unsigned_few : (bytes : List ℕ) → SayMore bytes → length bytes < 8 → uns
 unfolding unsigned_at
 unsigned_few bytes all lt = rw (groups_few 8 bytes all lt) refl
 
-unsigned_long : (bytes : List ℕ) → Begins IsLong bytes → unsigned_at bytes ≡ Err number_too_large
+unsigned_long : (bytes : List ℕ) → IsTooLong bytes → unsigned_at bytes ≡ Err number_too_large
 unfolding unsigned_at
 unsigned_long bytes long = rw (long.joined, groups_many 8 long.front long.back long.is_front.say_more long.is_front.are_eight) refl
 
@@ -109,7 +109,7 @@ front_finds : (bytes : List ℕ) → Front 8 bytes → NumberFinds bytes
 front_finds bytes (number field rest is within joined) = number_finds bytes field rest is within joined
 front_finds bytes (few all lt) = short (ends_inside bytes all lt) (unsigned_few bytes all lt)
 front_finds bytes (many front back all len joined) =
-    let long : Begins IsLong bytes = record { front = front; back = back; is_front = record { say_more = all; are_eight = len }; is_back = tt; joined = joined } in
+    let long : IsTooLong bytes = record { front = front; back = back; is_front = record { say_more = all; are_eight = len }; is_back = tt; joined = joined } in
     large (inl long) (unsigned_long bytes long)
 
 -- ---- lemmas for callers

@@ -1,8 +1,9 @@
 -- The laws that tie the grammar of fields to reading them.
 use Rattle.std.specs.Prelude.{◌≡◌, ◌↔◌, ℕ, ◌<◌, List, [], ◌++◌, length, Result, Ok, Err}
 use Rattle.yd_num.specs.Grammar.{Joins, EndsInside}
-use Rattle.yd_num.specs.Number.{SpellsUnsigned, IsTooLarge, byte_at, unsigned_at}
+use Rattle.yd_num.specs.Number.{SpellsUnsigned, IsTooLong, IsTooLarge, byte_at, unsigned_at}
 use Rattle.yd_num.specs.Reading.{Cause, short_input, number_too_large, bad_utf8}
+use Rattle.yd_num.specs.Signed.{SpellsSigned, signed_at}
 use Rattle.yd_num.specs.Text.{SpellsBlob, SpellsText, IsOtherBlob, bytes_at, blob_at, text_at}
 
 -- what is read stands at the front, spelled by the grammar, and what the grammar spells is read whatever follows
@@ -13,6 +14,7 @@ pub record Skips {X : Type 0} (read : List ℕ → Result (X × List ℕ) Cause)
 -- numbers, byte strings and texts are read as the grammar spells them
 pub record FieldsAreRead : Type 0 where
   pub numbers : Skips unsigned_at SpellsUnsigned
+  pub signed_numbers : Skips signed_at SpellsSigned
   pub blobs : Skips blob_at SpellsBlob
   pub texts : Skips text_at SpellsText
 
@@ -31,5 +33,6 @@ pub record FaultsAreExact : Type 0 where
   pub one_byte : Fails byte_at (λ bytes. bytes ≡ []) Never Never
   pub some_bytes : (count : ℕ) → Fails (bytes_at count) (λ bytes. length bytes < count) Never Never
   pub numbers : Fails unsigned_at (EndsInside SpellsUnsigned) IsTooLarge Never
+  pub signed_numbers : Fails signed_at (EndsInside SpellsSigned) IsTooLong Never
   pub blobs : Fails blob_at (EndsInside SpellsBlob) IsTooLarge Never
   pub texts : Fails text_at (EndsInside SpellsBlob) IsTooLarge IsOtherBlob

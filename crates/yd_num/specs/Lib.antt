@@ -6,4 +6,5 @@ pub mod Law
 pub mod Number
 pub mod Reading
 pub mod Remainder
+pub mod Signed
 pub mod Text

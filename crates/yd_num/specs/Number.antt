@@ -39,9 +39,13 @@ pub record IsPast (bytes : List ℕ) : Type 0 where
   pub in_eight : length bytes ≤ 8
   pub past : 2 ^ 53 ≤ grouped_value bytes
 
+-- the number at the front is longer than eight bytes
+abbrev pub IsTooLong : List ℕ → Type 0
+IsTooLong bytes = Begins IsLong bytes
+
 -- the number at the front is longer than eight bytes, or past 2^53-1
 abbrev pub IsTooLarge : List ℕ → Type 0
-IsTooLarge bytes = Begins IsLong bytes ⊎ Begins IsPast bytes
+IsTooLarge bytes = IsTooLong bytes ⊎ Begins IsPast bytes
 
 -- ---- reading
 

@@ -3,10 +3,12 @@
 ghost use Rattle.std.specs.Prelude.{◌≡◌, length};
 ghost use Rattle.yd_num.specs.Remainder.{Reads, all_of};
 ghost use Rattle.yd_num.specs.Number.{unsigned_at, byte_at};
+ghost use Rattle.yd_num.specs.Signed.{signed_at};
 ghost use Rattle.yd_num.specs.Text.{bytes_at, blob_at, text_at};
 
 use crate::fault::NumFault;
-use crate::field::{blob_of, bytes_of, text_of, unsigned_of};
+use crate::field::{blob_of, bytes_of, signed_of, text_of, unsigned_of};
+use crate::signed::Signed;
 use std::marker::Model;
 
 /// A place in a slice, from which the next field is read.
@@ -68,6 +70,17 @@ impl<'a> Cursor<'a> {
     {
         let (_, rest) = self.bytes.split_at(self.at);
         let (value, len) = unsigned_of(rest, self.at)?;
+        self.at += len;
+        Ok(value)
+    }
+
+    /// Reads a signed number of a size of at most 2^55-1, in the shortest form or padded to at most
+    /// 8 bytes; the sign of zero is kept (lib0, readVarInt; the limits are own).
+    pub fn signed(&mut self) -> Result<Signed, NumFault>
+        ensures { Reads (λ s. s) self.old self.new result (signed_at self.old.unread) }
+    {
+        let (_, rest) = self.bytes.split_at(self.at);
+        let (value, len) = signed_of(rest, self.at)?;
         self.at += len;
         Ok(value)
     }

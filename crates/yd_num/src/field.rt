@@ -2,10 +2,12 @@
 
 ghost use Rattle.yd_num.specs.Front.{StandsAtFront};
 ghost use Rattle.yd_num.specs.Number.{unsigned_at};
+ghost use Rattle.yd_num.specs.Signed.{signed_at};
 ghost use Rattle.yd_num.specs.Text.{bytes_at, blob_at, text_at};
 
 use crate::fault::NumFault;
 use crate::groups::{Groups, groups_of};
+use crate::signed::Signed;
 use simdutf8::basic::from_utf8;
 
 /// The greatest unsigned number, 2^53-1, the last up to which JavaScript counts exactly.
@@ -24,6 +26,29 @@ pub fn unsigned_of(bytes: &[u8], place: usize) -> Result<(u64, usize), NumFault>
                 return Err(NumFault::NumberTooLarge(place));
             }
             Ok((value, len))
+        }
+    }
+}
+
+/// A signed number.
+#[tactic(auto, unfolding(crate::specs::Signed::signed_at))]
+pub fn signed_of(bytes: &[u8], place: usize) -> Result<(Signed, usize), NumFault>
+    ensures { StandsAtFront (λ s. s) bytes.now place result (signed_at bytes.now) }
+{
+    let Some((first, rest)) = bytes.split_first() else {
+        return Err(NumFault::ShortInput(place));
+    };
+    let negative = first % 128 >= 64;
+    let low = u64::from(first % 64);
+    if *first < 128 {
+        return Ok((Signed { negative, size: low }, 1));
+    }
+    match groups_of(rest, 7) {
+        Groups::Short => Err(NumFault::ShortInput(place)),
+        Groups::Long => Err(NumFault::NumberTooLarge(place)),
+        Groups::Number { value, len } => {
+            let size = low + 64 * value;
+            Ok((Signed { negative, size }, 1 + len))
         }
     }
 }

@@ -16,6 +16,8 @@ mod fault;
 mod field;
 mod groups;
 pub mod law;
+mod signed;
 
 pub use cursor::Cursor;
 pub use fault::NumFault;
+pub use signed::Signed;
