@@ -5,6 +5,10 @@ pub mod GroupLemmas
 pub mod NumberFaultLemmas
 pub mod NumberLemmas
 pub mod ReadingLemmas
+pub mod ShortestLemmas
+pub mod ShortestSignedLemmas
 pub mod SignedFaultLemmas
 pub mod SignedLemmas
 pub mod TextLemmas
+pub mod WritingLemmas
+pub mod WrittenLemmas

@@ -8,3 +8,4 @@ pub mod Reading
 pub mod Remainder
 pub mod Signed
 pub mod Text
+pub mod Writing

@@ -1,5 +1,6 @@
 //! Why a field could not be read, and where it begins.
 
+use std::alloc::{AllocError, AllocFailed};
 use thiserror::Error;
 
 /// What is wrong with a field. The number is the place of the field's first byte, counted in bytes
@@ -15,4 +16,28 @@ pub enum NumFault {
     /// A text's bytes are not UTF-8.
     #[error("the text at {0} is not UTF-8")]
     BadUtf8(usize),
+}
+
+/// A growth found no memory, and what should have grown is as it was.
+#[derive(Clone, Copy, Debug, PartialEq, Eq)]
+pub struct NoMemory;
+
+impl From<AllocError> for NoMemory {
+    ghost use Rattle.std.specs.Prelude.{◌≡◌};
+
+    ghost from_gives = { λ _ fault. fault ≡ record {} };
+
+    fn from(_: AllocError) -> NoMemory {
+        NoMemory
+    }
+}
+
+impl<T: Drop> From<AllocFailed<T>> for NoMemory {
+    ghost use Rattle.std.specs.Prelude.{◌≡◌};
+
+    ghost from_gives = { λ _ fault. fault ≡ record {} };
+
+    fn from(_: AllocFailed<T>) -> NoMemory {
+        NoMemory
+    }
 }

@@ -11,7 +11,7 @@ use crate::signed::Signed;
 use simdutf8::basic::from_utf8;
 
 /// The greatest unsigned number, 2^53-1, the last up to which JavaScript counts exactly.
-const MOST: u64 = (1 << 53) - 1;
+pub const MOST: u64 = (1 << 53) - 1;
 
 /// An unsigned number.
 #[tactic(auto, unfolding(crate::specs::Number::unsigned_at))]

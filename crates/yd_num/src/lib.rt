@@ -11,13 +11,16 @@
 //! ```
 #![tactic(auto)]
 
+mod bytes;
 mod cursor;
 mod fault;
 mod field;
 mod groups;
 pub mod law;
 mod signed;
+mod spelling;
 
+pub use bytes::Bytes;
 pub use cursor::Cursor;
-pub use fault::NumFault;
+pub use fault::{NoMemory, NumFault};
 pub use signed::Signed;

@@ -1,0 +1,121 @@
+//! Bytes that grow by one field after the other.
+
+ghost use Rattle.std.specs.Prelude.{◌≡◌, ◌^◌, ◌<◌, [], ◌∷◌, ◌++◌, OnOk, OnErr};
+ghost use Rattle.yd_num.specs.Writing.{shortest, shortest_signed, shortest_blob};
+
+use crate::fault::NoMemory;
+use crate::field::MOST;
+use crate::signed::Signed;
+use crate::spelling::{Spelling, signed_spelling_of, spelling_of};
+use std::alloc::Global;
+use std::marker::Model;
+
+/// Bytes that are written, seen as a list of bytes. Each push writes one whole field behind them,
+/// or finds no memory and leaves them as they were.
+#[derive(Drop)]
+pub struct Bytes {
+    bytes: Vec<u8>,
+}
+
+impl Model for Bytes {
+    ghost use Rattle.std.specs.Prelude.{ℕ, List};
+
+    ghost Value = { List ℕ };
+
+    ghost view = { λ b. b.bytes.items };
+}
+
+impl Bytes {
+    /// No bytes yet.
+    pub fn new(alloc: Global) -> Bytes
+        ensures { result ≡ [] }
+    {
+        Bytes { bytes: Vec::new(alloc) }
+    }
+
+    /// All bytes that were written.
+    pub fn as_slice(&self) -> &[u8]
+        ensures { result.now ≡ self.now }
+    {
+        self.bytes.as_slice()
+    }
+
+    /// Writes one byte.
+    pub fn push_byte(&mut self, b: u8) -> Result<(), NoMemory>
+        ensures written { OnOk result (self.new ≡ self.old ++ b ∷ []) }
+        ensures unchanged { OnErr result (self.new ≡ self.old) }
+    {
+        self.bytes.push(b)?;
+        Ok(())
+    }
+
+    /// Writes bytes as they stand, with no length before them.
+    pub fn push_all(&mut self, b: &[u8]) -> Result<(), NoMemory>
+        ensures written { OnOk result (self.new ≡ self.old ++ b.now) }
+        ensures unchanged { OnErr result (self.new ≡ self.old) }
+    {
+        self.bytes.extend_from_slice(b)?;
+        Ok(())
+    }
+
+    /// Writes an unsigned number in the fewest bytes (lib0, writeVarUint; the limit is own).
+    pub fn push_unsigned(&mut self, v: u64) -> Result<(), NoMemory>
+        requires { v < 2 ^ 53 }
+        ensures written { OnOk result (self.new ≡ self.old ++ shortest v) }
+        ensures unchanged { OnErr result (self.new ≡ self.old) }
+    {
+        let spelling = spelling_of(v);
+        self.push_spelling(&spelling)
+    }
+
+    /// Writes a signed number in the fewest bytes; zero keeps its sign (lib0, writeVarInt; the
+    /// limit is own).
+    pub fn push_signed(&mut self, s: Signed) -> Result<(), NoMemory>
+        requires { s.size < 2 ^ 55 }
+        ensures written { OnOk result (self.new ≡ self.old ++ shortest_signed s) }
+        ensures unchanged { OnErr result (self.new ≡ self.old) }
+    {
+        let spelling = signed_spelling_of(s);
+        self.push_spelling(&spelling)
+    }
+
+    /// Writes a text: how many bytes it has, and then these (lib0, writeVarString). A text of
+    /// 2^53 bytes or more finds no memory.
+    pub fn push_text(&mut self, t: &str) -> Result<(), NoMemory>
+        ensures written { OnOk result (self.new ≡ self.old ++ shortest_blob t.now) }
+        ensures unchanged { OnErr result (self.new ≡ self.old) }
+    {
+        self.push_blob(t.as_bytes())
+    }
+
+    /// Writes a byte string: how many bytes it has, and then these (lib0, writeVarUint8Array). One
+    /// of 2^53 bytes or more finds no memory.
+    pub fn push_blob(&mut self, b: &[u8]) -> Result<(), NoMemory>
+        ensures written { OnOk result (self.new ≡ self.old ++ shortest_blob b.now) }
+        ensures unchanged { OnErr result (self.new ≡ self.old) }
+    {
+        let len = b.len() as u64;
+        if len > MOST {
+            return Err(NoMemory);
+        }
+        let start = self.bytes.len();
+        self.push_unsigned(len)?;
+        if self.push_all(b).is_err() {
+            self.bytes.truncate(start);
+            return Err(NoMemory);
+        }
+        Ok(())
+    }
+
+    fn push_spelling(&mut self, spelling: &Spelling) -> Result<(), NoMemory>
+        ensures written { OnOk result (self.new ≡ self.old ++ spelling.now) }
+        ensures unchanged { OnErr result (self.new ≡ self.old) }
+    {
+        let bytes = spelling.as_slice();
+        // Most numbers are one byte, which a push writes faster than a copy does.
+        if bytes.len() == 1 {
+            return self.push_byte(bytes[0]);
+        }
+        self.push_all(bytes)
+    }
+}
