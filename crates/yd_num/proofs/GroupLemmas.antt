@@ -1,6 +1,6 @@
 -- Groups of seven bits, read one after the other as a loop does.
 use Rattle.std.proofs.Common.{◌≡◌, ℕ, suc, ◌+◌, ◌-◌, ◌*◌, ◌%◌, ◌^◌, ◌<◌, ◌≤◌, List, length, get_or, drop, Result, Ok, Err, refl, ap, arith, add-one}
-use Rattle.std.proofs.Math.Nat.{pow-le-pow_right, pow-suc, mul-le-mul_right}
+use Rattle.std.proofs.Math.Nat.{pow-suc, mul-le-mul_right}
 use Rattle.std.proofs.lemmas.Bool.{lt-ltb, le-ltb}
 use Rattle.std.proofs.lemmas.List.{drop_all, drop_more}
 use Rattle.yd_num.specs.Reading.{Cause, short_input, number_too_large, ◌>>=◌}
@@ -11,10 +11,6 @@ abbrev pub behind : ℕ → ℕ → Result (ℕ × List ℕ) Cause → Result (�
 behind value weight reading = reading >>= λ high. Ok (value + weight * high.0, high.1)
 
 -- ---- lemmas for callers
-
--- the weight of one of the first eight groups
-pub weight_fits : (i weight : ℕ) → i < 8 → weight ≡ 128 ^ i → weight ≤ 2 ^ 49
-weight_fits i weight lt e = rw e (pow-le-pow_right {n = 128} (omega arith) {i = i} {j = 7} (omega arith))
 
 regroup : (value weight low : ℕ) (reading : Result (ℕ × List ℕ) Cause) → behind value weight (reading >>= λ high. Ok (low + 128 * high.0, high.1)) ≡ behind (value + low * weight) (weight * 128) reading
 regroup value weight low (Ok x) = let e : value + weight * (low + 128 * x.0) ≡ value + low * weight + weight * 128 * x.0 = omega arith in ap (λ (n : ℕ). Ok (n, x.1)) e

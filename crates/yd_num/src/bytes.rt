@@ -11,7 +11,7 @@ use std::alloc::Global;
 use std::marker::Model;
 
 /// Bytes that are written, seen as a list of bytes. Each push writes one whole field behind them,
-/// or finds no memory and leaves them as they were.
+/// or answers [`NoMemory`] and leaves them as they were (lib0, encoding).
 #[derive(Drop)]
 pub struct Bytes {
     bytes: Vec<u8>,
@@ -30,7 +30,9 @@ impl Bytes {
     pub fn new(alloc: Global) -> Bytes
         ensures { result ≡ [] }
     {
-        Bytes { bytes: Vec::new(alloc) }
+        Bytes {
+            bytes: Vec::new(alloc),
+        }
     }
 
     /// All bytes that were written.
@@ -40,7 +42,7 @@ impl Bytes {
         self.bytes.as_slice()
     }
 
-    /// Writes one byte.
+    /// Writes one byte (lib0, writeUint8).
     pub fn push_byte(&mut self, b: u8) -> Result<(), NoMemory>
         ensures written { OnOk result (self.new ≡ self.old ++ b ∷ []) }
         ensures unchanged { OnErr result (self.new ≡ self.old) }
@@ -49,7 +51,7 @@ impl Bytes {
         Ok(())
     }
 
-    /// Writes bytes as they stand, with no length before them.
+    /// Writes bytes as they stand, with no length before them (lib0, writeUint8Array).
     pub fn push_all(&mut self, b: &[u8]) -> Result<(), NoMemory>
         ensures written { OnOk result (self.new ≡ self.old ++ b.now) }
         ensures unchanged { OnErr result (self.new ≡ self.old) }
@@ -58,7 +60,8 @@ impl Bytes {
         Ok(())
     }
 
-    /// Writes an unsigned number in the fewest bytes (lib0, writeVarUint; the limit is own).
+    /// Writes an unsigned number, at most 2^53-1, in the fewest bytes, which are 1 to 8 (lib0,
+    /// writeVarUint; the limit is own).
     pub fn push_unsigned(&mut self, v: u64) -> Result<(), NoMemory>
         requires { v < 2 ^ 53 }
         ensures written { OnOk result (self.new ≡ self.old ++ shortest v) }
@@ -68,8 +71,8 @@ impl Bytes {
         self.push_spelling(&spelling)
     }
 
-    /// Writes a signed number in the fewest bytes; zero keeps its sign (lib0, writeVarInt; the
-    /// limit is own).
+    /// Writes a signed number of a size of at most 2^55-1 in the fewest bytes, which are 1 to 8;
+    /// zero keeps its sign (lib0, writeVarInt; the limit is own).
     pub fn push_signed(&mut self, s: Signed) -> Result<(), NoMemory>
         requires { s.size < 2 ^ 55 }
         ensures written { OnOk result (self.new ≡ self.old ++ shortest_signed s) }
@@ -79,8 +82,8 @@ impl Bytes {
         self.push_spelling(&spelling)
     }
 
-    /// Writes a text: how many bytes it has, and then these (lib0, writeVarString). A text of
-    /// 2^53 bytes or more finds no memory.
+    /// Writes a text: how many bytes of UTF-8 it has, and then these (lib0, writeVarString). One
+    /// of 2^53 bytes or more finds no memory (own).
     pub fn push_text(&mut self, t: &str) -> Result<(), NoMemory>
         ensures written { OnOk result (self.new ≡ self.old ++ shortest_blob t.now) }
         ensures unchanged { OnErr result (self.new ≡ self.old) }
@@ -89,7 +92,7 @@ impl Bytes {
     }
 
     /// Writes a byte string: how many bytes it has, and then these (lib0, writeVarUint8Array). One
-    /// of 2^53 bytes or more finds no memory.
+    /// of 2^53 bytes or more finds no memory (own).
     pub fn push_blob(&mut self, b: &[u8]) -> Result<(), NoMemory>
         ensures written { OnOk result (self.new ≡ self.old ++ shortest_blob b.now) }
         ensures unchanged { OnErr result (self.new ≡ self.old) }

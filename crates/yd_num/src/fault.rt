@@ -1,4 +1,4 @@
-//! Why a field could not be read, and where it begins.
+//! Why a field could not be read, and where it begins; and that one could not be written.
 
 use std::alloc::{AllocError, AllocFailed};
 use thiserror::Error;
@@ -10,7 +10,7 @@ pub enum NumFault {
     /// The bytes end inside the field.
     #[error("the bytes end inside the field at {0}")]
     ShortInput(usize),
-    /// A number, or a field's length, is longer than 8 bytes or past 2^53-1.
+    /// A number, or a field's length, is longer than 8 bytes, or an unsigned one is past 2^53-1.
     #[error("the number at {0} is too large")]
     NumberTooLarge(usize),
     /// A text's bytes are not UTF-8.
@@ -18,7 +18,7 @@ pub enum NumFault {
     BadUtf8(usize),
 }
 
-/// A growth found no memory, and what should have grown is as it was.
+/// A growth found no memory, and what should have grown is as it was (own).
 #[derive(Clone, Copy, Debug, PartialEq, Eq)]
 pub struct NoMemory;
 

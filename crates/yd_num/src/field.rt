@@ -30,7 +30,7 @@ pub fn unsigned_of(bytes: &[u8], place: usize) -> Result<(u64, usize), NumFault>
     }
 }
 
-/// A signed number.
+/// A signed number, of which the first byte has the sign and six bits.
 #[tactic(auto, unfolding(crate::specs::Signed::signed_at))]
 pub fn signed_of(bytes: &[u8], place: usize) -> Result<(Signed, usize), NumFault>
     ensures { StandsAtFront (λ s. s) bytes.now place result (signed_at bytes.now) }
@@ -41,7 +41,13 @@ pub fn signed_of(bytes: &[u8], place: usize) -> Result<(Signed, usize), NumFault
     let negative = first % 128 >= 64;
     let low = u64::from(first % 64);
     if *first < 128 {
-        return Ok((Signed { negative, size: low }, 1));
+        return Ok((
+            Signed {
+                negative,
+                size: low,
+            },
+            1,
+        ));
     }
     match groups_of(rest, 7) {
         Groups::Short => Err(NumFault::ShortInput(place)),
