@@ -5,57 +5,71 @@ use Rattle.yd_num.specs.declared.signed.Signed.{Signed}
 use Rattle.yd_num.specs.Law.{IsShortest}
 use Rattle.yd_num.specs.Number.{IsTerminated, grouped_value}
 use Rattle.yd_num.specs.Signed.{signed_number, signed_value, SpellsSigned}
-use Rattle.yd_num.specs.Writing.{shortest_groups, shortest_signed, sign_bit}
+use Rattle.yd_num.specs.Writing.{shortest, shortest_groups, shortest_signed, first_bits}
 use Rattle.yd_num.proofs.NumberLemmas.{terminated-cons}
-use Rattle.yd_num.proofs.ShortestLemmas.{groups_spell, groups_least}
+use Rattle.yd_num.proofs.ShortestLemmas.{groups_spell, groups_least, unsigned_spells}
 
-signed-last : (s : Signed) → s.size < 64 → shortest_signed s ≡ (s.size + sign_bit s.negative) ∷ []
+signed-last : (s : Signed) → s.size < 64 → shortest_signed s ≡ first_bits s ∷ []
 unfolding shortest_signed
 signed-last s lt = rw (lt-ltb s.size 64 lt) refl
 
-signed-more : (s : Signed) → 64 ≤ s.size → shortest_signed s ≡ (s.size % 64 + sign_bit s.negative + 128) ∷ shortest_groups 7 (s.size / 64)
+signed-more : (s : Signed) → 64 ≤ s.size → shortest_signed s ≡ (first_bits s + 128) ∷ shortest (s.size / 64)
 unfolding shortest_signed
 signed-more s le = rw (le-ltb s.size 64 le) refl
 
 -- a first byte has the sign and the low bits of which it was made, with bit 0x80 or without it
-first_byte : (negative : Bool) (low more high : ℕ) → low < 64 → more % 128 ≡ 0 → signed_number (low + sign_bit negative + more) high ≡ record { negative = negative; size = low + 64 * high }
-first_byte true low more high lt even =
-    let low_bits : (low + 64 + more) % 64 ≡ low = omega arith in
-    rw (le-leb 64 ((low + 64 + more) % 128) (omega arith), low_bits) refl
-first_byte false low more high lt even =
-    let low_bits : (low + 0 + more) % 64 ≡ low = omega arith in
-    rw (lt-leb 64 ((low + 0 + more) % 128) (omega arith), low_bits) refl
+made_of : (negative : Bool) (size more high : ℕ) → more % 128 ≡ 0 → signed_number (first_bits (record { negative = negative; size = size }) + more) high ≡ record { negative = negative; size = size % 64 + 64 * high }
+made_of true size more high even =
+    let low : (size % 64 + 64 + more) % 64 ≡ size % 64 = omega arith in
+    rw (le-leb 64 ((size % 64 + 64 + more) % 128) (omega arith), low) refl
+made_of false size more high even =
+    let low : (size % 64 + 0 + more) % 64 ≡ size % 64 = omega arith in
+    rw (lt-leb 64 ((size % 64 + 0 + more) % 128) (omega arith), low) refl
 
-sign_fits : (negative : Bool) → sign_bit negative ≤ 64
-sign_fits true = omega arith
-sign_fits false = omega arith
+-- so the number that it begins is whole, if what stands behind it is the rest
+made_again : (s : Signed) (more high : ℕ) → more % 128 ≡ 0 → high ≡ s.size / 64 → signed_number (first_bits s + more) high ≡ s
+made_again s more high even rest =
+    let size : s.size % 64 + 64 * high ≡ s.size = omega arith in
+    made_of s.negative s.size more high even ∙ ap (λ (n : ℕ). record { negative = s.negative; size = n }) size
+
+first_fits : (negative : Bool) (size : ℕ) → first_bits (record { negative = negative; size = size }) < 128
+first_fits true size = omega arith
+first_fits false size = omega arith
 
 spells_last : (s : Signed) → s.size < 64 → SpellsSigned (shortest_signed s) s
 spells_last s lt =
-    let first : ℕ = s.size + sign_bit s.negative in
-    let whole : first + 0 ≡ first = omega arith in
-    let size : s.size + 64 * 0 ≡ s.size = omega arith in
+    let whole : first_bits s ≡ first_bits s + 0 = omega arith in
     rw (signed-last s lt) (record {
-      terminated = omega (arith, sign_fits s.negative);
+      terminated = first_fits s.negative s.size;
       in_eight = omega arith;
-      value = ap (λ (b : ℕ). signed_number b 0) (sym whole) ∙ first_byte s.negative s.size 0 0 lt (omega arith) ∙ ap (λ (n : ℕ). record { negative = s.negative; size = n }) size;
+      value = ap (λ (b : ℕ). signed_number b 0) whole ∙ made_again s 0 0 (omega arith) (omega arith);
     })
+
+-- the rest of a size takes seven bytes
+in_seven : (v : ℕ) → v < 2 ^ 49 → length (shortest v) ≤ 7
+unfolding shortest
+in_seven v lt =
+    let seven = groups_spell 6 v (omega arith) in
+    let least = groups_least 8 (shortest_groups 7 v) seven.terminated in
+    omega (arith, seven.within, ap (λ (n : ℕ). length (shortest_groups 8 n)) seven.value, least)
 
 spells_more : (s : Signed) → 64 ≤ s.size → s.size < 2 ^ 55 → SpellsSigned (shortest_signed s) s
 spells_more s le lt =
-    let high = groups_spell 6 (s.size / 64) (omega arith) in
-    let first : ℕ = s.size % 64 + sign_bit s.negative + 128 in
-    let size : s.size % 64 + 64 * (s.size / 64) ≡ s.size = omega arith in
+    let high = unsigned_spells (s.size / 64) (omega arith) in
     rw (signed-more s le) (record {
-      terminated = terminated-cons first (shortest_groups 7 (s.size / 64)) (omega arith) high.terminated;
-      in_eight = omega (arith, high.within);
-      value = ap (λ (n : ℕ). signed_number first n) high.value ∙ first_byte s.negative (s.size % 64) 128 (s.size / 64) (omega arith) (omega arith) ∙ ap (λ (n : ℕ). record { negative = s.negative; size = n }) size;
+      terminated = terminated-cons (first_bits s + 128) (shortest (s.size / 64)) (omega arith) high.terminated;
+      in_eight = omega (arith, in_seven (s.size / 64) (omega arith));
+      value = made_again s 128 (grouped_value (shortest (s.size / 64))) (omega arith) high.value;
     })
 
 -- behind the first byte of a size past six bits stand groups of the rest
 terminated-behind : (b : ℕ) (rest : List ℕ) → 0 < grouped_value rest → IsTerminated (b ∷ rest) → IsTerminated rest
 terminated-behind b [] some is = absurd (omega arith)
 terminated-behind b (c ∷ rest) some is = is.1
+
+value_unsigned : (bytes : List ℕ) → IsTerminated bytes → length (shortest (grouped_value bytes)) ≤ length bytes
+unfolding shortest
+value_unsigned bytes is = groups_least 8 bytes is
 
 value_least : (bytes : List ℕ) → IsTerminated bytes → length (shortest_signed (signed_value bytes)) ≤ length bytes
 value_least [] is = absurd is
@@ -65,7 +79,7 @@ value_least (b ∷ rest) is =
       | inl lt ↦ rw (signed-last s lt) (omega arith)
       | inr le ↦
           let high : s.size / 64 ≡ grouped_value rest = omega arith in
-          rw (signed-more s le, high) (omega (arith, groups_least 7 rest (terminated-behind b rest (omega arith) is)))
+          rw (signed-more s le, high) (omega (arith, value_unsigned rest (terminated-behind b rest (omega arith) is)))
     ]
 
 -- ---- lemmas for callers

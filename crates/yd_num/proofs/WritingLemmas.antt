@@ -1,8 +1,9 @@
 -- Numbers as they are written: groups one after the other, as a loop does.
-use Rattle.std.proofs.Common.{◌≡◌, ℕ, zero, suc, ◌+◌, ◌-◌, ◌/◌, ◌%◌, ◌^◌, ◌<◌, ◌≤◌, List, [], ◌∷◌, ◌++◌, length, refl, sym, ap, ◌∙◌, append_assoc, arith, length-append}
+use Rattle.std.proofs.Common.{◌≡◌, ℕ, zero, suc, ◌+◌, ◌/◌, ◌%◌, ◌^◌, ◌<◌, ◌≤◌, List, [], ◌∷◌, ◌++◌, length, take, refl, sym, ap, ◌∙◌, append_assoc, append-nil, arith}
+use Rattle.std.proofs.Math.Seq.{take-append_seam}
 use Rattle.std.proofs.Math.Nat.{pow-suc}
 use Rattle.std.proofs.lemmas.Bool.{lt-ltb, le-ltb}
-use Rattle.yd_num.specs.Writing.{shortest_groups}
+use Rattle.yd_num.specs.Writing.{shortest, shortest_groups}
 
 pub groups-last : (most v : ℕ) → v < 128 → shortest_groups (suc most) v ≡ v ∷ []
 unfolding shortest_groups
@@ -19,28 +20,45 @@ rest_fits (suc left) v le fits = (omega arith, omega (arith, pow-suc 128 (suc le
 
 -- ---- a loop that writes
 
--- the groups so far, and behind them those of the rest, are all of eight bytes at most
-pub record SoFar (groups all : List ℕ) (rest : ℕ) : Type 0 where
-  pub within : length groups < 8
-  pub fits : rest < 128 ^ (8 - length groups)
-  pub joins : groups ++ shortest_groups (8 - length groups) rest ≡ all
+-- behind the old bytes stand the groups so far, and with those of the rest they are the whole number
+pub record SoFar (old bytes : List ℕ) (v rest : ℕ) : Type 0 where
+  pub left : ℕ
+  pub groups : List ℕ
+  pub fits : rest < 128 ^ suc left
+  pub stand : bytes ≡ old ++ groups
+  pub joins : groups ++ shortest_groups (suc left) rest ≡ shortest v
+
+pub so_far-init : (old : List ℕ) (v : ℕ) → v < 2 ^ 56 → SoFar old old v v
+unfolding shortest
+so_far-init old v lt = record { left = 7; groups = []; fits = omega arith; stand = sym (append-nil old); joins = refl }
 
 -- one group that says more follow
-pub so_far-more : (groups all : List ℕ) (rest : ℕ) → 128 ≤ rest → SoFar groups all rest → SoFar (groups ++ (rest % 128 + 128) ∷ []) all (rest / 128)
-so_far-more groups all rest le so_far =
-    let longer : List ℕ = groups ++ (rest % 128 + 128) ∷ [] in
-    let left : 8 - length groups ≡ suc (8 - length longer) = omega (arith, length-append groups ((rest % 128 + 128) ∷ []), so_far.within) in
-    let fits = rest_fits (8 - length longer) rest le (rw left at so_far.fits) in
-    let more : shortest_groups (8 - length groups) rest ≡ (rest % 128 + 128) ∷ shortest_groups (8 - length longer) (rest / 128) = ap (λ (n : ℕ). shortest_groups n rest) left ∙ groups-more (8 - length longer) rest le in
-    record {
-      within = omega (arith, fits.0);
-      fits = fits.1;
-      joins = append_assoc groups ((rest % 128 + 128) ∷ []) (shortest_groups (8 - length longer) (rest / 128)) ∙ ap (λ (l : List ℕ). groups ++ l) (sym more) ∙ so_far.joins;
-    }
+more_joins : (groups all : List ℕ) (left rest : ℕ) → 128 ≤ rest → groups ++ shortest_groups (suc left) rest ≡ all → (groups ++ (rest % 128 + 128) ∷ []) ++ shortest_groups left (rest / 128) ≡ all
+more_joins groups all left rest le joins =
+    append_assoc groups ((rest % 128 + 128) ∷ []) (shortest_groups left (rest / 128)) ∙ ap (λ (l : List ℕ). groups ++ l) (sym (groups-more left rest le)) ∙ joins
+
+more_stand : (old bytes groups : List ℕ) (b : ℕ) → bytes ≡ old ++ groups → bytes ++ b ∷ [] ≡ old ++ (groups ++ b ∷ [])
+more_stand old bytes groups b stand = ap (λ (l : List ℕ). l ++ b ∷ []) stand ∙ append_assoc old groups (b ∷ [])
+
+more_left : (old bytes : List ℕ) (v rest left : ℕ) (groups : List ℕ) → 128 ≤ rest → rest < 128 ^ suc left → bytes ≡ old ++ groups → groups ++ shortest_groups (suc left) rest ≡ shortest v
+    → SoFar old (bytes ++ (rest % 128 + 128) ∷ []) v (rest / 128)
+more_left old bytes v rest zero groups le fits stand joins = absurd (omega arith)
+more_left old bytes v rest (suc left) groups le fits stand joins = record {
+  left = left;
+  groups = groups ++ (rest % 128 + 128) ∷ [];
+  fits = (rest_fits (suc left) rest le fits).1;
+  stand = more_stand old bytes groups (rest % 128 + 128) stand;
+  joins = more_joins groups (shortest v) (suc left) rest le joins;
+}
+
+pub so_far-more : (old bytes : List ℕ) (v rest : ℕ) → 128 ≤ rest → SoFar old bytes v rest → SoFar old (bytes ++ (rest % 128 + 128) ∷ []) v (rest / 128)
+so_far-more old bytes v rest le so_far = more_left old bytes v rest so_far.left so_far.groups le so_far.fits so_far.stand so_far.joins
 
 -- the last group
-pub so_far-last : (groups all : List ℕ) (rest : ℕ) → rest < 128 → SoFar groups all rest → groups ++ rest ∷ [] ≡ all
-so_far-last groups all rest lt so_far =
-    let left : 8 - length groups ≡ suc (8 - (length groups + 1)) = omega (arith, so_far.within) in
-    let last : shortest_groups (8 - length groups) rest ≡ rest ∷ [] = ap (λ (n : ℕ). shortest_groups n rest) left ∙ groups-last (8 - (length groups + 1)) rest lt in
-    ap (λ (l : List ℕ). groups ++ l) (sym last) ∙ so_far.joins
+pub so_far-last : (old bytes : List ℕ) (v rest : ℕ) → rest < 128 → SoFar old bytes v rest → bytes ++ rest ∷ [] ≡ old ++ shortest v
+so_far-last old bytes v rest lt so_far =
+    more_stand old bytes so_far.groups rest so_far.stand ∙ ap (λ (l : List ℕ). old ++ (so_far.groups ++ l)) (sym (groups-last so_far.left rest lt)) ∙ ap (λ (l : List ℕ). old ++ l) so_far.joins
+
+-- the old bytes are a front
+pub so_far-kept : (old bytes : List ℕ) (v rest : ℕ) → SoFar old bytes v rest → take (length old) bytes ≡ old
+so_far-kept old bytes v rest so_far = ap (λ (l : List ℕ). take (length old) l) so_far.stand ∙ take-append_seam old so_far.groups

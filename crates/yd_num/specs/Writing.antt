@@ -1,5 +1,5 @@
 -- How fields are written: each number in the fewest bytes (lib0, encoding).
-use Rattle.std.specs.Prelude.{ℕ, zero, suc, ◌+◌, ◌/◌, ◌%◌, Bool, List, [], ◌∷◌, ◌++◌, length, nat_lt, if◌then◌else◌}
+use Rattle.std.specs.Prelude.{ℕ, zero, suc, ◌+◌, ◌/◌, ◌%◌, List, [], ◌∷◌, ◌++◌, length, nat_lt, if◌then◌else◌}
 use Rattle.yd_num.specs.declared.signed.Signed.{Signed}
 
 -- the number in groups of seven bits, as few as it needs and at most so many; each but the last says that more follow
@@ -11,13 +11,13 @@ shortest_groups (suc most) v = if nat_lt v 128 then v ∷ [] else (v % 128 + 128
 unfoldable pub shortest : ℕ → List ℕ
 shortest v = shortest_groups 8 v
 
--- bit 0x40, where the number is negative
-abbrev pub sign_bit : Bool → ℕ
-sign_bit negative = if negative then 64 else 0
+-- a signed number's sign, and its low six bits
+abbrev pub first_bits : Signed → ℕ
+first_bits s = s.size % 64 + (if s.negative then 64 else 0)
 
--- a signed number: its sign and its low six bits, and then groups of the rest, where there is a rest
+-- a signed number: these, and then the rest as an unsigned number, where there is a rest
 unfoldable pub shortest_signed : Signed → List ℕ
-shortest_signed s = if nat_lt s.size 64 then (s.size + sign_bit s.negative) ∷ [] else (s.size % 64 + sign_bit s.negative + 128) ∷ shortest_groups 7 (s.size / 64)
+shortest_signed s = if nat_lt s.size 64 then first_bits s ∷ [] else (first_bits s + 128) ∷ shortest (s.size / 64)
 
 -- a byte string, or a text by its bytes: how many they are, and then they
 abbrev pub shortest_blob : List ℕ → List ℕ

@@ -6,7 +6,7 @@ ghost use Rattle.yd_num.specs.Writing.{shortest, shortest_signed, shortest_blob}
 use crate::fault::NoMemory;
 use crate::field::MOST;
 use crate::signed::Signed;
-use crate::spelling::{Spelling, signed_spelling_of, spelling_of};
+use crate::writing::{write_signed, write_unsigned};
 use std::alloc::Global;
 use std::marker::Model;
 
@@ -67,8 +67,12 @@ impl Bytes {
         ensures written { OnOk result (self.new ≡ self.old ++ shortest v) }
         ensures unchanged { OnErr result (self.new ≡ self.old) }
     {
-        let spelling = spelling_of(v);
-        self.push_spelling(&spelling)
+        let start = self.bytes.len();
+        if write_unsigned(&mut self.bytes, v).is_err() {
+            self.bytes.truncate(start);
+            return Err(NoMemory);
+        }
+        Ok(())
     }
 
     /// Writes a signed number of a size of at most 2^55-1 in the fewest bytes, which are 1 to 8;
@@ -78,8 +82,12 @@ impl Bytes {
         ensures written { OnOk result (self.new ≡ self.old ++ shortest_signed s) }
         ensures unchanged { OnErr result (self.new ≡ self.old) }
     {
-        let spelling = signed_spelling_of(s);
-        self.push_spelling(&spelling)
+        let start = self.bytes.len();
+        if write_signed(&mut self.bytes, s).is_err() {
+            self.bytes.truncate(start);
+            return Err(NoMemory);
+        }
+        Ok(())
     }
 
     /// Writes a text: how many bytes of UTF-8 it has, and then these (lib0, writeVarString). One
@@ -108,17 +116,5 @@ impl Bytes {
             return Err(NoMemory);
         }
         Ok(())
-    }
-
-    fn push_spelling(&mut self, spelling: &Spelling) -> Result<(), NoMemory>
-        ensures written { OnOk result (self.new ≡ self.old ++ spelling.now) }
-        ensures unchanged { OnErr result (self.new ≡ self.old) }
-    {
-        let bytes = spelling.as_slice();
-        // Most numbers are one byte, which a push writes faster than a copy does.
-        if bytes.len() == 1 {
-            return self.push_byte(bytes[0]);
-        }
-        self.push_all(bytes)
     }
 }

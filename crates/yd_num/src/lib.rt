@@ -23,7 +23,7 @@ mod field;
 mod groups;
 pub mod law;
 mod signed;
-mod spelling;
+mod writing;
 
 pub use bytes::Bytes;
 pub use cursor::Cursor;
