@@ -13,11 +13,11 @@ pub record AreGroups (most : ℕ) (bytes : List ℕ) (v : ℕ) : Type 0 where
   pub within : length bytes ≤ most
   pub value : grouped_value bytes ≡ v
 
-groups_last : (most v : ℕ) → v < 128 → AreGroups (suc most) (shortest_groups (suc most) v) v
-groups_last most v lt = rw (groups-last most v lt) (record { terminated = lt; within = omega arith; value = grind arith })
+spells_last : (most v : ℕ) → v < 128 → AreGroups (suc most) (shortest_groups (suc most) v) v
+spells_last most v lt = rw (groups-last most v lt) (record { terminated = lt; within = omega arith; value = grind arith })
 
-groups_more : (most v : ℕ) → 128 ≤ v → AreGroups most (shortest_groups most (v / 128)) (v / 128) → AreGroups (suc most) (shortest_groups (suc most) v) v
-groups_more most v le are = rw (groups-more most v le) (record {
+spells_more : (most v : ℕ) → 128 ≤ v → AreGroups most (shortest_groups most (v / 128)) (v / 128) → AreGroups (suc most) (shortest_groups (suc most) v) v
+spells_more most v le are = rw (groups-more most v le) (record {
   terminated = terminated-cons (v % 128 + 128) (shortest_groups most (v / 128)) (omega arith) are.terminated;
   within = omega (arith, are.within);
   value = omega (arith, are.value);
@@ -26,15 +26,15 @@ groups_more most v le are = rw (groups-more most v le) (record {
 -- ---- lemmas for callers
 
 pub groups_spell : (most v : ℕ) → v < 128 ^ suc most → AreGroups (suc most) (shortest_groups (suc most) v) v
-groups_spell zero v lt = groups_last zero v (omega arith)
+groups_spell zero v lt = spells_last zero v (omega arith)
 groups_spell (suc most) v lt =
     elim (cases_lt v 128) [
-      | inl small ↦ groups_last (suc most) v small
-      | inr le ↦ groups_more (suc most) v le (groups_spell most (v / 128) (rest_fits (suc most) v le lt).1)
+      | inl small ↦ spells_last (suc most) v small
+      | inr le ↦ spells_more (suc most) v le (groups_spell most (v / 128) (rest_fits (suc most) v lt))
     ]
 
 -- other groups of the number are no fewer
-pub groups_least : (most : ℕ) (bytes : List ℕ) → IsTerminated bytes → length (shortest_groups most (grouped_value bytes)) ≤ length bytes
+groups_least : (most : ℕ) (bytes : List ℕ) → IsTerminated bytes → length (shortest_groups most (grouped_value bytes)) ≤ length bytes
 unfolding shortest_groups
 groups_least zero bytes is = omega arith
 groups_least (suc most) [] is = absurd is
@@ -54,6 +54,9 @@ unsigned_spells v lt =
     let are = groups_spell 7 v (omega arith) in
     record { terminated = are.terminated; in_eight = are.within; value = are.value; in_range = lt }
 
-pub unsigned_least : IsShortest SpellsUnsigned shortest
+pub value_least : (bytes : List ℕ) → IsTerminated bytes → length (shortest (grouped_value bytes)) ≤ length bytes
 unfolding shortest
-unsigned_least bytes v spells = rw (sym spells.value) (groups_least 8 bytes spells.terminated)
+value_least bytes is = groups_least 8 bytes is
+
+pub unsigned_least : IsShortest SpellsUnsigned shortest
+unsigned_least bytes v spells = rw (sym spells.value) (value_least bytes spells.terminated)

@@ -7,7 +7,7 @@ use Rattle.yd_num.specs.Number.{IsTerminated, grouped_value}
 use Rattle.yd_num.specs.Signed.{signed_number, signed_value, SpellsSigned}
 use Rattle.yd_num.specs.Writing.{shortest, shortest_groups, shortest_signed, first_bits}
 use Rattle.yd_num.proofs.NumberLemmas.{terminated-cons}
-use Rattle.yd_num.proofs.ShortestLemmas.{groups_spell, groups_least, unsigned_spells}
+use Rattle.yd_num.proofs.ShortestLemmas.{groups_spell, unsigned_spells, value_least}
 
 signed-last : (s : Signed) → s.size < 64 → shortest_signed s ≡ first_bits s ∷ []
 unfolding shortest_signed
@@ -19,18 +19,18 @@ signed-more s le = rw (le-ltb s.size 64 le) refl
 
 -- a first byte has the sign and the low bits of which it was made, with bit 0x80 or without it
 made_of : (negative : Bool) (size more high : ℕ) → more % 128 ≡ 0 → signed_number (first_bits (record { negative = negative; size = size }) + more) high ≡ record { negative = negative; size = size % 64 + 64 * high }
-made_of true size more high even =
+made_of true size more high no_bits =
     let low : (size % 64 + 64 + more) % 64 ≡ size % 64 = omega arith in
     rw (le-leb 64 ((size % 64 + 64 + more) % 128) (omega arith), low) refl
-made_of false size more high even =
+made_of false size more high no_bits =
     let low : (size % 64 + 0 + more) % 64 ≡ size % 64 = omega arith in
     rw (lt-leb 64 ((size % 64 + 0 + more) % 128) (omega arith), low) refl
 
 -- so the number that it begins is whole, if what stands behind it is the rest
 made_again : (s : Signed) (more high : ℕ) → more % 128 ≡ 0 → high ≡ s.size / 64 → signed_number (first_bits s + more) high ≡ s
-made_again s more high even rest =
+made_again s more high no_bits rest =
     let size : s.size % 64 + 64 * high ≡ s.size = omega arith in
-    made_of s.negative s.size more high even ∙ ap (λ (n : ℕ). record { negative = s.negative; size = n }) size
+    made_of s.negative s.size more high no_bits ∙ ap (λ (n : ℕ). record { negative = s.negative; size = n }) size
 
 first_fits : (negative : Bool) (size : ℕ) → first_bits (record { negative = negative; size = size }) < 128
 first_fits true size = omega arith
@@ -45,13 +45,11 @@ spells_last s lt =
       value = ap (λ (b : ℕ). signed_number b 0) whole ∙ made_again s 0 0 (omega arith) (omega arith);
     })
 
--- the rest of a size takes seven bytes
+-- the rest of a size takes at most seven bytes
 in_seven : (v : ℕ) → v < 2 ^ 49 → length (shortest v) ≤ 7
-unfolding shortest
 in_seven v lt =
     let seven = groups_spell 6 v (omega arith) in
-    let least = groups_least 8 (shortest_groups 7 v) seven.terminated in
-    omega (arith, seven.within, ap (λ (n : ℕ). length (shortest_groups 8 n)) seven.value, least)
+    omega (arith, seven.within, ap (λ (n : ℕ). length (shortest n)) seven.value, value_least (shortest_groups 7 v) seven.terminated)
 
 spells_more : (s : Signed) → 64 ≤ s.size → s.size < 2 ^ 55 → SpellsSigned (shortest_signed s) s
 spells_more s le lt =
@@ -67,19 +65,15 @@ terminated-behind : (b : ℕ) (rest : List ℕ) → 0 < grouped_value rest → I
 terminated-behind b [] some is = absurd (omega arith)
 terminated-behind b (c ∷ rest) some is = is.1
 
-value_unsigned : (bytes : List ℕ) → IsTerminated bytes → length (shortest (grouped_value bytes)) ≤ length bytes
-unfolding shortest
-value_unsigned bytes is = groups_least 8 bytes is
-
-value_least : (bytes : List ℕ) → IsTerminated bytes → length (shortest_signed (signed_value bytes)) ≤ length bytes
-value_least [] is = absurd is
-value_least (b ∷ rest) is =
+signed_value_least : (bytes : List ℕ) → IsTerminated bytes → length (shortest_signed (signed_value bytes)) ≤ length bytes
+signed_value_least [] is = absurd is
+signed_value_least (b ∷ rest) is =
     let s : Signed = signed_number b (grouped_value rest) in
     elim (cases_lt s.size 64) [
       | inl lt ↦ rw (signed-last s lt) (omega arith)
       | inr le ↦
           let high : s.size / 64 ≡ grouped_value rest = omega arith in
-          rw (signed-more s le, high) (omega (arith, value_unsigned rest (terminated-behind b rest (omega arith) is)))
+          rw (signed-more s le, high) (omega (arith, value_least rest (terminated-behind b rest (omega arith) is)))
     ]
 
 -- ---- lemmas for callers
@@ -92,4 +86,4 @@ signed_spells s lt =
     ]
 
 pub signed_least : IsShortest SpellsSigned shortest_signed
-signed_least bytes s spells = rw (sym spells.value) (value_least bytes spells.terminated)
+signed_least bytes s spells = rw (sym spells.value) (signed_value_least bytes spells.terminated)

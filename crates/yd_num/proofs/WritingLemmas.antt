@@ -1,6 +1,5 @@
--- Numbers as they are written: groups one after the other, as a loop does.
-use Rattle.std.proofs.Common.{◌≡◌, ℕ, zero, suc, ◌+◌, ◌/◌, ◌%◌, ◌^◌, ◌<◌, ◌≤◌, List, [], ◌∷◌, ◌++◌, length, take, refl, sym, ap, ◌∙◌, append_assoc, append-nil, arith}
-use Rattle.std.proofs.Math.Seq.{take-append_seam}
+-- Numbers as they are written: one group after the other, as a loop does.
+use Rattle.std.proofs.Common.{◌≡◌, ℕ, zero, suc, ◌+◌, ◌/◌, ◌%◌, ◌^◌, ◌<◌, ◌≤◌, List, [], ◌∷◌, ◌++◌, refl, sym, ap, ◌∙◌, append_assoc, append-nil, arith}
 use Rattle.std.proofs.Math.Nat.{pow-suc}
 use Rattle.std.proofs.lemmas.Bool.{lt-ltb, le-ltb}
 use Rattle.yd_num.specs.Writing.{shortest, shortest_groups}
@@ -13,14 +12,13 @@ pub groups-more : (most v : ℕ) → 128 ≤ v → shortest_groups (suc most) v 
 unfolding shortest_groups
 groups-more most v le = rw (le-ltb v 128 le) refl
 
--- behind one group, the rest of a number fits into one group less
-pub rest_fits : (left v : ℕ) → 128 ≤ v → v < 128 ^ suc left → (0 < left) × (v / 128 < 128 ^ left)
-rest_fits zero v le fits = absurd (omega arith)
-rest_fits (suc left) v le fits = (omega arith, omega (arith, pow-suc 128 (suc left)))
+-- without its lowest seven bits, a number fits into one group less
+pub rest_fits : (left v : ℕ) → v < 128 ^ suc left → v / 128 < 128 ^ left
+rest_fits left v fits = omega (arith, pow-suc 128 left)
 
 -- ---- a loop that writes
 
--- behind the old bytes stand the groups so far, and with those of the rest they are the whole number
+-- behind the old bytes stand the groups so far, and with those of the rest they are the whole number's
 pub record SoFar (old bytes : List ℕ) (v rest : ℕ) : Type 0 where
   pub left : ℕ
   pub groups : List ℕ
@@ -46,7 +44,7 @@ more_left old bytes v rest zero groups le fits stand joins = absurd (omega arith
 more_left old bytes v rest (suc left) groups le fits stand joins = record {
   left = left;
   groups = groups ++ (rest % 128 + 128) ∷ [];
-  fits = (rest_fits (suc left) rest le fits).1;
+  fits = rest_fits (suc left) rest fits;
   stand = more_stand old bytes groups (rest % 128 + 128) stand;
   joins = more_joins groups (shortest v) (suc left) rest le joins;
 }
@@ -58,7 +56,3 @@ so_far-more old bytes v rest le so_far = more_left old bytes v rest so_far.left 
 pub so_far-last : (old bytes : List ℕ) (v rest : ℕ) → rest < 128 → SoFar old bytes v rest → bytes ++ rest ∷ [] ≡ old ++ shortest v
 so_far-last old bytes v rest lt so_far =
     more_stand old bytes so_far.groups rest so_far.stand ∙ ap (λ (l : List ℕ). old ++ (so_far.groups ++ l)) (sym (groups-last so_far.left rest lt)) ∙ ap (λ (l : List ℕ). old ++ l) so_far.joins
-
--- the old bytes are a front
-pub so_far-kept : (old bytes : List ℕ) (v rest : ℕ) → SoFar old bytes v rest → take (length old) bytes ≡ old
-so_far-kept old bytes v rest so_far = ap (λ (l : List ℕ). take (length old) l) so_far.stand ∙ take-append_seam old so_far.groups
