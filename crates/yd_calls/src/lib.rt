@@ -6,4 +6,6 @@ mod app;
 #[cfg(test)]
 mod num;
 #[cfg(test)]
+mod units;
+#[cfg(test)]
 mod world;

@@ -1,7 +1,9 @@
 //! Calls of `yd_num`.
 
+ghost use Rattle.std.specs.Prelude.{◌≡◌};
+
 use std::test::Fail;
-use yd_num::{Cursor, NumFault};
+use yd_num::{Bytes, Cursor, NumFault, Signed};
 
 #[test]
 fn fields_are_read_one_after_the_other(rt: HostRuntime) -> Result<(), Fail> {
@@ -48,4 +50,51 @@ fn a_text_fault_is_at_its_length(rt: HostRuntime) -> Result<(), Fail> {
         Err(NumFault::ShortInput(0))
     );
     Ok(())
+}
+
+#[test]
+fn signed_numbers_keep_the_sign_of_zero(rt: HostRuntime) {
+    assert_eq!(rt; signed(&[0xc1, 0x01]), Ok(whole(true, 65)));
+    assert_eq!(rt; signed(&[0x40]), Ok(whole(true, 0)));
+    assert_eq!(rt; signed(&[0]), Ok(whole(false, 0)));
+    assert_eq!(rt; signed(&[0x80]), Err(NumFault::ShortInput(0)));
+}
+
+#[test]
+fn fields_are_written_in_the_fewest_bytes(rt: HostRuntime) -> Result<(), Fail> {
+    let mut bytes = Bytes::new(rt.alloc());
+    bytes.push_unsigned(300)?;
+    bytes.push_signed(whole(true, 65))?;
+    bytes.push_signed(whole(true, 0))?;
+    bytes.push_unsigned(0)?;
+    assert_eq!(rt;
+        bytes.as_slice(),
+        [0xac, 0x02, 0xc1, 0x01, 0x40, 0].as_slice()
+    );
+    let mut bytes = Bytes::new(rt.alloc());
+    bytes.push_unsigned(9_007_199_254_740_991)?;
+    assert_eq!(rt;
+        bytes.as_slice(),
+        [255, 255, 255, 255, 255, 255, 255, 15].as_slice()
+    );
+    let mut bytes = Bytes::new(rt.alloc());
+    bytes.push_text("abc")?;
+    bytes.push_blob(&[5, 6])?;
+    bytes.push_byte(7)?;
+    bytes.push_all(&[8, 9])?;
+    assert_eq!(rt;
+        bytes.as_slice(),
+        [3, 97, 98, 99, 2, 5, 6, 7, 8, 9].as_slice()
+    );
+    Ok(())
+}
+
+fn signed(bytes: &[u8]) -> Result<Signed, NumFault> {
+    Cursor::new(bytes).signed()
+}
+
+fn whole(negative: bool, size: u64) -> Signed
+    ensures { result.size ≡ size }
+{
+    Signed { negative, size }
 }
