@@ -2,11 +2,11 @@
 use Rattle.std.proofs.Common.{◌≡◌, ◌≢◌, ◌⊎◌, ℕ, List, [], ◌∷◌, ◌++◌, Option, Some, None, refl, sym, ap, subst, ◌∙◌, inl, inr, Err, arith}
 use Rattle.std.specs.Prelude.{codes}
 use Rattle.yd_world.specs.Shelf.{Shelf, HasName}
-use Rattle.yd_app.specs.Ending.{status_of, line_of, Ends, ReadsCalmly}
+use Rattle.yd_app.specs.Ending.{status_of, line_of, Ends}
 use Rattle.yd_app.specs.Lines.{line_of_status}
 use Rattle.yd_app.specs.Loading.{Loads}
 use Rattle.yd_app.specs.OneText.{OneText}
-use Rattle.yd_app.specs.Run.{IsOneOf, Count, HasReason, Comes, Completes, RoseIn, TellsLine, TellsNoMemory}
+use Rattle.yd_app.specs.Run.{IsOneOf, Count, HasReason, Comes, Follows, RoseIn, TellsLine, TellsNoMemory}
 use Rattle.yd_app.specs.Verdict.{IsAccepted, IsRefused, IsTooLarge, HasBytes, LacksName, WhereTold, AsksWhere, output_of}
 use Rattle.yd_app.specs.Words.{AsksText}
 use Rattle.yd_app.specs.Writing.{TakesAll, TakesFront}
@@ -212,21 +212,33 @@ pub reported : (P : ℕ → Type 0) (status due : ℕ) → (status ≡ due) ⊎ 
 reported P status due (inl e) p five = rw e p
 reported P status due (inr e) p five = rw e.0 five
 
--- with nothing that fails, an accepted file is shown
-pub completes : (words : List (List ℕ)) (told : Option Shelf) (status : ℕ) → Comes words told status → ReadsCalmly words told status → status ≢ 4 → Completes words told status
-completes words told status comes calm whole root file bytes update asks has accepted =
-    let some = comes.accepted root file bytes update asks has accepted in
-    let read = calm root file bytes asks has in
-    elim some [
-      | inl e ↦ inl e
-      | inr others ↦ elim others [
-        | inl e ↦ absurd (read e)
-        | inr more ↦ elim more [
-          | inl e ↦ absurd (whole e)
-          | inr last ↦ inr last
-        ]
-      ]
-    ]
+strike : {P Q : Type 0} → P ⊎ Q → (P → ⊥) → Q
+strike (inl p) never = absurd (never p)
+strike (inr q) never = q
+
+-- a status that no fault gave follows from the file
+pub follows : (words : List (List ℕ)) (told : Option Shelf) (status : ℕ) → Comes words told status → ((root file bytes : List ℕ) → AsksText words root file → HasBytes told file bytes → status ≢ 3) → status ≢ 4 → Follows words told status
+follows words told status comes read written = record {
+  accepted = λ root file bytes update asks has accepted.
+      elim (comes.accepted root file bytes update asks has accepted) [
+        | inl e ↦ inl e
+        | inr others ↦ inr (strike (strike others (read root file bytes asks has)) written)
+      ];
+  refused = λ root file bytes asks has refused.
+      elim (comes.refused root file bytes asks has refused) [
+        | inl e ↦ inl e
+        | inr others ↦ inr (strike others (read root file bytes asks has))
+      ];
+  too_large = λ root file bytes asks has large. strike (comes.too_large root file bytes asks has large) (read root file bytes asks has);
+}
+
+-- and so does want of memory
+pub follows_five : (words : List (List ℕ)) (told : Option Shelf) → Follows words told 5
+follows_five words told = record {
+  accepted = λ root file bytes update asks has accepted. inr (inl refl);
+  refused = λ root file bytes asks has refused. inr (inl refl);
+  too_large = λ root file bytes asks has large. inl refl;
+}
 
 -- the status that has a line of its own is the ending's
 due_is : (status due : ℕ) → (status ≡ due) ⊎ ((status ≡ 5) × (due ≢ 0)) → IsOneOf status (1 ∷ 2 ∷ 3 ∷ 4 ∷ 7 ∷ []) → (status ≡ due) × (status ≢ 5) × (due ≢ 0)

@@ -40,6 +40,6 @@ Ends words told reads writes taken taken_now WriteFault = ShowsFront words told 
 Ends words told reads writes taken taken_now NoMemory = (taken_now ≡ taken) ⊎ ShowsFront words told taken taken_now
 Ends words told reads writes taken taken_now (TooLarge name) = (root : List ℕ) × AsksText words root name.now × WhereTold told name.now IsTooLarge
 
--- a library that is set to no failure gives the file that it has
-abbrev pub ReadsCalmly : List (List ℕ) → Option Shelf → ℕ → Type 0
-ReadsCalmly words told status = (root file bytes : List ℕ) → AsksText words root file → HasBytes told file bytes → status ≢ 3
+-- a file that is there is read, and no fault is counted
+abbrev pub ReadsFile : List (List ℕ) → Option Shelf → Count → ℕ → Type 0
+ReadsFile words told reads status = (root file bytes : List ℕ) → AsksText words root file → HasBytes told file bytes → (status ≢ 3) × (reads.now ≡ reads.before)

@@ -1,21 +1,25 @@
 -- What loading a file says of the bytes under its name (own).
-use Rattle.std.specs.Prelude.{◌≡◌, ℕ, ◌+◌, ◌^◌, ◌<◌, ◌≤◌, List, ◌++◌, length, take, drop, Option, Some, None, Result, Ok, Err, IfOk}
+use Rattle.std.specs.Prelude.{◌≡◌, ◌⊎◌, ℕ, ◌+◌, ◌^◌, ◌<◌, ◌≤◌, List, [], ◌++◌, length, take, drop, Option, Some, None, Result, Ok, Err, IfOk}
 use Rattle.std.specs.Global.{Vec}
 use Rattle.yd_world.specs.Shelf.{Shelf, Gives}
 use Rattle.yd_world.specs.declared.fault.Failed.{Failed}
 use Rattle.yd_app.specs.declared.fault.LoadFault.{LoadFault}
 use Rattle.yd_app.specs.declared.fault.LoadFault.TheVariants.{NoMemory, ReadFault, TooLarge}
 
--- Ok has the bytes under the name, which are at most 2^26; TooLarge comes where they are more, and
--- has read one more than that
+-- nothing was read, or of the name's bytes at most one more than a file may have
+abbrev pub ReadsWithin : Shelf → Shelf → List ℕ → Type 0
+ReadsWithin old new name = (new ≡ old) ⊎ ((read : List ℕ) × (length read ≤ 2 ^ 26 + 1) × (old.bytes_under name ≡ Some (read ++ new.unread)))
+
+-- Ok has the bytes under the name, all of them, which are at most 2^26; TooLarge comes where they
+-- are more, and no call reads past the first byte that is too many
 abbrev pub Loads : Option Shelf → Option Shelf → List ℕ → Result (Vec ℕ) LoadFault → Type 0
 Loads None new name result = Unit {0}
 Loads (Some old) None name result = ⊥
-Loads (Some old) (Some new) name (Ok bytes) = (old.bytes_under name ≡ Some bytes.items) × (length bytes.items ≤ 2 ^ 26)
+Loads (Some old) (Some new) name (Ok bytes) = (old.bytes_under name ≡ Some bytes.items) × (length bytes.items ≤ 2 ^ 26) × (new.unread ≡ [])
 Loads (Some old) (Some new) name (Err TooLarge) =
     (bytes : List ℕ) × (old.bytes_under name ≡ Some bytes) × (2 ^ 26 < length bytes) × (new.unread ≡ drop (2 ^ 26 + 1) bytes)
-Loads (Some old) (Some new) name (Err NoMemory) = Unit {0}
-Loads (Some old) (Some new) name (Err ReadFault) = Unit {0}
+Loads (Some old) (Some new) name (Err NoMemory) = ReadsWithin old new name
+Loads (Some old) (Some new) name (Err ReadFault) = ReadsWithin old new name
 
 -- the files are as they were
 abbrev pub KeepsFiles : Option Shelf → Option Shelf → Type 0

@@ -44,9 +44,20 @@ pub record Comes (words : List (List ℕ)) (told : Option Shelf) (status : ℕ) 
   pub too_large : (root file bytes : List ℕ) → AsksText words root file → HasBytes told file bytes → IsTooLarge bytes → IsOneOf status (3 ∷ 5 ∷ 7 ∷ [])
   pub missing : (root file : List ℕ) → AsksText words root file → LacksName told file → IsOneOf status (3 ∷ 5 ∷ [])
 
--- with nothing that fails, an accepted file is shown, or memory is wanted
-abbrev pub Completes : List (List ℕ) → Option Shelf → ℕ → Type 0
-Completes words told status = (root file bytes : List ℕ) (update : OneText) → AsksText words root file → HasBytes told file bytes → IsAccepted bytes update → IsOneOf status (0 ∷ 5 ∷ [])
+-- a file that is there is shown, refused or too large, as its bytes say, or memory is wanted
+pub record Follows (words : List (List ℕ)) (told : Option Shelf) (status : ℕ) : Type 0 where
+  pub accepted : (root file bytes : List ℕ) (update : OneText) → AsksText words root file → HasBytes told file bytes → IsAccepted bytes update → IsOneOf status (0 ∷ 5 ∷ [])
+  pub refused : (root file bytes : List ℕ) → AsksText words root file → HasBytes told file bytes → IsRefused bytes → IsOneOf status (1 ∷ 5 ∷ [])
+  pub too_large : (root file bytes : List ℕ) → AsksText words root file → HasBytes told file bytes → IsTooLarge bytes → IsOneOf status (5 ∷ 7 ∷ [])
+
+-- no count of faults rises where the file is there
+abbrev pub CountsNothing : List (List ℕ) → Option Shelf → Count → Count → Type 0
+CountsNothing words told reads writes = (root file bytes : List ℕ) → AsksText words root file → HasBytes told file bytes → (reads.now ≡ reads.before) × (writes.now ≡ writes.before)
+
+-- the run is complete where nothing is set to fail, and then counts no fault; and it is complete where no count rose
+pub record Completes (ReadsCalmly WritesCalmly : Type 0) (words : List (List ℕ)) (told : Option Shelf) (reads writes : Count) (status : ℕ) : Type 0 where
+  pub calm : ReadsCalmly → WritesCalmly → Follows words told status × CountsNothing words told reads writes
+  pub counted : ¬ (RoseIn reads) → ¬ (RoseIn writes) → Follows words told status
 
 -- all that the update shows under the root was written, and a line feed, whoever made it and however its bytes spell it
 abbrev pub Shows : List (List ℕ) → Option Shelf → Option (List ℕ) → Option (List ℕ) → Type 0

@@ -1,5 +1,8 @@
 -- What writing leaves on a sink that tells (own).
-use Rattle.std.specs.Prelude.{◌≡◌, ℕ, List, ◌++◌, take, Option, Some, None}
+use Rattle.std.specs.Prelude.{◌≡◌, ℕ, List, ◌++◌, take, Option, Some, None, Result, Ok, Err}
+use Rattle.yd_world.specs.Faults.{Rose}
+use Rattle.yd_world.specs.declared.fault.Outage.{Outage}
+use Rattle.yd_world.specs.declared.fault.Outage.TheVariants.{NoMemory, Failed}
 
 -- all of the bytes were taken
 abbrev pub TakesAll : Option (List ℕ) → Option (List ℕ) → List ℕ → Type 0
@@ -12,3 +15,9 @@ abbrev pub TakesFront : Option (List ℕ) → Option (List ℕ) → List ℕ →
 TakesFront None new bytes = Unit {0}
 TakesFront (Some old) None bytes = ⊥
 TakesFront (Some old) (Some new) bytes = (count : ℕ) × (new ≡ old ++ take count bytes)
+
+-- the count of faults rose where writing failed, and else it is as it was
+abbrev pub CountsFault : {X : Type 0} → ℕ → ℕ → Result X Outage → Type 0
+CountsFault before now (Ok x) = now ≡ before
+CountsFault before now (Err NoMemory) = now ≡ before
+CountsFault before now (Err Failed) = Rose before now

@@ -3,7 +3,7 @@
 ghost use Rattle.std.specs.Prelude.{◌≡◌, ◌≢◌, ◌≤◌, ◌⊎◌, ◌++◌, Err, IsOk, OnOk, IsErrOf};
 ghost use Rattle.yd_world.specs.Faults.{Rose};
 ghost use Rattle.yd_app.specs.Ending.{status_of, line_of};
-ghost use Rattle.yd_app.specs.Writing.{TakesAll, TakesFront};
+ghost use Rattle.yd_app.specs.Writing.{TakesAll, TakesFront, CountsFault};
 
 use crate::writing::write_out;
 use yd_world::{Outage, Sink};
@@ -91,10 +91,8 @@ pub fn write_line<S: Sink>(
         (before.now ++ middle.now ++ after.now)) }
     ensures front { TakesFront (S.bytes_taken sink.old) (S.bytes_taken sink.new)
         (before.now ++ middle.now ++ after.now) }
-    ensures counts { S.faults sink.old ≤ S.faults sink.new }
-    ensures failed { IsErrOf result Outage.Failed → Rose (S.faults sink.old) (S.faults sink.new) }
-    ensures calm { S.is_calm sink.old → S.is_calm sink.new × (result ≢ Err Outage.Failed)
-        × (S.faults sink.new ≡ S.faults sink.old) }
+    ensures cause { CountsFault (S.faults sink.old) (S.faults sink.new) result }
+    ensures calm { S.is_calm sink.old → S.is_calm sink.new × (result ≢ Err Outage.Failed) }
 {
     write_out(sink, before.as_bytes())?;
     write_out(sink, middle.as_bytes())?;

@@ -5,7 +5,7 @@ ghost use Rattle.std.specs.Prelude.{◌≡◌, [], Some};
 ghost use Rattle.yd_world.specs.MemoryLibrary.{shelf_of};
 ghost use Rattle.yd_world.specs.MemorySink.{IsCalm};
 ghost use Rattle.yd_app.specs.Law.{StandForOne};
-ghost use Rattle.yd_app.specs.Run.{Completes, Shows};
+ghost use Rattle.yd_app.specs.Run.{Follows, Shows};
 
 use crate::program::run;
 use crate::word::Word;
@@ -28,7 +28,7 @@ pub fn run_in_memory(
     board: &mut ScriptBoard,
 ) -> u8
     ensures completes { library.old.plan.failures ≡ [] → IsCalm out.old
-        → Completes words.now (Some (shelf_of library.old)) result }
+        → Follows words.now (Some (shelf_of library.old)) result }
     ensures converges { result ≡ 0 → Shows words.now (Some (shelf_of library.old))
         (Some out.old.bytes) (Some out.new.bytes) }
 {

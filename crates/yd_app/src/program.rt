@@ -1,12 +1,11 @@
 //! The program over the traits of the outside.
 
-ghost use Rattle.std.specs.Prelude.{◌≡◌, ◌≢◌, ◌∷◌, [], Err, OnOk, IsErrOf};
-ghost use Rattle.yd_world.specs.Faults.{Rose};
-ghost use Rattle.yd_app.specs.Ending.{status_of, Ends, ReadsCalmly};
+ghost use Rattle.std.specs.Prelude.{◌≡◌, ◌≢◌, ◌∷◌, [], Err, OnOk};
+ghost use Rattle.yd_app.specs.Ending.{status_of, Ends, ReadsFile};
 ghost use Rattle.yd_app.specs.Run.{IsOneOf, count_of, HasReason, Comes, Completes, Shows, CutsOff, TellsErr};
 ghost use Rattle.yd_app.specs.Seen.{seen};
 ghost use Rattle.yd_app.specs.Verdict.{output_of};
-ghost use Rattle.yd_app.specs.Writing.{TakesAll, TakesFront};
+ghost use Rattle.yd_app.specs.Writing.{TakesAll, TakesFront, CountsFault};
 
 use crate::ending::{Ending, report, write_line};
 use crate::fault::LoadFault;
@@ -32,8 +31,10 @@ pub fn run<L: Library, S: Sink, B: Switchboard>(
         (count_of (L.faults library.old) (L.faults library.new))
         (count_of (S.faults out.old) (S.faults out.new)) result }
     ensures comes { Comes words.now (L.told library.old) result }
-    ensures completes { L.is_calm library.old → S.is_calm out.old
-        → Completes words.now (L.told library.old) result }
+    ensures completes { Completes (L.is_calm library.old) (S.is_calm out.old)
+        words.now (L.told library.old)
+        (count_of (L.faults library.old) (L.faults library.new))
+        (count_of (S.faults out.old) (S.faults out.new)) result }
 
     // What is shown is what the update alone defines.
     ensures converges { result ≡ 0 → Shows words.now (L.told library.old)
@@ -66,9 +67,10 @@ fn answer<'a, L: Library, S: Sink>(
         (count_of (S.faults out.old) (S.faults out.new))
         (S.bytes_taken out.old) (S.bytes_taken out.new) result }
     ensures untouched { IsOneOf (status_of result) (1 ∷ 2 ∷ 3 ∷ 7 ∷ []) → out.new ≡ out.old }
-    ensures reads { L.is_calm library.old
-        → ReadsCalmly words.now (L.told library.old) (status_of result) }
+    ensures reads { L.is_calm library.old → ReadsFile words.now (L.told library.old)
+        (count_of (L.faults library.old) (L.faults library.new)) (status_of result) }
     ensures writes { S.is_calm out.old → status_of result ≢ 4 }
+    ensures written { status_of result ≢ 4 → S.faults out.new ≡ S.faults out.old }
 {
     let Some(request) = request_of(words) else {
         return Ending::Usage;
@@ -95,7 +97,7 @@ fn show<S: Sink>(update: StringUpdate<'_>, root: &str, out: &mut S) -> Result<()
         (output_of root.now (seen update.entry))) }
     ensures front { TakesFront (S.bytes_taken out.old) (S.bytes_taken out.new)
         (output_of root.now (seen update.entry)) }
-    ensures failed { IsErrOf result Outage.Failed → Rose (S.faults out.old) (S.faults out.new) }
+    ensures cause { CountsFault (S.faults out.old) (S.faults out.new) result }
     ensures calm { S.is_calm out.old → result ≢ Err Outage.Failed }
 {
     let text = if update.root == root {

@@ -1,8 +1,7 @@
 //! Writing whole lists of bytes, piece by piece.
 
 ghost use Rattle.std.specs.Prelude.{◌≡◌, ◌≢◌, ◌≤◌, Err, OnOk, IsErrOf};
-ghost use Rattle.yd_world.specs.Faults.{Rose};
-ghost use Rattle.yd_app.specs.Writing.{TakesAll, TakesFront};
+ghost use Rattle.yd_app.specs.Writing.{TakesAll, TakesFront, CountsFault};
 
 use yd_world::{Outage, Sink};
 
@@ -11,10 +10,8 @@ pub fn write_out<S: Sink>(out: &mut S, bytes: &[u8]) -> Result<(), Outage>
     ensures whole { OnOk result
         (TakesAll (S.bytes_taken out.old) (S.bytes_taken out.new) bytes.now) }
     ensures front { TakesFront (S.bytes_taken out.old) (S.bytes_taken out.new) bytes.now }
-    ensures counts { S.faults out.old ≤ S.faults out.new }
-    ensures failed { IsErrOf result Outage.Failed → Rose (S.faults out.old) (S.faults out.new) }
-    ensures calm { S.is_calm out.old → S.is_calm out.new × (result ≢ Err Outage.Failed)
-        × (S.faults out.new ≡ S.faults out.old) }
+    ensures cause { CountsFault (S.faults out.old) (S.faults out.new) result }
+    ensures calm { S.is_calm out.old → S.is_calm out.new × (result ≢ Err Outage.Failed) }
 {
     let mut rest = bytes;
     while !rest.is_empty() {

@@ -1,8 +1,9 @@
-//! Calls of `yd_app`, but for `run`.
+//! Calls of `yd_app`; what `run` writes has tests of its own.
 
 use std::test::Fail;
+use yd_app::law::run_in_memory;
 use yd_app::{LoadFault, Word, read_all, write_out};
-use yd_world::{MemoryLibrary, MemorySink};
+use yd_world::{MemoryLibrary, MemorySink, ScriptBoard};
 
 #[test]
 fn a_word_keeps_its_text(rt: HostRuntime) -> Result<(), Fail> {
@@ -23,6 +24,41 @@ fn a_file_is_read_whole(rt: HostRuntime) -> Result<(), Fail> {
     assert_eq!(rt; read.as_slice(), bytes.as_slice());
     let missing = read_all(rt.alloc(), &mut library, "G");
     assert!(rt; matches!(missing, Err(LoadFault::ReadFault)));
+    Ok(())
+}
+
+#[test]
+fn a_file_is_asked_for_in_pieces_that_double(rt: HostRuntime) -> Result<(), Fail> {
+    // It is begun, read four times for 16, 16, 32 and 36 thousand bytes, and once for the end.
+    let bytes = vec![in rt.alloc(); 0; 100_000]?;
+    let mut library = MemoryLibrary::new(rt.alloc());
+    library.add("F", &bytes)?;
+    library.fail_at(6)?;
+    assert_eq!(rt; read_all(rt.alloc(), &mut library, "F")?.len(), 100_000);
+    Ok(())
+}
+
+#[test]
+fn a_run_in_memory_shows_its_file(rt: HostRuntime) -> Result<(), Fail> {
+    let mut library = MemoryLibrary::new(rt.alloc());
+    library.add("F", &[1, 1, 1, 0, 4, 1, 1, 116, 3, 97, 98, 99, 0])?;
+    let mut out = MemorySink::new(rt.alloc());
+    let mut err = MemorySink::new(rt.alloc());
+    let mut board = ScriptBoard::new(rt.alloc());
+    let mut words = Vec::new(rt.alloc());
+    for word in ["show", "--text", "t", "v1:F"] {
+        words.push(Word::copy_of(rt.alloc(), word)?)?;
+    }
+    let status = run_in_memory(
+        rt.alloc(),
+        words.as_slice(),
+        &mut library,
+        &mut out,
+        &mut err,
+        &mut board,
+    );
+    assert_eq!(rt; status, 0);
+    assert_eq!(rt; out.as_slice(), b"abc\n".as_slice());
     Ok(())
 }
 

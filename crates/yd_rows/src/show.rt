@@ -10,6 +10,9 @@ const ABC: [u8; 13] = [1, 1, 1, 0, 4, 1, 1, 116, 3, 97, 98, 99, 0];
 /// The same update with its first number and the client's number padded.
 const PADDED_ABC: [u8; 15] = [0x81, 0, 1, 0x81, 0, 0, 4, 1, 1, 116, 3, 97, 98, 99, 0];
 
+/// "abc" in the root whose name is empty.
+const NAMELESS_ABC: [u8; 12] = [1, 1, 1, 0, 4, 1, 0, 3, 97, 98, 99, 0];
+
 const SHOW: [&str; 4] = ["show", "--text", "t", "v1:F"];
 
 const REFUSED: (u8, &str, &str) = (1, "", "refused v1:F Unbuilt 0\n");
@@ -27,7 +30,9 @@ fn a_root_is_shown_and_another_is_empty(rt: HostRuntime) -> Result<(), Fail> {
         stage.expect(&rt, &["show", "--text", root, "v1:F"], (0, text, ""))?;
     }
     let mut stage = Stage::with_file(rt.alloc(), &PADDED_ABC)?;
-    stage.expect(&rt, &SHOW, (0, "abc\n", ""))
+    stage.expect(&rt, &SHOW, (0, "abc\n", ""))?;
+    let mut stage = Stage::with_file(rt.alloc(), &NAMELESS_ABC)?;
+    stage.expect(&rt, &["show", "--text", "", "v1:F"], (0, "abc\n", ""))
 }
 
 #[test]
@@ -94,7 +99,7 @@ fn what_fails_in_a_sink_leaves_what_it_took(rt: HostRuntime) -> Result<(), Fail>
 
 #[test]
 fn the_largest_file_is_judged_and_a_larger_one_is_not(rt: HostRuntime) -> Result<(), Fail> {
-    let bytes = vec![in rt.alloc(); 0; 67_108_865]?;
+    let bytes = vec![in rt.alloc(); 0; 67_108_866]?;
     let mut stage = Stage::with_file(rt.alloc(), &bytes)?;
     stage.expect(&rt, &SHOW, (7, "", "limit F TooLarge\n"))?;
     let (largest, _) = bytes.split_at(67_108_864);

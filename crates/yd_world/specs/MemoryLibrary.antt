@@ -29,7 +29,7 @@ bytes_at [] at = []
 bytes_at (file ∷ later) zero = file.bytes
 bytes_at (file ∷ later) (suc at) = bytes_at later at
 
--- no file has the name, or the one with this number is the last that has it
+-- nothing is under the name, or the file with this number has the bytes that are
 abbrev pub IsLast : List Stored → List ℕ → Option ℕ → Type 0
 IsLast files name None = bytes_under files name ≡ None
 IsLast files name (Some at) = (at < length files) × (bytes_under files name ≡ Some (bytes_at files at))

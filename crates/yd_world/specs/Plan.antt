@@ -41,10 +41,10 @@ FailsWhere due (Err Failed) = due ≡ true
 FailsWhere due (Err NoMemory) = Unit {0}
 
 -- the same of a call that needs no memory
-abbrev pub FailsOnlyWhere : {X : Type 0} → Bool → Result X Outage → Type 0
-FailsOnlyWhere due (Ok x) = due ≡ false
-FailsOnlyWhere due (Err Failed) = due ≡ true
-FailsOnlyWhere due (Err NoMemory) = ⊥
+abbrev pub FailsExactlyWhere : {X : Type 0} → Bool → Result X Outage → Type 0
+FailsExactlyWhere due (Ok x) = due ≡ false
+FailsExactlyWhere due (Err Failed) = due ≡ true
+FailsExactlyWhere due (Err NoMemory) = ⊥
 
 -- one call more came, with a fault more where it failed, but want of memory leaves all as it was
 abbrev pub counted_outage : {X : Type 0} → PlanState → Result X Outage → PlanState

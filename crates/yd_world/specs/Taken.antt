@@ -11,9 +11,9 @@ Takes (Some old) None piece result = ⊥
 Takes (Some old) (Some new) piece (Ok count) = new ≡ old ++ take count piece
 Takes (Some old) (Some new) piece (Err e) = new ≡ old
 
--- nothing taken of a piece that is not empty counts as a fault
+-- nothing taken of a piece that is not empty counts as a fault, and something taken counts as none
 abbrev pub CountsNone : {E : Type 0} → ℕ → ℕ → List ℕ → Result ℕ E → Type 0
-CountsNone before now piece (Ok count) = count ≡ 0 → 0 < length piece → Rose before now
+CountsNone before now piece (Ok count) = (count ≡ 0 → 0 < length piece → Rose before now) × (0 < count → now ≡ before)
 CountsNone before now piece (Err e) = Unit {0}
 
 -- it took some of a piece that is not empty, or found no memory

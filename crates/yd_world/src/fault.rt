@@ -10,7 +10,7 @@ pub struct Failed;
 #[derive(Clone, Copy, Debug, PartialEq, Eq)]
 pub struct NoMemory;
 
-/// Why bytes did not go out.
+/// Why a sink or a board did not do its work.
 #[derive(Clone, Copy, Debug, PartialEq, Eq)]
 pub enum Outage {
     /// A growth found no memory, and no count rose.

@@ -27,7 +27,7 @@ pub trait Library {
             → IsOk result × (faults self.new ≡ faults self.old) };
 
     /// Fills the front of the buffer with the next bytes, and answers how many they are: 0 into a
-    /// buffer with room is the end.
+    /// buffer with room is the end. What the buffer holds behind them, and after `Failed`, is open.
     fn read(&mut self, into: &mut [u8]) -> Result<usize, Failed>
         ensures within { IfOk result (λ count. count ≤ length into.new) }
         ensures gives { Gives (told self.old) (told self.new) into.new result }

@@ -1,7 +1,7 @@
 //! A board in memory, with its events given beforehand.
 
 ghost use Rattle.std.specs.Prelude.{◌≡◌, ◌++◌, ◌||◌, [], ◌∷◌, Some, is_err, OnOk, OnErr};
-ghost use Rattle.yd_world.specs.Plan.{FailsOnlyWhere, FailsWhere, counted, counted_send, is_due, with_failure};
+ghost use Rattle.yd_world.specs.Plan.{FailsExactlyWhere, FailsWhere, counted, counted_send, is_due, with_failure};
 ghost use Rattle.yd_world.specs.ScriptBoard.{failed_sends, is_used_up, no_script, traffic_of};
 ghost use Rattle.yd_world.specs.Traffic.{Closes, Keeps, Sends, TakesEvent};
 ghost use Rattle.yd_world.specs.declared.board.Sent.TheVariants.{Message};
@@ -84,7 +84,7 @@ impl Switchboard for ScriptBoard {
 
     fn start(&mut self, _address: &str, _way: Way) -> Result<(), Outage>
         ensures told { Keeps (Some (traffic_of self.old)) (Some (traffic_of self.new)) }
-        ensures fails { FailsOnlyWhere (is_due self.old.plan) result }
+        ensures fails { FailsExactlyWhere (is_due self.old.plan) result }
         ensures counts { self.new.plan ≡ counted self.old.plan (is_err result) }
     {
         if self.plan.is_due() {
@@ -98,7 +98,7 @@ impl Switchboard for ScriptBoard {
     fn next(&mut self) -> Result<Event, Outage>
         ensures takes { TakesEvent (Some (traffic_of self.old)) (Some (traffic_of self.new))
             result }
-        ensures fails { FailsOnlyWhere (is_due self.old.plan || is_used_up self.old.coming) result }
+        ensures fails { FailsExactlyWhere (is_due self.old.plan || is_used_up self.old.coming) result }
         ensures counts { self.new.plan ≡ counted self.old.plan (is_err result) }
     {
         if self.plan.is_due() {

@@ -1,7 +1,7 @@
-use Rattle.std.proofs.Common.{refl, ap, inl, inr, arith}
+use Rattle.std.proofs.Common.{ap, arith}
 use Rattle.yd_app.specs.Ending.{status_of}
-use Rattle.yd_app.specs.Run.{count_of, HasReason, Comes, Completes}
-use Rattle.yd_app.proofs.RunLemmas.{reported, ends_reason, reason_five, ends_comes, comes_five, completes, tells_line, tells_no_memory}
+use Rattle.yd_app.specs.Run.{count_of, HasReason, Comes, Follows}
+use Rattle.yd_app.proofs.RunLemmas.{reported, ends_reason, reason_five, ends_comes, comes_five, follows, follows_five, tells_line, tells_no_memory}
 use Rattle.yd_app.proofs.program.run.Goals as goal
 
 pub returns-clause-reason : goal.returns-clause-reason
@@ -19,12 +19,20 @@ returns-clause-comes g c =
     reported (Comes words told) c.report.result (status_of c.answer-ending.result) c.report.ensures.status (ends_comes words told _ _ _ _ c.answer-ending.result c.answer-ending.ensures.ends) (comes_five words told)
 
 pub returns-clause-completes : goal.returns-clause-completes
-returns-clause-completes g c = λ calm_library calm_out.
+returns-clause-completes g c =
     let words = c.args.words.now in
     let told = g.L.Library.told c.args.library.now in
     let due = status_of c.answer-ending.result in
-    let comes = ends_comes words told _ _ _ _ c.answer-ending.result c.answer-ending.ensures.ends in
-    reported (Completes words told) c.report.result due c.report.ensures.status (completes words told due comes (c.answer-ending.ensures.reads calm_library) (c.answer-ending.ensures.writes calm_out)) (λ root file bytes update asks has accepted. inr (inl refl))
+    let answer = c.answer-ending.ensures in
+    let comes = ends_comes words told _ _ _ _ c.answer-ending.result answer.ends in
+    let reason = ends_reason words told (count_of (g.L.Library.faults c.args.library.now) (g.L.Library.faults c.answer-ending.new.library)) (count_of (g.S.Sink.faults c.args.out.now) (g.S.Sink.faults c.answer-ending.new.out)) _ _ c.answer-ending.result answer.ends in
+    record {
+      calm = λ calm_library calm_out. (
+        reported (Follows words told) c.report.result due c.report.ensures.status (follows words told due comes (λ root file bytes asks has. (answer.reads calm_library root file bytes asks has).0) (answer.writes calm_out)) (follows_five words told),
+        λ root file bytes asks has. ((answer.reads calm_library root file bytes asks has).1, answer.written (answer.writes calm_out)),
+      );
+      counted = λ read written. reported (Follows words told) c.report.result due c.report.ensures.status (follows words told due comes (λ root file bytes asks has e. read (reason.read_fault e)) (λ e. written (reason.write_fault e))) (follows_five words told);
+    }
 
 pub returns-clause-err : goal.returns-clause-err
 returns-clause-err g c =

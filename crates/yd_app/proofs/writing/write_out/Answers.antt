@@ -21,8 +21,8 @@ loop-rest-preserved g c =
       front = s.front ++ take count c.loop-rest.rest.now;
       parts = rw c.split_at.ensures.back (parts_more c.args.bytes.now s.front c.loop-rest.rest.now count s.parts);
       takes = more_after_ok _ _ _ s.front c.loop-rest.rest.now count s.takes c.in_ok-count.ensures.takes;
-      counts = omega (arith, s.counts, c.in_ok-count.ensures.cause);
-      calm = λ calm. let before = s.calm calm in let after = c.in_ok-count.ensures.calm before.0 in (after.0, after.2 ∙ before.1);
+      no_fault = c.in_ok-count.ensures.none.1 (omega arith) ∙ s.no_fault;
+      calm = λ calm. (c.in_ok-count.ensures.calm (s.calm calm)).0;
     }
 
 pub returns-clause-front : goal.returns-clause-front

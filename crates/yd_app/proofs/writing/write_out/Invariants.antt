@@ -1,4 +1,4 @@
-use Rattle.std.proofs.Common.{◌≡◌, ◌≤◌, ℕ, List, ◌++◌, Option, length}
+use Rattle.std.proofs.Common.{◌≡◌, ℕ, List, ◌++◌, Option, length}
 use Rattle.yd_app.specs.Writing.{TakesAll}
 use Rattle.yd_app.proofs.writing.write_out.Given as goal
 
@@ -7,8 +7,8 @@ pub record SoFar (taken taken_now : Option (List ℕ)) (faults faults_now : ℕ)
   pub front : List ℕ
   pub parts : bytes ≡ front ++ rest
   pub takes : TakesAll taken taken_now front
-  pub counts : faults ≤ faults_now
-  pub calm : Calm → CalmNow × (faults_now ≡ faults)
+  pub no_fault : faults_now ≡ faults
+  pub calm : Calm → CalmNow
 
 abbrev pub invariant-loop-rest : goal.invariant-loop-rest
 invariant-loop-rest g l = SoFar (g.S.Sink.bytes_taken l.fn.out) (g.S.Sink.bytes_taken l.out) (g.S.Sink.faults l.fn.out) (g.S.Sink.faults l.out) (g.S.Sink.is_calm l.fn.out) (g.S.Sink.is_calm l.out) l.bytes l.rest

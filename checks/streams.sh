@@ -1,0 +1,23 @@
+#!/usr/bin/env bash
+# What no contract sees: which of the system's streams a line goes to, and words that are not UTF-8.
+set -u
+cd "$(dirname "$0")/../crates/ydoc" || exit 1
+work=$(mktemp -d) && trap 'rm -rf "$work"' EXIT
+failed=0
+
+# expect STATUS LINE WORD..: the program's status, nothing on its output, and the line on its errors
+expect() {
+  local status=$1 line=$2
+  shift 2
+  rt try -- "$@" >"$work/out" 2>"$work/err"
+  local got=$?
+  if [ "$got" -ne "$status" ] || [ -s "$work/out" ] || ! grep -qxF "$line" "$work/err"; then
+    echo "checks/streams.sh: $*: status $got, want $status and the line: $line"
+    failed=1
+  fi
+}
+
+expect 3 'read fault no-such-file' show --text t v1:no-such-file
+expect 2 'usage: ydoc show|merge|cut|vector|convert|edit|serve|sync|check|generate' show --text t $'v1:\xff'
+[ "$failed" -eq 0 ] && echo 'checks/streams.sh: ok'
+exit "$failed"
