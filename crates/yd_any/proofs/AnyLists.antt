@@ -1,0 +1,24 @@
+-- Any-values in a row.
+use Rattle.std.proofs.Common.{◌≡◌, ℕ, ◌+◌, ◌<◌, List, [], ◌∷◌, ◌++◌, map, sym, ap, ◌∙◌, length, drop, get_or}
+use Rattle.std.proofs.lemmas.List.{drop_more}
+use Rattle.yd_any.specs.Tree.{AnyTree, tree, field, trees_of, fields_of, with_last, with_last_field}
+use Rattle.yd_any.specs.AnyView.{any_tree, items_trees, entries_fields}
+use Rattle.yd_any.specs.declared.any_value.Any.{Any}
+use Rattle.yd_any.proofs.TreeLemmas.{trees_of-last, fields_of-last, map-last}
+
+-- a key with its value's tree
+abbrev pub entry_tree : List ℕ × Any → List ℕ × AnyTree
+entry_tree e = (e.0, any_tree e.1)
+
+pub items_trees_last : (vs : List Any) (v : Any) → items_trees (vs ++ v ∷ []) ≡ with_last (items_trees vs) (any_tree v)
+items_trees_last vs v = ap trees_of (map-last any_tree vs v) ∙ trees_of-last (map any_tree vs) (any_tree v)
+
+pub entries_fields_last : (es : List (List ℕ × Any)) (e : List ℕ × Any) → entries_fields (es ++ e ∷ []) ≡ with_last_field (entries_fields es) e.0 (any_tree e.1)
+entries_fields_last es e = ap fields_of (map-last entry_tree es e) ∙ fields_of-last (map entry_tree es) (entry_tree e)
+
+-- the first of what is left, and the rest
+pub items_step : (items : List Any) (i : ℕ) (x : Any) → i < length items → x ≡ get_or items i x → items_trees (drop i items) ≡ tree (any_tree x) (items_trees (drop (i + 1) items))
+items_step items i x lt here = ap items_trees (drop_more items i x lt) ∙ ap (λ (y : Any). tree (any_tree y) (items_trees (drop (i + 1) items))) (sym here)
+
+pub entries_step : (es : List (List ℕ × Any)) (i : ℕ) (x : List ℕ × Any) → i < length es → x ≡ get_or es i x → entries_fields (drop i es) ≡ field x.0 (any_tree x.1) (entries_fields (drop (i + 1) es))
+entries_step es i x lt here = ap entries_fields (drop_more es i x lt) ∙ ap (λ (y : List ℕ × Any). field y.0 (any_tree y.1) (entries_fields (drop (i + 1) es))) (sym here)

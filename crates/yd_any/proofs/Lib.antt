@@ -1,0 +1,3 @@
+pub mod AnyLists
+pub mod JsonLists
+pub mod TreeLemmas

@@ -1,0 +1,4 @@
+pub mod Tree
+pub mod AnyView
+pub mod JsonView
+pub mod Valid

@@ -1,0 +1,14 @@
+//! Any-values and JSON values: what they are, their texts, and the ways from one to the other.
+#![tactic(auto)]
+
+mod any_value;
+mod blob;
+mod fault;
+mod json_value;
+mod text;
+
+pub use any_value::{Any, AnyList, AnyPairs};
+pub use blob::Blob;
+pub use fault::{JsonFault, NoMemory};
+pub use json_value::{Json, JsonFields, JsonList};
+pub use text::Text;
