@@ -1,9 +1,10 @@
 -- Any-values in a row.
-use Rattle.std.proofs.Common.{◌≡◌, ℕ, ◌+◌, ◌<◌, List, [], ◌∷◌, ◌++◌, map, sym, ap, ◌∙◌, length, drop, get_or}
+use Rattle.std.proofs.Common.{◌≡◌, ℕ, ◌+◌, ◌<◌, List, [], ◌∷◌, ◌++◌, map, sym, ap, ◌∙◌, length, drop, get_or, rules}
 use Rattle.std.proofs.lemmas.List.{drop_more}
 use Rattle.yd_any.specs.Tree.{AnyTree, tree, field, trees_of, fields_of, with_last, with_last_field}
-use Rattle.yd_any.specs.AnyView.{any_tree, items_trees, entries_fields}
-use Rattle.yd_any.specs.declared.any_value.Any.{Any}
+use Rattle.yd_any.specs.AnyView.{any_tree, any_fields, items_trees, entries_fields}
+use Rattle.yd_any.specs.declared.any_value.Any.{Any, the_lemmas}
+use Rattle.yd_any.specs.declared.any_value.AnyPairs.{AnyPairs}
 use Rattle.yd_any.proofs.TreeLemmas.{trees_of-last, fields_of-last, map-last}
 
 -- a key with its value's tree
@@ -22,3 +23,7 @@ items_step items i x lt here = ap items_trees (drop_more items i x lt) ∙ ap (�
 
 pub entries_step : (es : List (List ℕ × Any)) (i : ℕ) (x : List ℕ × Any) → i < length es → x ≡ get_or es i x → entries_fields (drop i es) ≡ field x.0 (any_tree x.1) (entries_fields (drop (i + 1) es))
 entries_step es i x lt here = ap entries_fields (drop_more es i x lt) ∙ ap (λ (y : List ℕ × Any). field y.0 (any_tree y.1) (entries_fields (drop (i + 1) es))) (sym here)
+
+-- pairs have the fields of their entries
+pub any_fields-entries : (p : AnyPairs) → any_fields p ≡ entries_fields p.items.items
+any_fields-entries p = search (rules, the_lemmas)

@@ -41,14 +41,14 @@ pub enum Any {
 #[cycle(any)]
 #[derive(Drop)]
 pub struct AnyList {
-    items: Vec<Any>,
+    pub(crate) items: Vec<Any>,
 }
 
 /// Keys with any-values, in written order; a key may come again.
 #[cycle(any)]
 #[derive(Drop)]
 pub struct AnyPairs {
-    items: Vec<(Text, Any)>,
+    pub(crate) items: Vec<(Text, Any)>,
 }
 
 impl AnyList {

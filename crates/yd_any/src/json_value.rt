@@ -31,14 +31,14 @@ pub enum Json {
 #[cycle(json)]
 #[derive(Drop)]
 pub struct JsonList {
-    items: Vec<Json>,
+    pub(crate) items: Vec<Json>,
 }
 
 /// Distinct keys with JSON values, in the order of the keys' bytes.
 #[cycle(json)]
 #[derive(Drop)]
 pub struct JsonFields {
-    items: Vec<(Text, Json)>,
+    pub(crate) items: Vec<(Text, Json)>,
 }
 
 impl JsonList {

@@ -1,9 +1,11 @@
 //! Any-values and JSON values: what they are, their texts, and the ways from one to the other.
 #![tactic(auto)]
 
+mod any_validity;
 mod any_value;
 mod blob;
 mod fault;
+mod json_validity;
 mod json_value;
 mod text;
 
