@@ -1,9 +1,9 @@
 -- Any-values in a row.
 use Rattle.std.proofs.Common.{◌≡◌, ℕ, ◌+◌, ◌<◌, List, [], ◌∷◌, ◌++◌, map, sym, ap, ◌∙◌, length, drop, get_or, rules}
 use Rattle.std.proofs.lemmas.List.{drop_more}
-use Rattle.yd_any.specs.Tree.{AnyTree, tree, field, trees_of, fields_of, with_last, with_last_field}
+use Rattle.yd_any.specs.Tree.{AnyTree, raw4, raw8, tree, field, trees_of, fields_of, with_last, with_last_field}
 use Rattle.yd_any.specs.AnyView.{any_tree, any_fields, items_trees, entries_fields}
-use Rattle.yd_any.specs.declared.any_value.Any.{Any, the_lemmas}
+use Rattle.yd_any.specs.declared.any_value.Any.{Any, Raw4, Raw8, the_lemmas}
 use Rattle.yd_any.specs.declared.any_value.AnyPairs.{AnyPairs}
 use Rattle.yd_any.proofs.TreeLemmas.{trees_of-last, fields_of-last, map-last}
 
@@ -27,3 +27,9 @@ entries_step es i x lt here = ap entries_fields (drop_more es i x lt) ∙ ap (λ
 -- pairs have the fields of their entries
 pub any_fields-entries : (p : AnyPairs) → any_fields p ≡ entries_fields p.items.items
 any_fields-entries p = search (rules, the_lemmas)
+
+pub any_tree-Raw4 : (bs : List ℕ) → any_tree (Raw4 bs) ≡ raw4 bs
+any_tree-Raw4 bs = search (rules, the_lemmas)
+
+pub any_tree-Raw8 : (bs : List ℕ) → any_tree (Raw8 bs) ≡ raw8 bs
+any_tree-Raw8 bs = search (rules, the_lemmas)

@@ -1,3 +1,4 @@
 pub mod AnyLists
 pub mod JsonLists
 pub mod TreeLemmas
+pub mod WritingLemmas

@@ -2,3 +2,4 @@ pub mod Tree
 pub mod AnyView
 pub mod JsonView
 pub mod Valid
+pub mod Printed

@@ -7,10 +7,13 @@ mod blob;
 mod fault;
 mod json_validity;
 mod json_value;
+mod printing;
 mod text;
+mod writing;
 
 pub use any_value::{Any, AnyList, AnyPairs};
 pub use blob::Blob;
 pub use fault::{JsonFault, NoMemory};
 pub use json_value::{Json, JsonFields, JsonList};
+pub use printing::{print_any, text_of_json};
 pub use text::Text;

@@ -1,6 +1,7 @@
 //! Texts, each seen as the list of its bytes.
 
 ghost use Rattle.std.specs.Prelude.{◌≡◌, IfOk};
+ghost use Rattle.std.specs.Str.{IsUtf8};
 
 use crate::fault::NoMemory;
 use std::alloc::Global;
@@ -28,6 +29,16 @@ impl Text {
         Ok(Text {
             text: String::from_str(alloc, text)?,
         })
+    }
+
+    /// The text that these bytes are.
+    pub(crate) fn of_bytes(bytes: Vec<u8>) -> Text
+        requires { IsUtf8 bytes.items }
+        ensures { result ≡ bytes.items }
+    {
+        Text {
+            text: String::from_utf8(bytes).unwrap(),
+        }
     }
 
     /// The text as it is lent.
