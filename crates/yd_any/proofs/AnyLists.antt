@@ -2,8 +2,9 @@
 use Rattle.std.proofs.Common.{◌≡◌, ℕ, ◌+◌, ◌<◌, List, [], ◌∷◌, ◌++◌, map, sym, ap, ◌∙◌, length, drop, get_or, rules}
 use Rattle.std.proofs.lemmas.List.{drop_more}
 use Rattle.yd_any.specs.Tree.{AnyTree, raw4, raw8, tree, field, trees_of, fields_of, with_last, with_last_field}
-use Rattle.yd_any.specs.AnyView.{any_tree, any_fields, items_trees, entries_fields}
+use Rattle.yd_any.specs.AnyView.{any_tree, any_trees, any_fields, items_trees, entries_fields}
 use Rattle.yd_any.specs.declared.any_value.Any.{Any, Raw4, Raw8, the_lemmas}
+use Rattle.yd_any.specs.declared.any_value.AnyList.{AnyList}
 use Rattle.yd_any.specs.declared.any_value.AnyPairs.{AnyPairs}
 use Rattle.yd_any.proofs.TreeLemmas.{trees_of-last, fields_of-last, map-last}
 
@@ -23,6 +24,10 @@ items_step items i x lt here = ap items_trees (drop_more items i x lt) ∙ ap (�
 
 pub entries_step : (es : List (List ℕ × Any)) (i : ℕ) (x : List ℕ × Any) → i < length es → x ≡ get_or es i x → entries_fields (drop i es) ≡ field x.0 (any_tree x.1) (entries_fields (drop (i + 1) es))
 entries_step es i x lt here = ap entries_fields (drop_more es i x lt) ∙ ap (λ (y : List ℕ × Any). field y.0 (any_tree y.1) (entries_fields (drop (i + 1) es))) (sym here)
+
+-- a list has the trees of its items
+pub any_trees-items : (l : AnyList) → any_trees l ≡ items_trees l.items.items
+any_trees-items l = search (rules, the_lemmas)
 
 -- pairs have the fields of their entries
 pub any_fields-entries : (p : AnyPairs) → any_fields p ≡ entries_fields p.items.items

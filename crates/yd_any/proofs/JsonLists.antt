@@ -1,9 +1,10 @@
 -- JSON values in a row.
-use Rattle.std.proofs.Common.{◌≡◌, ℕ, ◌+◌, ◌<◌, List, [], ◌∷◌, ◌++◌, map, sym, ap, ◌∙◌, length, drop, get_or}
+use Rattle.std.proofs.Common.{◌≡◌, ℕ, ◌+◌, ◌<◌, List, [], ◌∷◌, ◌++◌, map, sym, ap, ◌∙◌, length, drop, get_or, rules, Vec, Global}
 use Rattle.std.proofs.lemmas.List.{drop_more}
 use Rattle.yd_any.specs.Tree.{AnyTree, tree, field, trees_of, fields_of, with_last, with_last_field}
-use Rattle.yd_any.specs.JsonView.{json_tree, items_trees, entries_fields}
-use Rattle.yd_any.specs.declared.json_value.Json.{Json}
+use Rattle.yd_any.specs.JsonView.{json_tree, json_trees, items_trees, entries_fields}
+use Rattle.yd_any.specs.declared.json_value.Json.{Json, the_lemmas}
+use Rattle.yd_any.specs.declared.json_value.Json.TheViews.{roll-JsonList}
 use Rattle.yd_any.proofs.TreeLemmas.{trees_of-last, fields_of-last, map-last}
 
 -- a key with its value's tree
@@ -22,3 +23,7 @@ items_step items i x lt here = ap items_trees (drop_more items i x lt) ∙ ap (�
 
 pub entries_step : (es : List (List ℕ × Json)) (i : ℕ) (x : List ℕ × Json) → i < length es → x ≡ get_or es i x → entries_fields (drop i es) ≡ field x.0 (json_tree x.1) (entries_fields (drop (i + 1) es))
 entries_step es i x lt here = ap entries_fields (drop_more es i x lt) ∙ ap (λ (y : List ℕ × Json). field y.0 (json_tree y.1) (entries_fields (drop (i + 1) es))) (sym here)
+
+-- a list that is made of some items has their trees
+pub json_trees-made : (items : Vec Json Global) → json_trees (roll-JsonList record { items = items }) ≡ items_trees items.items
+json_trees-made items = search (rules, the_lemmas)

@@ -3,3 +3,5 @@ pub mod AnyView
 pub mod JsonView
 pub mod Valid
 pub mod Printed
+pub mod Carried
+pub mod JsonMap

@@ -4,6 +4,8 @@
 mod any_validity;
 mod any_value;
 mod blob;
+mod carried;
+mod conversion;
 mod fault;
 mod json_validity;
 mod json_value;
@@ -13,6 +15,7 @@ mod writing;
 
 pub use any_value::{Any, AnyList, AnyPairs};
 pub use blob::Blob;
+pub use conversion::{any_of_json, json_of_any};
 pub use fault::{JsonFault, NoMemory};
 pub use json_value::{Json, JsonFields, JsonList};
 pub use printing::{print_any, text_of_json};
