@@ -2,9 +2,9 @@
 use Rattle.std.proofs.Common.{◌≡◌, ℕ, ◌+◌, ◌<◌, List, [], ◌∷◌, ◌++◌, map, sym, ap, ◌∙◌, length, drop, get_or, rules, Vec, Global}
 use Rattle.std.proofs.lemmas.List.{drop_more}
 use Rattle.yd_any.specs.Tree.{AnyTree, tree, field, trees_of, fields_of, with_last, with_last_field}
-use Rattle.yd_any.specs.JsonView.{json_tree, json_trees, items_trees, entries_fields}
+use Rattle.yd_any.specs.JsonView.{json_tree, json_trees, json_fields, items_trees, entries_fields}
 use Rattle.yd_any.specs.declared.json_value.Json.{Json, the_lemmas}
-use Rattle.yd_any.specs.declared.json_value.Json.TheViews.{roll-JsonList}
+use Rattle.yd_any.specs.declared.json_value.Json.TheViews.{roll-JsonList, roll-JsonFields}
 use Rattle.yd_any.proofs.TreeLemmas.{trees_of-last, fields_of-last, map-last}
 
 -- a key with its value's tree
@@ -27,3 +27,7 @@ entries_step es i x lt here = ap entries_fields (drop_more es i x lt) ∙ ap (λ
 -- a list that is made of some items has their trees
 pub json_trees-made : (items : Vec Json Global) → json_trees (roll-JsonList record { items = items }) ≡ items_trees items.items
 json_trees-made items = search (rules, the_lemmas)
+
+-- an object that is made of some entries has their fields
+pub json_fields-made : (items : Vec (List ℕ × Json) Global) → json_fields (roll-JsonFields record { items = items }) ≡ entries_fields items.items
+json_fields-made items = search (rules, the_lemmas)

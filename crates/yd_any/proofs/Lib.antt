@@ -1,4 +1,5 @@
 pub mod AnyLists
+pub mod DataLemmas
 pub mod JsonLists
 pub mod CarriedLemmas
 pub mod JsonMapLemmas

@@ -5,3 +5,5 @@ pub mod Valid
 pub mod Printed
 pub mod Carried
 pub mod JsonMap
+pub mod DataTree
+pub mod Outcome
