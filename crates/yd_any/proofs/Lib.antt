@@ -3,5 +3,7 @@ pub mod DataLemmas
 pub mod JsonLists
 pub mod CarriedLemmas
 pub mod JsonMapLemmas
+pub mod StayLemmas
+pub mod TextLemmas
 pub mod TreeLemmas
 pub mod WritingLemmas

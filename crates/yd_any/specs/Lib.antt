@@ -7,3 +7,4 @@ pub mod Carried
 pub mod JsonMap
 pub mod DataTree
 pub mod Outcome
+pub mod Law

@@ -1,10 +1,10 @@
--- What reading a JSON value comes to, in the order in which its faults are judged.
+-- What making a JSON value comes to, with its faults in the order in which they are judged.
 use Rattle.std.specs.Prelude.{◌≡◌, if◌then◌else◌, nat_le, Option, Some, None, Result, MatchResult}
 use Rattle.std.proofs.Common.{Ok, Err}
 use Rattle.serde_json.specs.Data.{Data}
 use Rattle.yd_any.specs.Tree.{AnyTree, depth}
 use Rattle.yd_any.specs.Valid.{most_depth}
-use Rattle.yd_any.specs.Carried.{is_carried}
+use Rattle.yd_any.specs.Carried.{is_carried, settled}
 use Rattle.yd_any.specs.DataTree.{data_tree}
 use Rattle.yd_any.specs.JsonView.{json_tree}
 use Rattle.yd_any.specs.declared.json_value.Json.{Json}
@@ -19,6 +19,10 @@ judged t = if nat_le (depth t) most_depth then (if is_carried t then Ok t else E
 abbrev pub judged_reading : Option Data → Result AnyTree JsonFault
 judged_reading None = Err BadJson
 judged_reading (Some d) = judged (data_tree d)
+
+-- the tree of the JSON value that carries an any-value, where each value inside is carried
+abbrev pub carried : AnyTree → Result AnyTree JsonFault
+carried t = if is_carried t then Ok (settled t) else Err NumberNotCarried
 
 -- a fault comes just where it has to, and a value unless a growth found no memory
 abbrev pub Gives : Result AnyTree JsonFault → Result Json JsonFault → Type 0

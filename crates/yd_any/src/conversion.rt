@@ -1,13 +1,12 @@
 //! The ways between any-values and JSON values.
 
-ghost use Rattle.std.specs.Prelude.{◌≡◌, ◌≤◌, ◌⊎◌, ◌↔◌, IsTrue, false, IfOk, IfErr, IsErrOf};
-ghost use Rattle.yd_any.specs.declared.fault.JsonFault.TheVariants.{NoMemory as NoRoom, NumberNotCarried};
-ghost use Rattle.yd_any.specs.Tree.{depth};
+ghost use Rattle.std.specs.Prelude.{◌≡◌, ◌≤◌, IsTrue, IfOk};
+ghost use Rattle.yd_any.specs.Tree.{no_fields, depth};
 ghost use Rattle.yd_any.specs.AnyView.{any_tree, any_trees, any_fields};
 ghost use Rattle.yd_any.specs.JsonView.{json_tree, json_trees, json_fields};
 ghost use Rattle.yd_any.specs.Valid.{most_depth, is_valid_any, is_valid_json};
 ghost use Rattle.yd_any.specs.Carried.{is_carried, are_carried, fields_are_carried, settled, settled_trees, settled_fields};
-ghost use Rattle.yd_any.specs.Tree.{no_fields};
+ghost use Rattle.yd_any.specs.Outcome.{carried, Gives};
 ghost use Rattle.yd_any.specs.JsonMap.{map_fields};
 
 use crate::any_value::{Any, AnyList, AnyPairs};
@@ -23,10 +22,8 @@ use std::collections::BTreeMap;
 /// under an equal key that does not stand.
 pub fn json_of_any(alloc: Global, a: &Any) -> Result<Json, JsonFault>
     requires { depth (any_tree a.now) ≤ most_depth }
-    ensures carried { IfOk result (λ j. json_tree j ≡ settled (any_tree a.now)) }
+    ensures answers { Gives (carried (any_tree a.now)) result }
     ensures valid { IfOk result (λ j. IsTrue (is_valid_json (json_tree j))) }
-    ensures not_carried { IsErrOf result NumberNotCarried ↔ (is_carried (any_tree a.now) ≡ false) }
-    ensures faults { IfErr result (λ e. (e ≡ NoRoom) ⊎ (e ≡ NumberNotCarried)) }
 {
     if !is_carried(a) {
         return Err(JsonFault::NumberNotCarried);

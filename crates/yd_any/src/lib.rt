@@ -10,6 +10,7 @@ mod data;
 mod fault;
 mod json_validity;
 mod json_value;
+pub mod law;
 mod making;
 mod printing;
 mod reading;

@@ -1,0 +1,13 @@
+//! The laws of values and their texts, each the contract of an empty function.
+
+ghost use Rattle.yd_any.specs.Law.{JsonStays, TextsAreReadBack};
+
+/// An any-value that was made of a JSON value is carried by that JSON value.
+pub fn json_stays()
+    ensures { JsonStays }
+{}
+
+/// The text of a JSON value is read as that value.
+pub fn texts_are_read_back()
+    ensures { TextsAreReadBack }
+{}
