@@ -13,6 +13,7 @@ use crate::text::Text;
 use crate::writing::{write_any, write_json};
 use json::Writer;
 use std::alloc::Global;
+use std::mem;
 
 /// The compact text of a JSON value.
 pub fn text_of_json(alloc: Global, j: &Json) -> Result<Text, NoMemory>
@@ -31,9 +32,13 @@ pub fn print_any(a: &Any, out: &mut Vec<u8>) -> Result<(), NoMemory>
     ensures unchanged { OnErr result (out.new.items ≡ out.old.items) }
 {
     let alloc = *out.allocator();
-    let mut writer = Writer::new(Vec::new(alloc));
-    write_any(alloc, a, &mut writer)?;
-    let text = writer.into_inner();
-    out.extend_from_slice(text.as_slice())?;
-    Ok(())
+    let len = out.len();
+    let mut writer = Writer::new(mem::replace(out, Vec::new(alloc)));
+    let wrote = write_any(alloc, a, &mut writer);
+    *out = writer.into_inner();
+    if wrote.is_err() {
+        // What was written of the value goes again.
+        out.truncate(len);
+    }
+    wrote
 }
