@@ -2,7 +2,8 @@
 
 ghost use Rattle.std.specs.Prelude.{◌≡◌, IfOk, OnOk, OnErr};
 ghost use Rattle.yd_any.specs.Tree.{no_trees, no_fields, with_last, with_last_field};
-ghost use Rattle.yd_any.specs.AnyView.{any_tree, any_trees, any_fields, items_trees, entries_fields};
+ghost use Rattle.yd_any.specs.AnyView.{any_tree, any_trees, any_fields};
+ghost use Rattle.yd_any.specs.AnyView.{items_trees, entries_fields};
 
 use crate::blob::Blob;
 use crate::fault::NoMemory;
@@ -63,7 +64,8 @@ impl AnyList {
 
     /// Appends a value.
     pub fn push(&mut self, item: Any) -> Result<(), NoMemory>
-        ensures appended { OnOk result (any_trees self.new ≡ with_last (any_trees self.old) (any_tree item)) }
+        ensures appended { OnOk result (any_trees self.new
+            ≡ with_last (any_trees self.old) (any_tree item)) }
         ensures unchanged { OnErr result (any_trees self.new ≡ any_trees self.old) }
     {
         push_item(&mut self.items, item)

@@ -5,7 +5,8 @@ ghost use Rattle.yd_any.specs.Tree.{no_fields, depth};
 ghost use Rattle.yd_any.specs.AnyView.{any_tree, any_trees, any_fields};
 ghost use Rattle.yd_any.specs.JsonView.{json_tree, json_trees, json_fields};
 ghost use Rattle.yd_any.specs.Valid.{most_depth, is_valid_any, is_valid_json};
-ghost use Rattle.yd_any.specs.Carried.{is_carried, are_carried, fields_are_carried, settled, settled_trees, settled_fields};
+ghost use Rattle.yd_any.specs.Carried.{is_carried, are_carried, fields_are_carried};
+ghost use Rattle.yd_any.specs.Carried.{settled, settled_trees, settled_fields};
 ghost use Rattle.yd_any.specs.Outcome.{carried, Gives};
 ghost use Rattle.yd_any.specs.JsonMap.{map_fields};
 
@@ -64,7 +65,8 @@ fn carry_list(alloc: Global, items: &AnyList) -> Result<JsonList, NoMemory>
 #[cycle(carry)]
 fn carry_pairs(alloc: Global, entries: &AnyPairs) -> Result<JsonFields, NoMemory>
     requires { IsTrue (fields_are_carried (any_fields entries.now)) }
-    ensures { IfOk result (λ j. json_fields j ≡ settled_fields no_fields (any_fields entries.now)) }
+    ensures { IfOk result (λ j. json_fields j
+        ≡ settled_fields no_fields (any_fields entries.now)) }
 {
     let mut found = BTreeMap::new(alloc);
     for entry in &entries.items {

@@ -35,7 +35,8 @@ fn are_within(items: &Vec<Value>, most: u64) -> bool
 
 #[cycle(depth)]
 fn members_are_within(members: &Map<String, Value>, most: u64) -> bool
-    ensures { result ≡ nat_le (depth_of_fields (data_fields (members_view members.now.entries))) most }
+    ensures { result
+        ≡ nat_le (depth_of_fields (data_fields (members_view members.now.entries))) most }
 {
     for (_, member) in members.iter() {
         if !is_within(member, most) {

@@ -3,7 +3,8 @@
 ghost use Rattle.std.specs.Prelude.{◌≡◌, nat_le, option_map, None};
 ghost use Rattle.yd_any.specs.Tree.{depth, depth_of_trees, depth_of_fields};
 ghost use Rattle.yd_any.specs.JsonView.{json_tree, json_trees, json_fields};
-ghost use Rattle.yd_any.specs.Valid.{is_small, is_above, is_json, are_json, fields_are_json, is_valid_json};
+ghost use Rattle.yd_any.specs.Valid.{is_small, is_above, is_valid_json};
+ghost use Rattle.yd_any.specs.Valid.{is_json, are_json, fields_are_json};
 
 use crate::any_validity::MOST_DEPTH;
 use crate::json_value::{Json, JsonFields, JsonList};

@@ -3,7 +3,8 @@
 ghost use Rattle.std.specs.Prelude.{◌≡◌, IsTrue, IfOk, OnOk, OnErr};
 ghost use Rattle.yd_any.specs.Tree.{no_trees, no_fields, with_last, with_last_field, last_key};
 ghost use Rattle.yd_any.specs.Valid.{is_above};
-ghost use Rattle.yd_any.specs.JsonView.{json_tree, json_trees, json_fields, items_trees, entries_fields};
+ghost use Rattle.yd_any.specs.JsonView.{json_tree, json_trees, json_fields};
+ghost use Rattle.yd_any.specs.JsonView.{items_trees, entries_fields};
 
 use crate::fault::NoMemory;
 use crate::text::Text;
@@ -53,7 +54,8 @@ impl JsonList {
 
     /// Appends a value.
     pub fn push(&mut self, item: Json) -> Result<(), NoMemory>
-        ensures appended { OnOk result (json_trees self.new ≡ with_last (json_trees self.old) (json_tree item)) }
+        ensures appended { OnOk result (json_trees self.new
+            ≡ with_last (json_trees self.old) (json_tree item)) }
         ensures unchanged { OnErr result (json_trees self.new ≡ json_trees self.old) }
     {
         push_item(&mut self.items, item)

@@ -1,4 +1,14 @@
 //! Any-values and JSON values: what they are, their texts, and the ways from one to the other.
+//!
+//! Each value stands for a plain tree, and every clause speaks of that tree. A call that makes a
+//! JSON value tells a fault exactly where there is one, depth before numbers, and what it answers
+//! is valid. The text of a JSON value is read as that value. A call that finds no memory leaves
+//! what it was given as it was.
+//!
+//! ```rust
+//! let value = json_of_text(alloc, "{\"b\":1,\"a\":2,\"b\":3}")?;
+//! assert_eq!(rt; text_of_json(alloc, &value)?.as_str(), "{\"a\":2,\"b\":3}");
+//! ```
 #![tactic(auto)]
 
 mod any_validity;

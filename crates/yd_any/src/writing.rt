@@ -6,7 +6,8 @@ ghost use Rattle.json.specs.Token.{begin_object, begin_array, string, boolean};
 ghost use Rattle.hex.specs.Hex.{encode_lower};
 ghost use Rattle.yd_any.specs.AnyView.{any_tree, any_trees, any_fields};
 ghost use Rattle.yd_any.specs.JsonView.{json_tree, json_trees, json_fields};
-ghost use Rattle.yd_any.specs.Printed.{marked, tokens_of, tokens_of_trees, tokens_of_fields, WritesAll};
+ghost use Rattle.yd_any.specs.Printed.{marked, WritesAll};
+ghost use Rattle.yd_any.specs.Printed.{tokens_of, tokens_of_trees, tokens_of_fields};
 
 use crate::any_value::{Any, AnyList, AnyPairs};
 use crate::fault::NoMemory;
@@ -32,7 +33,8 @@ pub fn write_json(value: &Json, out: &mut Writer) -> Result<(), NoMemory>
 
 #[cycle(write_json)]
 fn write_list(items: &JsonList, out: &mut Writer) -> Result<(), NoMemory>
-    ensures { WritesAll result out.old out.new (begin_array ∷ tokens_of_trees (json_trees items.now)) }
+    ensures { WritesAll result out.old out.new
+        (begin_array ∷ tokens_of_trees (json_trees items.now)) }
 {
     out.begin_array()?;
     for item in &items.items {
@@ -44,7 +46,8 @@ fn write_list(items: &JsonList, out: &mut Writer) -> Result<(), NoMemory>
 
 #[cycle(write_json)]
 fn write_fields(entries: &JsonFields, out: &mut Writer) -> Result<(), NoMemory>
-    ensures { WritesAll result out.old out.new (begin_object ∷ tokens_of_fields (json_fields entries.now)) }
+    ensures { WritesAll result out.old out.new
+        (begin_object ∷ tokens_of_fields (json_fields entries.now)) }
 {
     out.begin_object()?;
     for entry in &entries.items {
@@ -78,7 +81,8 @@ pub fn write_any(alloc: Global, value: &Any, out: &mut Writer) -> Result<(), NoM
 
 #[cycle(write_any)]
 fn write_any_list(alloc: Global, items: &AnyList, out: &mut Writer) -> Result<(), NoMemory>
-    ensures { WritesAll result out.old out.new (begin_array ∷ tokens_of_trees (any_trees items.now)) }
+    ensures { WritesAll result out.old out.new
+        (begin_array ∷ tokens_of_trees (any_trees items.now)) }
 {
     out.begin_array()?;
     for item in &items.items {
@@ -90,7 +94,8 @@ fn write_any_list(alloc: Global, items: &AnyList, out: &mut Writer) -> Result<()
 
 #[cycle(write_any)]
 fn write_pairs(alloc: Global, entries: &AnyPairs, out: &mut Writer) -> Result<(), NoMemory>
-    ensures { WritesAll result out.old out.new (begin_object ∷ tokens_of_fields (any_fields entries.now)) }
+    ensures { WritesAll result out.old out.new
+        (begin_object ∷ tokens_of_fields (any_fields entries.now)) }
 {
     out.begin_object()?;
     for entry in &entries.items {
