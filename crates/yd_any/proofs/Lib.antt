@@ -1,6 +1,7 @@
 pub mod AnyLists
 pub mod DataLemmas
 pub mod JsonLists
+pub mod KeyLemmas
 pub mod CarriedLemmas
 pub mod JsonMapLemmas
 pub mod StayLemmas

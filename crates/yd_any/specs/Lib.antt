@@ -7,4 +7,5 @@ pub mod Carried
 pub mod JsonMap
 pub mod DataTree
 pub mod Outcome
+pub mod Keys
 pub mod Law
