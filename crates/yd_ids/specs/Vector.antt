@@ -1,0 +1,20 @@
+-- A state vector: clients and the clocks that they have reached, in order of the clients (Yjs, state vector).
+use Rattle.std.specs.Prelude.{◌≡◌, ◌≢◌, ℕ, max, ◌<◌, List, [], ◌∷◌, if◌then◌else◌, nat_eq}
+use Rattle.yd_ids.specs.declared.id.Client.{Client}
+use Rattle.yd_ids.specs.Each.{Each}
+use Rattle.yd_ids.specs.Id.{IsClient, IsClock}
+
+-- the clock of a client, which is 0 for one that the vector does not have
+abbrev pub clock_of : List (Client × ℕ) → ℕ → ℕ
+clock_of [] client = 0
+clock_of (entry ∷ rest) client = if nat_eq entry.0.0 client then entry.1 else clock_of rest client
+
+-- clients ascend, and each has a clock above 0
+abbrev pub IsVector : List (Client × ℕ) → Type 0
+IsVector [] = Unit {0}
+IsVector (entry ∷ rest) = IsClient entry.0 × (0 < entry.1) × IsClock entry.1 × Each (λ later. entry.0.0 < later.0.0) rest × IsVector rest
+
+-- the client's clock is the greater of both, and every other client keeps its clock
+pub record RaisesOnly (old new : List (Client × ℕ)) (client clock : ℕ) : Type 0 where
+  pub this_client : clock_of new client ≡ max (clock_of old client) clock
+  pub other_clients : (other : ℕ) → other ≢ client → clock_of new other ≡ clock_of old other

@@ -1,0 +1,168 @@
+//! State vectors: the clock that each client has reached.
+
+ghost use Rattle.std.specs.Prelude.{◌≡◌, ◌≢◌, ◌<◌, ◌≤◌, ℕ, [], true, false, length, take, drop, reverse, nat_lt, IfOk, OnOk, OnErr};
+ghost use Rattle.std.specs.Bool.{OnTrue, OnFalse};
+ghost use Rattle.std.specs.List.{HoldsAt};
+ghost use Rattle.std.specs.Iterator.{YieldsFirst, item_count};
+ghost use Rattle.yd_ids.specs.declared.id.Client.{Client};
+ghost use Rattle.yd_ids.specs.Each.{Each};
+ghost use Rattle.yd_ids.specs.Id.{IsClient, IsClock};
+ghost use Rattle.yd_ids.specs.Vector.{clock_of, IsVector, RaisesOnly};
+
+use crate::fault::NoMemory;
+use crate::id::Client;
+use std::alloc::Global;
+use std::marker::Model;
+
+/// A finite map from clients to clocks, seen as the list of those that are above 0, in order of the
+/// clients. Behind it the list is kept in one piece, so that a look-up is a bisection.
+#[derive(Drop)]
+pub struct Vector {
+    entries: Vec<(Client, u64)>,
+}
+
+impl Model for Vector {
+    ghost use Rattle.std.specs.Prelude.{ℕ, List};
+    ghost use Rattle.yd_ids.specs.declared.id.Client.{Client};
+    ghost use Rattle.yd_ids.specs.Vector.{IsVector};
+
+    ghost Value = { List (Client × ℕ) };
+
+    ghost view = { λ it. it.entries.items };
+
+    ghost invariant = { λ it. IsVector it.entries.items };
+}
+
+impl Vector {
+    /// The vector in which each client is at 0.
+    pub fn new(alloc: Global) -> Vector
+        ensures { result ≡ [] }
+    {
+        Vector {
+            entries: Vec::new(alloc),
+        }
+    }
+
+    /// The clock that the client has reached, which is also the clock of its next unit. It takes time
+    /// with the logarithm of how many clients there are.
+    pub fn get(&self, client: Client) -> u64
+        requires { IsClient client }
+        ensures reached { result ≡ clock_of self.now client.0 }
+        ensures bound { IsClock result }
+    {
+        clock_in(&self.entries, client)
+    }
+
+    /// Raises the client's clock to this one, if it is lower; otherwise it takes no memory. It takes time
+    /// as `get` does, and where the client is new, also that of moving the clients behind it.
+    pub fn raise(&mut self, client: Client, clock: u64) -> Result<(), NoMemory>
+        requires is_client { IsClient client }
+        requires is_clock { IsClock clock }
+        ensures raised { OnOk result (RaisesOnly self.old self.new client.0 clock) }
+        ensures unchanged { OnErr result (self.new ≡ self.old) }
+        ensures vector { IsVector self.new }
+    {
+        raise_in(&mut self.entries, client, clock)?;
+        Ok(())
+    }
+
+    /// Each client that has a clock above 0, with that clock, clients descending. It takes no memory.
+    pub fn iter(&self) -> VectorIter<'_>
+        ensures descending { result ≡ reverse self.now }
+        ensures vector { IsVector self.now }
+    {
+        VectorIter {
+            rest: &self.entries,
+        }
+    }
+
+    /// The same vector in memory of its own.
+    pub fn copy(&self) -> Result<Vector, NoMemory>
+        ensures { IfOk result (λ copy. copy ≡ self.now) }
+    {
+        let entries = Vec::from_slice(*self.entries.allocator(), &self.entries)?;
+        Ok(Vector { entries })
+    }
+}
+
+/// Clients with their clocks, clients descending, seen as the list of those that are still to come.
+#[derive(Drop)]
+pub struct VectorIter<'a> {
+    rest: &'a [(Client, u64)],
+}
+
+impl<'a> Model for VectorIter<'a> {
+    ghost use Rattle.std.specs.Prelude.{ℕ, List, reverse};
+    ghost use Rattle.yd_ids.specs.declared.id.Client.{Client};
+
+    ghost Value = { List (Client × ℕ) };
+
+    ghost view = { λ it. reverse it.rest.now };
+}
+
+impl<'a> Iterator for VectorIter<'a> {
+    type Item = (Client, u64);
+
+    ghost next_gives = { YieldsFirst (λ s. s) };
+
+    ghost remaining = { item_count (λ s. s) };
+
+    fn next(&mut self) -> Option<(Client, u64)> {
+        let (entry, rest) = self.rest.split_last()?;
+        self.rest = rest;
+        Some(*entry)
+    }
+}
+
+/// How many entries stand before the client's place.
+fn place(entries: &[(Client, u64)], client: Client) -> usize
+    requires { IsVector entries.now }
+    ensures bound { result ≤ length entries.now }
+    ensures before { Each (λ entry. nat_lt entry.0.0 client.0 ≡ true) (take result entries.now) }
+    ensures behind { Each (λ entry. nat_lt entry.0.0 client.0 ≡ false) (drop result entries.now) }
+{
+    entries.partition_point(|entry| entry.0.0 < client.0)
+}
+
+/// The client's entry is at this place.
+fn is_at(entries: &[(Client, u64)], at: usize, client: Client) -> bool
+    ensures inside { OnTrue result (at < length entries.now) }
+    ensures found { OnTrue result (HoldsAt (λ entry. entry.0.0 ≡ client.0) entries.now at) }
+    ensures other { OnFalse result (at < length entries.now → HoldsAt (λ entry. entry.0.0 ≢ client.0) entries.now at) }
+{
+    at < entries.len() && entries[at].0.0 == client.0
+}
+
+/// The clock of the client among the entries, or 0.
+fn clock_in(entries: &[(Client, u64)], client: Client) -> u64
+    requires { IsVector entries.now }
+    ensures reached { result ≡ clock_of entries.now client.0 }
+    ensures bound { IsClock result }
+{
+    let at = place(entries, client);
+    if is_at(entries, at, client) {
+        return entries[at].1;
+    }
+    0
+}
+
+/// Raises the client's clock among the entries.
+fn raise_in(entries: &mut Vec<(Client, u64)>, client: Client, clock: u64) -> Result<(), NoMemory>
+    requires is_client { IsClient client }
+    requires is_clock { IsClock clock }
+    requires vector { IsVector entries.old.items }
+    ensures raised { OnOk result (RaisesOnly entries.old.items entries.new.items client.0 clock) }
+    ensures unchanged { OnErr result (entries.new.items ≡ entries.old.items) }
+    ensures kept { IsVector entries.new.items }
+{
+    let at = place(entries, client);
+    if is_at(entries, at, client) {
+        let reached = entries[at].1;
+        entries[at] = (client, reached.max(clock));
+        return Ok(());
+    }
+    if clock > 0 {
+        entries.insert(at, (client, clock))?;
+    }
+    Ok(())
+}
