@@ -34,3 +34,7 @@ pub each_drop : {X : Type 0} (P : X → Type 0) (xs : List X) (n : ℕ) → AllW
 each_drop P xs zero h = each_all P xs h
 each_drop P [] (suc n) h = tt
 each_drop P (x ∷ xs) (suc n) h = each_drop P xs n (λ k d low lt. h (suc k) d (omega arith) (omega arith))
+
+pub each_both : {X : Type 0} (P Q R : X → Type 0) → ((x : X) → P x → Q x → R x) → (xs : List X) → Each P xs → Each Q xs → Each R xs
+each_both P Q R f [] h k = tt
+each_both P Q R f (x ∷ xs) h k = (f x h.0 k.0, each_both P Q R f xs h.1 k.1)

@@ -1,2 +1,6 @@
 pub mod EachLemmas
+pub mod InsertingLemmas
+pub mod SetLemmas
+pub mod SpanLemmas
+pub mod UnitingLemmas
 pub mod VectorLemmas

@@ -1,3 +1,7 @@
 pub mod Each
 pub mod Id
+pub mod Inserting
+pub mod Set
+pub mod Span
+pub mod Uniting
 pub mod Vector

@@ -13,8 +13,14 @@
 
 mod fault;
 mod id;
+mod inserting;
+mod looking;
+mod set;
+mod span;
+mod uniting;
 mod vector;
 
 pub use fault::NoMemory;
 pub use id::{Client, Id, Span};
+pub use set::{IdSet, SpanIter};
 pub use vector::{Vector, VectorIter};

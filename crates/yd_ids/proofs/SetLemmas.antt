@@ -1,0 +1,129 @@
+-- Maximal spans: where an id stands among them, and what one span in place of some keeps.
+use Rattle.std.proofs.Common.{◌≡◌, ℕ, zero, suc, ◌+◌, ◌<◌, ◌≤◌, ◌⊎◌, ◌↔◌, true, false, List, [], ◌∷◌, ◌++◌, length, get_or, take, drop, inl, inr, refl, sym, subst, arith}
+use Rattle.std.specs.List.Sorted.{IsPartitionedBy}
+use Rattle.std.proofs.lemmas.Bool.{cases_lt}
+use Rattle.std.proofs.lemmas.List.{get_or_default}
+use Rattle.yd_ids.specs.declared.id.Id.{Id}
+use Rattle.yd_ids.specs.declared.id.Span.{Span}
+use Rattle.yd_ids.specs.Each.{Each}
+use Rattle.yd_ids.specs.Id.{IsSpan}
+use Rattle.yd_ids.specs.Set.{HasId, AreMaximal, AddsSpan, AddsSpans}
+use Rattle.yd_ids.specs.Span.{InSpan, EndsBelow, Reaches, ends_below, EndsBefore, BeginsBy}
+use Rattle.yd_ids.proofs.EachLemmas.{each_weaker, each_append, each_at}
+use Rattle.yd_ids.proofs.SpanLemmas.{below_true, below_is, below_through, through, by_through, by_flipped, below_none, behind_none, in_reaches}
+
+-- ---- one of them
+
+pub apart_at : (xs : List Span) (i j : ℕ) (d : Span) → AreMaximal xs → i < j → j < length xs → EndsBefore (get_or xs i d) (get_or xs j d)
+apart_at [] i j d m lt le = absurd (omega arith)
+apart_at (x ∷ xs) i zero d m lt le = absurd (omega arith)
+apart_at (x ∷ xs) zero (suc j) d m lt le = each_at (EndsBefore x) xs j d m.2 (omega arith)
+apart_at (x ∷ xs) (suc i) (suc j) d m lt le = apart_at xs i j d m.3 (omega arith) (omega arith)
+
+pub span_at : (xs : List Span) (n : ℕ) (d : Span) → AreMaximal xs → n < length xs → IsSpan (get_or xs n d) × (0 < (get_or xs n d).len)
+span_at [] n d m lt = absurd (omega arith)
+span_at (x ∷ xs) zero d m lt = (m.0, m.1)
+span_at (x ∷ xs) (suc n) d m lt = span_at xs n d m.3 (omega arith)
+
+pub spans_parted : (xs : List Span) (c k : ℕ) → AreMaximal xs → IsPartitionedBy (λ (s : Span). ends_below s c k) xs
+spans_parted xs c k m i j d le lt t = elim (cases_lt i j) [
+  | inl less ↦ below_is (get_or xs i d) c k (below_through (get_or xs i d) (get_or xs j d) c k (apart_at xs i j d m less lt) (below_true (get_or xs j d) c k t))
+  | inr ge ↦ let same : i ≡ j = omega arith in rw same t
+]
+
+-- ---- parts of them
+
+each_front : {X : Type 0} (P : X → Type 0) (xs : List X) (n : ℕ) → Each P xs → Each P (take n xs)
+each_front P xs zero h = tt
+each_front P [] (suc n) h = tt
+each_front P (x ∷ xs) (suc n) h = (h.0, each_front P xs n h.1)
+
+pub maximal_front : (xs : List Span) (n : ℕ) → AreMaximal xs → AreMaximal (take n xs)
+maximal_front xs zero m = tt
+maximal_front [] (suc n) m = tt
+maximal_front (x ∷ xs) (suc n) m = (m.0, m.1, each_front (EndsBefore x) xs n m.2, maximal_front xs n m.3)
+
+pub maximal_back : (xs : List Span) (n : ℕ) → AreMaximal xs → AreMaximal (drop n xs)
+maximal_back xs zero m = m
+maximal_back [] (suc n) m = tt
+maximal_back (x ∷ xs) (suc n) m = maximal_back xs n m.3
+
+-- those before a place end before the span there
+pub before_at : (xs : List Span) (from n : ℕ) (d : Span) → AreMaximal xs → from ≤ n → n < length xs → Each (λ u. EndsBefore u (get_or xs n d)) (take from xs)
+before_at xs zero n d m le lt = tt
+before_at [] (suc from) n d m le lt = tt
+before_at (x ∷ xs) (suc from) zero d m le lt = absurd (omega arith)
+before_at (x ∷ xs) (suc from) (suc n) d m le lt = (each_at (EndsBefore x) xs n d m.2 (omega arith), before_at xs from n d m.3 (omega arith) (omega arith))
+
+-- a span that ends before the one at a place ends before all from there on
+pub ends_from : (s : Span) (xs : List Span) (n : ℕ) (d : Span) → AreMaximal xs → n < length xs → EndsBefore s (get_or xs n d) → Each (EndsBefore s) (drop n xs)
+ends_from s [] n d m lt e = absurd (omega arith)
+ends_from s (x ∷ xs) zero d m lt e = (e, each_weaker (EndsBefore x) (EndsBefore s) (λ u f. through s x u e f) xs m.2)
+ends_from s (x ∷ xs) (suc n) d m lt e = ends_from s xs n d m.3 (omega arith) e
+
+-- a span that begins by the one at a place begins by all from there on
+pub begins_from : (s : Span) (xs : List Span) (n : ℕ) (d : Span) → AreMaximal xs → n < length xs → BeginsBy s (get_or xs n d) → Each (BeginsBy s) (drop n xs)
+begins_from s [] n d m lt e = absurd (omega arith)
+begins_from s (x ∷ xs) zero d m lt e = (e, each_weaker (EndsBefore x) (BeginsBy s) (λ u f. by_through s x u e f) xs m.2)
+begins_from s (x ∷ xs) (suc n) d m lt e = begins_from s xs n d m.3 (omega arith) e
+
+pub has_front : (xs ys : List Span) (id : Id) → HasId (xs ++ ys) id → HasId xs id ⊎ HasId ys id
+has_front [] ys id h = inr h
+has_front (x ∷ xs) ys id (inl i) = inl (inl i)
+has_front (x ∷ xs) ys id (inr h) = elim (has_front xs ys id h) [ inl a ↦ inl (inr a) | inr b ↦ inr b ]
+
+pub has_either : (xs ys : List Span) (id : Id) → HasId xs id ⊎ HasId ys id → HasId (xs ++ ys) id
+has_either [] ys id (inl h) = absurd h
+has_either [] ys id (inr h) = h
+has_either (x ∷ xs) ys id (inl (inl i)) = inl i
+has_either (x ∷ xs) ys id (inl (inr h)) = inr (has_either xs ys id (inl h))
+has_either (x ∷ xs) ys id (inr h) = inr (has_either xs ys id (inr h))
+
+-- ---- an id among them
+
+behind_has : (s : Span) (xs : List Span) (id : Id) → Reaches s id.client.0 (id.clock + 1) → Each (EndsBefore s) xs → HasId xs id → ⊥
+behind_has s [] id r h i = i
+behind_has s (x ∷ xs) id r h (inl i) = behind_none s x id r h.0 i
+behind_has s (x ∷ xs) id r h (inr i) = behind_has s xs id r h.1 i
+
+-- those behind a span that has the id do not
+pub once : (s : Span) (xs : List Span) (id : Id) → Each (EndsBefore s) xs → InSpan s id → HasId xs id → ⊥
+once s xs id h i = behind_has s xs id (in_reaches s id i) h
+
+pub has_at : (xs : List Span) (n : ℕ) (d : Span) (id : Id) → AreMaximal xs → n < length xs → Each (λ s. EndsBelow s id.client.0 (id.clock + 1)) (take n xs) → Each (λ s. Reaches s id.client.0 (id.clock + 1)) (drop n xs) →
+    HasId xs id ↔ InSpan (get_or xs n d) id
+has_at [] n d id m lt p q = absurd (omega arith)
+has_at (x ∷ xs) zero d id m lt p q = ((λ h. elim h [ inl i ↦ i | inr k ↦ absurd (behind_has x xs id q.0 m.2 k) ]), (λ i. inl i))
+has_at (x ∷ xs) (suc n) d id m lt p q =
+    let rest = has_at xs n d id m.3 (omega arith) p.1 q in
+    ((λ h. elim h [ inl i ↦ absurd (below_none x id p.0 i) | inr k ↦ rest.0 k ]), (λ i. inr (rest.1 i)))
+
+pub has_none : (xs : List Span) (n : ℕ) (id : Id) → length xs ≤ n → Each (λ s. EndsBelow s id.client.0 (id.clock + 1)) (take n xs) → HasId xs id → ⊥
+has_none [] n id le p h = h
+has_none (x ∷ xs) zero id le p h = absurd (omega arith)
+has_none (x ∷ xs) (suc n) id le p (inl i) = below_none x id p.0 i
+has_none (x ∷ xs) (suc n) id le p (inr h) = has_none xs n id (omega arith) p.1 h
+
+-- ---- one span between others
+
+pub maximal_around : (front : List Span) (w : Span) (back : List Span) → AreMaximal front → AreMaximal back → IsSpan w → 0 < w.len → Each (λ u. EndsBefore u w) front → Each (EndsBefore w) back → AreMaximal (front ++ w ∷ back)
+maximal_around [] w back m n is some p q = (is, some, q, n)
+maximal_around (x ∷ front) w back m n is some p q = (
+  m.0, m.1,
+  each_append (EndsBefore x) front (w ∷ back) m.2 (p.0, each_weaker (EndsBefore w) (EndsBefore x) (λ u e. through x w u p.0 e) back q),
+  maximal_around front w back m.3 n is some p.1 q,
+)
+
+-- an empty span adds nothing
+pub nothing_added : (xs : List Span) (s : Span) → s.len ≡ 0 → AddsSpan xs xs s
+nothing_added xs s e id = ((λ h. inl h), (λ h. elim h [ inl a ↦ a | inr i ↦ absurd (none i) ]))
+  where
+    none : InSpan s id → ⊥
+    none i = absurd (omega arith)
+
+-- a span of one list that begins by one of another begins by all from there on
+pub begins_all : (xs ys : List Span) (i j : ℕ) (d e f : Span) → AreMaximal ys → i < length xs → j < length ys → BeginsBy (get_or xs i d) (get_or ys j e) → Each (BeginsBy (get_or xs i f)) (drop j ys)
+begins_all xs ys i j d e f m lt le b = begins_from (get_or xs i f) ys j e m le (subst (λ z. BeginsBy z (get_or ys j e)) (get_or_default xs i d f lt) b)
+
+pub begins_all_else : (xs ys : List Span) (i j : ℕ) (d e f : Span) → AreMaximal xs → i < length xs → j < length ys → (BeginsBy (get_or xs i d) (get_or ys j e) → ⊥) → Each (BeginsBy (get_or ys j f)) (drop i xs)
+begins_all_else xs ys i j d e f m lt le b = begins_all ys xs j i e d f m le lt (by_flipped (get_or xs i d) (get_or ys j e) b)

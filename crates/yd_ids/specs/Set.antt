@@ -1,0 +1,25 @@
+-- Sets of ids as their maximal spans, in order (Yjs, delete set).
+use Rattle.std.specs.Prelude.{◌≡◌, ◌↔◌, ℕ, ◌<◌, ◌⊎◌, List, [], ◌∷◌}
+use Rattle.yd_ids.specs.declared.id.Id.{Id}
+use Rattle.yd_ids.specs.declared.id.Span.{Span}
+use Rattle.yd_ids.specs.Each.{Each}
+use Rattle.yd_ids.specs.Id.{IsSpan}
+use Rattle.yd_ids.specs.Span.{InSpan, EndsBefore}
+
+-- the id is in one of the spans
+abbrev pub HasId : List Span → Id → Type 0
+HasId [] id = ⊥
+HasId (span ∷ rest) id = InSpan span id ⊎ HasId rest id
+
+-- the spans are in order and none is empty, and no two of one client overlap or touch
+abbrev pub AreMaximal : List Span → Type 0
+AreMaximal [] = Unit {0}
+AreMaximal (span ∷ rest) = IsSpan span × (0 < span.len) × Each (EndsBefore span) rest × AreMaximal rest
+
+-- the new spans have the ids of the old ones and those of one span, and no others
+abbrev pub AddsSpan : List Span → List Span → Span → Type 0
+AddsSpan old new span = (id : Id) → HasId new id ↔ (HasId old id ⊎ InSpan span id)
+
+-- the new spans have the ids of the old ones and those of the others, and no more
+abbrev pub AddsSpans : List Span → List Span → List Span → Type 0
+AddsSpans old new others = (id : Id) → HasId new id ↔ (HasId old id ⊎ HasId others id)

@@ -1,0 +1,121 @@
+//! Delete sets: finite sets of ids.
+
+ghost use Rattle.std.specs.Prelude.{◌≡◌, ◌↔◌, [], IsTrue, IfOk, OnOk, OnErr};
+ghost use Rattle.std.specs.Iterator.{YieldsFirst, item_count};
+ghost use Rattle.yd_ids.specs.Id.{IsId, IsSpan};
+ghost use Rattle.yd_ids.specs.Set.{HasId, AreMaximal, AddsSpan, AddsSpans};
+
+use crate::fault::NoMemory;
+use crate::id::{Id, Span};
+use crate::inserting::insert_in;
+use crate::looking::has_in;
+use crate::uniting::united;
+use std::alloc::Global;
+use std::marker::Model;
+
+/// A finite set of ids, seen as the list of its maximal spans, in order of the clients, then of the
+/// clocks. Behind it the list is kept in one piece, so that a look-up is a bisection.
+#[derive(Drop)]
+pub struct IdSet {
+    spans: Vec<Span>,
+}
+
+impl Model for IdSet {
+    ghost use Rattle.std.specs.Prelude.{List};
+    ghost use Rattle.yd_ids.specs.declared.id.Span.{Span};
+    ghost use Rattle.yd_ids.specs.Set.{AreMaximal};
+
+    ghost Value = { List Span };
+
+    ghost view = { λ it. it.spans.items };
+
+    ghost invariant = { λ it. AreMaximal it.spans.items };
+}
+
+impl IdSet {
+    /// The set without ids.
+    pub fn new(alloc: Global) -> IdSet
+        ensures { result ≡ [] }
+    {
+        IdSet {
+            spans: Vec::new(alloc),
+        }
+    }
+
+    /// Adds the span's ids; a span of length 0 has none. It takes time with the logarithm of how many
+    /// spans there are, and that of moving the spans behind.
+    pub fn insert(&mut self, span: Span) -> Result<(), NoMemory>
+        requires { IsSpan span }
+        ensures added { OnOk result (AddsSpan self.old self.new span) }
+        ensures unchanged { OnErr result (self.new ≡ self.old) }
+        ensures maximal { AreMaximal self.new }
+    {
+        insert_in(&mut self.spans, span)?;
+        Ok(())
+    }
+
+    /// Adds the other's ids, in one pass over both lists and in memory of their lengths.
+    pub fn union(&mut self, other: &IdSet) -> Result<(), NoMemory>
+        ensures added { OnOk result (AddsSpans self.old self.new other.now) }
+        ensures unchanged { OnErr result (self.new ≡ self.old) }
+        ensures maximal { AreMaximal self.new }
+    {
+        let spans = united(*self.spans.allocator(), &self.spans, &other.spans)?;
+        self.spans = spans;
+        Ok(())
+    }
+
+    /// The id is in the set. It takes time with the logarithm of how many spans there are.
+    pub fn has(&self, id: Id) -> bool
+        requires { IsId id }
+        ensures found { IsTrue result ↔ HasId self.now id }
+        ensures maximal { AreMaximal self.now }
+    {
+        has_in(&self.spans, id)
+    }
+
+    /// The maximal spans, in order of the clients, then of the clocks. It takes no memory.
+    pub fn spans(&self) -> SpanIter<'_>
+        ensures ascending { result ≡ self.now }
+        ensures maximal { AreMaximal self.now }
+    {
+        SpanIter { rest: &self.spans }
+    }
+
+    /// The same set in memory of its own.
+    pub fn copy(&self) -> Result<IdSet, NoMemory>
+        ensures { IfOk result (λ copy. copy ≡ self.now) }
+    {
+        let spans = Vec::from_slice(*self.spans.allocator(), &self.spans)?;
+        Ok(IdSet { spans })
+    }
+}
+
+/// Maximal spans in order, seen as the list of those that are still to come.
+#[derive(Drop)]
+pub struct SpanIter<'a> {
+    rest: &'a [Span],
+}
+
+impl<'a> Model for SpanIter<'a> {
+    ghost use Rattle.std.specs.Prelude.{List};
+    ghost use Rattle.yd_ids.specs.declared.id.Span.{Span};
+
+    ghost Value = { List Span };
+
+    ghost view = { λ it. it.rest.now };
+}
+
+impl<'a> Iterator for SpanIter<'a> {
+    type Item = Span;
+
+    ghost next_gives = { YieldsFirst (λ s. s) };
+
+    ghost remaining = { item_count (λ s. s) };
+
+    fn next(&mut self) -> Option<Span> {
+        let (span, rest) = self.rest.split_first()?;
+        self.rest = rest;
+        Some(*span)
+    }
+}
