@@ -1,5 +1,5 @@
 -- A state vector: clients and the clocks that they have reached, in order of the clients (Yjs, state vector).
-use Rattle.std.specs.Prelude.{◌≡◌, ◌≢◌, ℕ, max, ◌<◌, List, [], ◌∷◌, if◌then◌else◌, nat_eq}
+use Rattle.std.specs.Prelude.{◌≡◌, ◌≢◌, ℕ, max, ◌<◌, List, [], ◌∷◌, if◌then◌else◌, nat_eq, nat_lt}
 use Rattle.yd_ids.specs.declared.id.Client.{Client}
 use Rattle.yd_ids.specs.Each.{Each}
 use Rattle.yd_ids.specs.Id.{IsClient, IsClock}
@@ -18,3 +18,16 @@ IsVector (entry ∷ rest) = IsClient entry.0 × (0 < entry.1) × IsClock entry.1
 pub record RaisesOnly (old new : List (Client × ℕ)) (client clock : ℕ) : Type 0 where
   pub this_client : clock_of new client ≡ max (clock_of old client) clock
   pub other_clients : (other : ℕ) → other ≢ client → clock_of new other ≡ clock_of old other
+
+-- a vector in which one client has at least this clock
+abbrev pub with_clock : Client × ℕ → List (Client × ℕ) → List (Client × ℕ)
+with_clock entry [] = entry ∷ []
+with_clock entry (first ∷ rest) =
+    if nat_lt entry.0.0 first.0.0 then entry ∷ first ∷ rest
+    else if nat_eq entry.0.0 first.0.0 then (first.0, max first.1 entry.1) ∷ rest
+    else first ∷ with_clock entry rest
+
+-- the greater clocks of two vectors, one client after another
+abbrev pub maximum_of : List (Client × ℕ) → List (Client × ℕ) → List (Client × ℕ)
+maximum_of [] others = others
+maximum_of (entry ∷ rest) others = maximum_of rest (with_clock entry others)

@@ -14,6 +14,7 @@
 mod fault;
 mod id;
 mod inserting;
+pub mod law;
 mod looking;
 mod set;
 mod span;

@@ -1,0 +1,50 @@
+-- The laws of state vectors and delete sets.
+use Rattle.std.specs.Prelude.{◌≡◌, ◌↔◌, ℕ, max, ◌<◌, ◌⊎◌, List, [], ◌∷◌}
+use Rattle.yd_ids.specs.declared.id.Client.{Client}
+use Rattle.yd_ids.specs.declared.id.Id.{Id}
+use Rattle.yd_ids.specs.declared.id.Span.{Span}
+use Rattle.yd_ids.specs.Id.{IsClient, IsClock, IsSpan}
+use Rattle.yd_ids.specs.Set.{HasId, AreMaximal, AddsSpan, AddsSpans, union_of}
+use Rattle.yd_ids.specs.Vector.{clock_of, IsVector, RaisesOnly, maximum_of}
+
+-- two sets with the same ids are one list
+abbrev pub SetsAreTheirIds : Type 0
+SetsAreTheirIds = (left right : List Span) → AreMaximal left → AreMaximal right → ((id : Id) → HasId left id ↔ HasId right id) → left ≡ right
+
+-- two vectors with the same clocks are one list
+abbrev pub VectorsAreTheirClocks : Type 0
+VectorsAreTheirClocks = (left right : List (Client × ℕ)) → IsVector left → IsVector right → ((client : ℕ) → clock_of left client ≡ clock_of right client) → left ≡ right
+
+-- the union is a set, it has the ids of both, and nothing else has them as a set
+pub record UnionHasBoth : Type 0 where
+  pub maximal : (left right : List Span) → AreMaximal left → AreMaximal right → AreMaximal (union_of left right)
+  pub ids : (left right : List Span) → AddsSpans left (union_of left right) right
+  pub alone : (left both right : List Span) → AreMaximal left → AreMaximal both → AreMaximal right → AddsSpans left both right → both ≡ union_of left right
+
+-- unions may be taken in any order and again
+pub record UnionsJoin : Type 0 where
+  pub associative : (a b c : List Span) → AreMaximal a → AreMaximal b → AreMaximal c → union_of (union_of a b) c ≡ union_of a (union_of b c)
+  pub commutative : (a b : List Span) → AreMaximal a → AreMaximal b → union_of a b ≡ union_of b a
+  pub idempotent : (a : List Span) → AreMaximal a → union_of a a ≡ a
+
+-- an insertion is the union with one span, and none for a span without ids
+pub record InsertionIsUnion : Type 0 where
+  pub one : (old new : List Span) (span : Span) → AreMaximal old → AreMaximal new → IsSpan span → 0 < span.len → AddsSpan old new span → new ≡ union_of old (span ∷ [])
+  pub none : (old new : List Span) (span : Span) → AreMaximal old → AreMaximal new → span.len ≡ 0 → AddsSpan old new span → new ≡ old
+
+-- the maximum is a vector, it has the greater clock of each client, and nothing else has it as a vector
+pub record MaximumHasGreater : Type 0 where
+  pub vector : (left right : List (Client × ℕ)) → IsVector left → IsVector right → IsVector (maximum_of left right)
+  pub clocks : (left right : List (Client × ℕ)) (client : ℕ) → IsVector left → IsVector right → clock_of (maximum_of left right) client ≡ max (clock_of left client) (clock_of right client)
+  pub alone : (left both right : List (Client × ℕ)) → IsVector left → IsVector both → IsVector right → ((client : ℕ) → clock_of both client ≡ max (clock_of left client) (clock_of right client)) → both ≡ maximum_of left right
+
+-- maxima may be taken in any order and again
+pub record MaximaJoin : Type 0 where
+  pub associative : (a b c : List (Client × ℕ)) → IsVector a → IsVector b → IsVector c → maximum_of (maximum_of a b) c ≡ maximum_of a (maximum_of b c)
+  pub commutative : (a b : List (Client × ℕ)) → IsVector a → IsVector b → maximum_of a b ≡ maximum_of b a
+  pub idempotent : (a : List (Client × ℕ)) → IsVector a → maximum_of a a ≡ a
+
+-- a raise is the maximum with one clock, and none for clock 0
+pub record RaiseIsMaximum : Type 0 where
+  pub one : (old new : List (Client × ℕ)) (client : Client) (clock : ℕ) → IsVector old → IsVector new → IsClient client → 0 < clock → IsClock clock → RaisesOnly old new client.0 clock → new ≡ maximum_of old ((client, clock) ∷ [])
+  pub none : (old new : List (Client × ℕ)) (client : Client) → IsVector old → IsVector new → RaisesOnly old new client.0 0 → new ≡ old

@@ -1,0 +1,43 @@
+//! The laws of state vectors and delete sets, each the contract of an empty function.
+
+ghost use Rattle.yd_ids.specs.Law.{SetsAreTheirIds, VectorsAreTheirClocks, UnionHasBoth, UnionsJoin, InsertionIsUnion, MaximumHasGreater, MaximaJoin, RaiseIsMaximum};
+
+/// Two delete sets with the same ids are equal.
+pub fn sets_are_their_ids()
+    ensures { SetsAreTheirIds }
+{}
+
+/// Two state vectors with the same clocks are equal.
+pub fn vectors_are_their_clocks()
+    ensures { VectorsAreTheirClocks }
+{}
+
+/// The union is the one delete set that has the ids of both.
+pub fn union_has_both()
+    ensures { UnionHasBoth }
+{}
+
+/// Unions are associative, commutative and idempotent.
+pub fn unions_join()
+    ensures { UnionsJoin }
+{}
+
+/// An insertion is the union with one span.
+pub fn insertion_is_union()
+    ensures { InsertionIsUnion }
+{}
+
+/// The maximum is the one state vector that has the greater clock of each client.
+pub fn maximum_has_greater()
+    ensures { MaximumHasGreater }
+{}
+
+/// Maxima are associative, commutative and idempotent.
+pub fn maxima_join()
+    ensures { MaximaJoin }
+{}
+
+/// A raise is the maximum with one clock.
+pub fn raise_is_maximum()
+    ensures { RaiseIsMaximum }
+{}
