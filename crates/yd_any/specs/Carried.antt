@@ -20,10 +20,12 @@ abbrev mutual
   is_carried (pairs fs) = fields_are_carried fs
   is_carried (blob bs) = false
 
+  -- the same of values in a row
   pub are_carried : AnyTrees → Bool
   are_carried no_trees = true
   are_carried (tree t ts) = is_carried t && are_carried ts
 
+  -- the same of the values under keys
   pub fields_are_carried : AnyFields → Bool
   fields_are_carried no_fields = true
   fields_are_carried (field k t fs) = is_carried t && fields_are_carried fs
@@ -48,6 +50,7 @@ abbrev mutual
   settled (pairs fs) = pairs (settled_fields no_fields fs)
   settled (blob bs) = blob bs
 
+  -- the same of values in a row
   pub settled_trees : AnyTrees → AnyTrees
   settled_trees no_trees = no_trees
   settled_trees (tree t ts) = tree (settled t) (settled_trees ts)

@@ -19,10 +19,12 @@ abbrev mutual
   data_tree (Data.array ds) = list (data_trees ds)
   data_tree (Data.object ms) = pairs (data_fields ms)
 
+  -- the same of items
   pub data_trees : Items → AnyTrees
   data_trees no_items = no_trees
   data_trees (item d ds) = tree (data_tree d) (data_trees ds)
 
+  -- the same of members
   pub data_fields : Members → AnyFields
   data_fields no_members = no_fields
   data_fields (member k d ms) = field k (data_tree d) (data_fields ms)

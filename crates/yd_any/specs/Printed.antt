@@ -31,6 +31,7 @@ abbrev mutual
   tokens_of_trees no_trees = Token.end_array ∷ []
   tokens_of_trees (tree t ts) = tokens_of t ++ tokens_of_trees ts
 
+  -- the keys with their values, and the closing bracket
   pub tokens_of_fields : AnyFields → List Token
   tokens_of_fields no_fields = Token.end_object ∷ []
   tokens_of_fields (field k t fs) = Token.key k ∷ (tokens_of t ++ tokens_of_fields fs)

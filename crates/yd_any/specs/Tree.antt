@@ -15,10 +15,12 @@ mutual
     pairs : AnyFields → AnyTree
     blob : List ℕ → AnyTree
 
+  -- values in a row
   pub data AnyTrees : Type 0 where
     no_trees : AnyTrees
     tree : AnyTree → AnyTrees → AnyTrees
 
+  -- keys with values
   pub data AnyFields : Type 0 where
     no_fields : AnyFields
     field : List ℕ → AnyTree → AnyFields → AnyFields
@@ -38,10 +40,12 @@ abbrev mutual
   depth (pairs fs) = suc (depth_of_fields fs)
   depth (blob bs) = 0
 
+  -- the greatest depth of values in a row
   pub depth_of_trees : AnyTrees → ℕ
   depth_of_trees no_trees = 0
   depth_of_trees (tree t ts) = max (depth t) (depth_of_trees ts)
 
+  -- the greatest depth of the values under keys
   pub depth_of_fields : AnyFields → ℕ
   depth_of_fields no_fields = 0
   depth_of_fields (field k t fs) = max (depth t) (depth_of_fields fs)

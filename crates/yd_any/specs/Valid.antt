@@ -23,10 +23,12 @@ abbrev mutual
   is_in_range (pairs fs) = fields_are_in_range fs
   is_in_range (blob bs) = true
 
+  -- the same of values in a row
   pub are_in_range : AnyTrees → Bool
   are_in_range no_trees = true
   are_in_range (tree t ts) = is_in_range t && are_in_range ts
 
+  -- the same of the values under keys
   pub fields_are_in_range : AnyFields → Bool
   fields_are_in_range no_fields = true
   fields_are_in_range (field k t fs) = is_in_range t && fields_are_in_range fs
@@ -63,6 +65,7 @@ abbrev mutual
   is_json (pairs fs) = fields_are_json None fs
   is_json (blob bs) = false
 
+  -- the same of values in a row
   pub are_json : AnyTrees → Bool
   are_json no_trees = true
   are_json (tree t ts) = is_json t && are_json ts

@@ -6,6 +6,8 @@ mod any;
 #[cfg(test)]
 mod app;
 #[cfg(test)]
+mod ids;
+#[cfg(test)]
 mod num;
 #[cfg(test)]
 mod units;
