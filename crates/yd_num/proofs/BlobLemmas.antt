@@ -1,15 +1,15 @@
 -- Byte strings and texts: what reading takes is what the grammar spells.
-use Rattle.std.proofs.Common.{◌≡◌, ℕ, ◌≤◌, false, cond, ltb, List, ◌++◌, length, take, drop, Ok, Err, refl, sym, ap, subst, ◌∙◌, append_assoc, arith}
+use Rattle.std.proofs.Common.{◌≡◌, ℕ, ◌≤◌, false, cond, ltb, List, [], ◌∷◌, ◌++◌, length, take, drop, Ok, Err, refl, sym, ap, subst, ◌∙◌, append_assoc, arith}
 use Rattle.std.specs.Prelude.{IsUtf8}
 use Rattle.std.specs.Str.{is_utf8}
 use Rattle.std.proofs.lemmas.Bool.{le-ltb, ltb-false}
 use Rattle.std.proofs.lemmas.List.{take_at, drop_at, take-append-drop, length-append, length-take}
 use Rattle.std.proofs.lemmas.Str.{IsUtf8-from_is_utf8}
 use Rattle.yd_num.specs.Grammar.{Joins}
-use Rattle.yd_num.specs.Number.{unsigned_at}
-use Rattle.yd_num.specs.Reading.{short_input, bad_utf8}
+use Rattle.yd_num.specs.Number.{unsigned_at, byte_at}
+use Rattle.yd_num.specs.Reading.{Cause, short_input, bad_utf8}
 use Rattle.yd_num.specs.Text.{SpellsBlob, SpellsText, bytes_at, blob_at, text_at}
-use Rattle.yd_num.proofs.ReadingLemmas.{bind_ok, passed, reached}
+use Rattle.yd_num.proofs.ReadingLemmas.{bind_ok, ok_value, passed, reached}
 use Rattle.yd_num.proofs.NumberLemmas.{unsigned_found, unsigned_only}
 use Rattle.yd_num.proofs.TextLemmas.{text_at-utf8}
 
@@ -25,6 +25,21 @@ unfolding bytes_at
 bytes_only count blob rest len =
     let enough : ltb (length (blob ++ rest)) count ≡ false = le-ltb (length (blob ++ rest)) count (omega (arith, length-append blob rest)) in
     rw (enough, take_at blob rest count len, drop_at blob rest count len) refl
+
+pub byte_found : (bytes : List ℕ) (b : ℕ) (rest : List ℕ) → byte_at bytes ≡ Ok (b, rest) → Joins (λ front. front ≡ b ∷ []) (λ back. back ≡ rest) bytes
+byte_found [] b rest e = absurd cc
+byte_found (first ∷ others) b rest e =
+    let same = ok_value {E = Cause} (first, others) (b, rest) e in
+    record { front = b ∷ []; back = rest; is_front = refl; is_back = refl; joined = ap (λ (y : ℕ × List ℕ). y.0 ∷ y.1) same }
+
+pub byte_only : (field : List ℕ) (b : ℕ) (rest : List ℕ) → field ≡ b ∷ [] → byte_at (field ++ rest) ≡ Ok (b, rest)
+byte_only field b rest e = rw e refl
+
+pub bytes_front : (count : ℕ) (bytes blob rest : List ℕ) → bytes_at count bytes ≡ Ok (blob, rest) → Joins (λ front. (front ≡ blob) × (length blob ≡ count)) (λ back. back ≡ rest) bytes
+bytes_front count bytes blob rest e = let found = bytes_found count bytes blob rest e in record { front = blob; back = rest; is_front = (refl, found.0); is_back = refl; joined = found.1 }
+
+pub bytes_again : (count : ℕ) (field blob rest : List ℕ) → (field ≡ blob) × (length blob ≡ count) → bytes_at count (field ++ rest) ≡ Ok (blob, rest)
+bytes_again count field blob rest h = rw h.0 (bytes_only count blob rest h.1)
 
 pub blob_found : (bytes blob rest : List ℕ) → blob_at bytes ≡ Ok (blob, rest) → Joins (λ front. SpellsBlob front blob) (λ back. back ≡ rest) bytes
 unfolding blob_at

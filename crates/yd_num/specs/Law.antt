@@ -1,5 +1,5 @@
 -- The laws that tie the grammar of fields to reading and to writing them.
-use Rattle.std.specs.Prelude.{◌≡◌, ◌↔◌, ℕ, ◌^◌, ◌<◌, ◌≤◌, List, [], ◌++◌, length, Result, Ok, Err, IsUtf8}
+use Rattle.std.specs.Prelude.{◌≡◌, ◌↔◌, ℕ, ◌^◌, ◌<◌, ◌≤◌, List, [], ◌∷◌, ◌++◌, length, Result, Ok, Err, IsUtf8}
 use Rattle.yd_num.specs.Grammar.{Joins, EndsInside}
 use Rattle.yd_num.specs.Number.{SpellsUnsigned, IsTooLong, IsTooLarge, byte_at, unsigned_at}
 use Rattle.yd_num.specs.Reading.{Cause, short_input, number_too_large, bad_utf8}
@@ -14,8 +14,10 @@ pub record Skips {X : Type 0} (read : List ℕ → Result (X × List ℕ) Cause)
   pub found : (bytes : List ℕ) (x : X) (rest : List ℕ) → read bytes ≡ Ok (x, rest) → Joins (λ front. Spells front x) (λ back. back ≡ rest) bytes
   pub only : (field : List ℕ) (x : X) (rest : List ℕ) → Spells field x → read (field ++ rest) ≡ Ok (x, rest)
 
--- numbers, byte strings and texts are read as the grammar spells them
+-- bytes, numbers, byte strings and texts are read as the grammar spells them
 pub record FieldsAreRead : Type 0 where
+  pub one_byte : Skips byte_at (λ field b. field ≡ b ∷ [])
+  pub some_bytes : (count : ℕ) → Skips (bytes_at count) (λ field bytes. (field ≡ bytes) × (length bytes ≡ count))
   pub numbers : Skips unsigned_at SpellsUnsigned
   pub signed_numbers : Skips signed_at SpellsSigned
   pub blobs : Skips blob_at SpellsBlob

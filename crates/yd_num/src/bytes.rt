@@ -1,6 +1,6 @@
 //! Bytes that grow by one field after the other.
 
-ghost use Rattle.std.specs.Prelude.{◌≡◌, ◌^◌, ◌<◌, [], ◌∷◌, ◌++◌, OnOk, OnErr};
+ghost use Rattle.std.specs.Prelude.{◌≡◌, ◌^◌, ◌<◌, [], ◌∷◌, ◌++◌, length, OnOk, OnErr};
 ghost use Rattle.yd_num.specs.Writing.{shortest, shortest_signed, shortest_blob};
 
 use crate::fault::NoMemory;
@@ -44,7 +44,7 @@ impl Bytes {
 
     /// Writes one byte (lib0, writeUint8).
     pub fn push_byte(&mut self, b: u8) -> Result<(), NoMemory>
-        ensures written { OnOk result (self.new ≡ self.old ++ b ∷ []) }
+        ensures appended { OnOk result (self.new ≡ self.old ++ b ∷ []) }
         ensures unchanged { OnErr result (self.new ≡ self.old) }
     {
         self.bytes.push(b)?;
@@ -53,7 +53,7 @@ impl Bytes {
 
     /// Writes bytes as they stand, with no length before them (lib0, writeUint8Array).
     pub fn push_all(&mut self, b: &[u8]) -> Result<(), NoMemory>
-        ensures written { OnOk result (self.new ≡ self.old ++ b.now) }
+        ensures appended { OnOk result (self.new ≡ self.old ++ b.now) }
         ensures unchanged { OnErr result (self.new ≡ self.old) }
     {
         self.bytes.extend_from_slice(b)?;
@@ -64,7 +64,7 @@ impl Bytes {
     /// writeVarUint; the limit is own).
     pub fn push_unsigned(&mut self, v: u64) -> Result<(), NoMemory>
         requires { v < 2 ^ 53 }
-        ensures written { OnOk result (self.new ≡ self.old ++ shortest v) }
+        ensures appended { OnOk result (self.new ≡ self.old ++ shortest v) }
         ensures unchanged { OnErr result (self.new ≡ self.old) }
     {
         let start = self.bytes.len();
@@ -79,7 +79,7 @@ impl Bytes {
     /// zero keeps its sign (lib0, writeVarInt; the limit is own).
     pub fn push_signed(&mut self, s: Signed) -> Result<(), NoMemory>
         requires { s.size < 2 ^ 55 }
-        ensures written { OnOk result (self.new ≡ self.old ++ shortest_signed s) }
+        ensures appended { OnOk result (self.new ≡ self.old ++ shortest_signed s) }
         ensures unchanged { OnErr result (self.new ≡ self.old) }
     {
         let start = self.bytes.len();
@@ -93,7 +93,8 @@ impl Bytes {
     /// Writes a text: how many bytes of UTF-8 it has, and then these (lib0, writeVarString). One
     /// of 2^53 bytes or more finds no memory (own).
     pub fn push_text(&mut self, t: &str) -> Result<(), NoMemory>
-        ensures written { OnOk result (self.new ≡ self.old ++ shortest_blob t.now) }
+        ensures appended { OnOk result (self.new ≡ self.old ++ shortest_blob t.now) }
+        ensures fits { OnOk result (length t.now < 2 ^ 53) }
         ensures unchanged { OnErr result (self.new ≡ self.old) }
     {
         self.push_blob(t.as_bytes())
@@ -102,7 +103,8 @@ impl Bytes {
     /// Writes a byte string: how many bytes it has, and then these (lib0, writeVarUint8Array). One
     /// of 2^53 bytes or more finds no memory (own).
     pub fn push_blob(&mut self, b: &[u8]) -> Result<(), NoMemory>
-        ensures written { OnOk result (self.new ≡ self.old ++ shortest_blob b.now) }
+        ensures appended { OnOk result (self.new ≡ self.old ++ shortest_blob b.now) }
+        ensures fits { OnOk result (length b.now < 2 ^ 53) }
         ensures unchanged { OnErr result (self.new ≡ self.old) }
     {
         let len = b.len() as u64;
