@@ -13,48 +13,72 @@ Entry = Client × ℕ
 
 -- ---- one clock more
 
+no_clock : (k n : ℕ) → nat_eq n 0 ≡ true → k ≡ max k n
+no_clock k n e = omega (arith, eqb-true n 0 e)
+
 with_this : (e : Entry) (xs : List Entry) → IsVector xs → clock_of (with_clock e xs) e.0.0 ≡ max (clock_of xs e.0.0) e.1
-with_this e [] v = rw (eq-eqb e.0.0 e.0.0 refl) (omega arith)
-with_this e (x ∷ xs) v = go (nat_lt e.0.0 x.0.0) refl (nat_eq e.0.0 x.0.0) refl (with_this e xs v.4)
+with_this e [] v = go (nat_eq e.1 0) refl
   where
-    go : (p : Bool) → nat_lt e.0.0 x.0.0 ≡ p → (q : Bool) → nat_eq e.0.0 x.0.0 ≡ q → clock_of (with_clock e xs) e.0.0 ≡ max (clock_of xs e.0.0) e.1 →
-        clock_of (cond p (e ∷ x ∷ xs) (cond q ((x.0, max x.1 e.1) ∷ xs) (x ∷ with_clock e xs))) e.0.0 ≡ max (clock_of (x ∷ xs) e.0.0) e.1
-    go true f q g h =
+    go : (z : Bool) → nat_eq e.1 0 ≡ z → clock_of (cond z [] (e ∷ [])) e.0.0 ≡ max 0 e.1
+    go true z = no_clock 0 e.1 z
+    go false z = rw (eq-eqb e.0.0 e.0.0 refl) (omega arith)
+with_this e (x ∷ xs) v = go (nat_eq e.1 0) refl (nat_lt e.0.0 x.0.0) refl (nat_eq e.0.0 x.0.0) refl (with_this e xs v.4)
+  where
+    go : (z : Bool) → nat_eq e.1 0 ≡ z → (p : Bool) → nat_lt e.0.0 x.0.0 ≡ p → (q : Bool) → nat_eq e.0.0 x.0.0 ≡ q → clock_of (with_clock e xs) e.0.0 ≡ max (clock_of xs e.0.0) e.1 →
+        clock_of (cond z (x ∷ xs) (cond p (e ∷ x ∷ xs) (cond q ((x.0, max x.1 e.1) ∷ xs) (x ∷ with_clock e xs)))) e.0.0 ≡ max (clock_of (x ∷ xs) e.0.0) e.1
+    go true z p f q g h = no_clock (clock_of (x ∷ xs) e.0.0) e.1 z
+    go false z true f q g h =
         let lt = ltb-true e.0.0 x.0.0 f in
         let none = above_none (x ∷ xs) e.0.0 (lt, each_weaker (λ later. x.0.0 < later.0.0) (λ later. e.0.0 < later.0.0) (λ later more. omega arith) xs v.3) in
         rw (eq-eqb e.0.0 e.0.0 refl) (omega arith)
-    go false f true g h = rw (eq-eqb x.0.0 e.0.0 (sym (eqb-true e.0.0 x.0.0 g)))
-    go false f false g h = let ne = eqb-false e.0.0 x.0.0 g in rw (ne_eqb x.0.0 e.0.0 (λ s. ne (sym s))) h
+    go false z false f true g h = rw (eq-eqb x.0.0 e.0.0 (sym (eqb-true e.0.0 x.0.0 g)))
+    go false z false f false g h = let ne = eqb-false e.0.0 x.0.0 g in rw (ne_eqb x.0.0 e.0.0 (λ s. ne (sym s))) h
 
 with_other : (e : Entry) (xs : List Entry) (c : ℕ) → c ≢ e.0.0 → clock_of (with_clock e xs) c ≡ clock_of xs c
-with_other e [] c ne = rw (ne_eqb e.0.0 c (λ s. ne (sym s)))
-with_other e (x ∷ xs) c ne = go (nat_lt e.0.0 x.0.0) (nat_eq e.0.0 x.0.0) refl (with_other e xs c ne)
+with_other e [] c ne = go (nat_eq e.1 0)
   where
-    go : (p q : Bool) → nat_eq e.0.0 x.0.0 ≡ q → clock_of (with_clock e xs) c ≡ clock_of xs c →
-        clock_of (cond p (e ∷ x ∷ xs) (cond q ((x.0, max x.1 e.1) ∷ xs) (x ∷ with_clock e xs))) c ≡ clock_of (x ∷ xs) c
-    go true q g h = rw (ne_eqb e.0.0 c (λ s. ne (sym s)))
-    go false true g h = rw (ne_eqb x.0.0 c (λ s. ne (sym s ∙ sym (eqb-true e.0.0 x.0.0 g))))
-    go false false g h = ap (λ k. cond (nat_eq x.0.0 c) x.1 k) h
+    go : (z : Bool) → clock_of (cond z [] (e ∷ [])) c ≡ 0
+    go true = refl
+    go false = rw (ne_eqb e.0.0 c (λ s. ne (sym s)))
+with_other e (x ∷ xs) c ne = go (nat_eq e.1 0) (nat_lt e.0.0 x.0.0) (nat_eq e.0.0 x.0.0) refl (with_other e xs c ne)
+  where
+    go : (z p q : Bool) → nat_eq e.0.0 x.0.0 ≡ q → clock_of (with_clock e xs) c ≡ clock_of xs c →
+        clock_of (cond z (x ∷ xs) (cond p (e ∷ x ∷ xs) (cond q ((x.0, max x.1 e.1) ∷ xs) (x ∷ with_clock e xs)))) c ≡ clock_of (x ∷ xs) c
+    go true p q g h = refl
+    go false true q g h = rw (ne_eqb e.0.0 c (λ s. ne (sym s)))
+    go false false true g h = rw (ne_eqb x.0.0 c (λ s. ne (sym s ∙ sym (eqb-true e.0.0 x.0.0 g))))
+    go false false false g h = ap (λ k. cond (nat_eq x.0.0 c) x.1 k) h
 
 each_with : (P : Entry → Type 0) (e : Entry) (xs : List Entry) → ((f g : Entry) → f.0.0 ≡ g.0.0 → P f → P g) → P e → Each P xs → Each P (with_clock e xs)
-each_with P e [] same p h = (p, tt)
-each_with P e (x ∷ xs) same p h = go (nat_lt e.0.0 x.0.0) (nat_eq e.0.0 x.0.0) (each_with P e xs same p h.1)
+each_with P e [] same p h = go (nat_eq e.1 0)
   where
-    go : (a b : Bool) → Each P (with_clock e xs) → Each P (cond a (e ∷ x ∷ xs) (cond b ((x.0, max x.1 e.1) ∷ xs) (x ∷ with_clock e xs)))
-    go true b k = (p, h)
-    go false true k = (same x (x.0, max x.1 e.1) refl h.0, h.1)
-    go false false k = (h.0, k)
+    go : (z : Bool) → Each P (cond z [] (e ∷ []))
+    go true = tt
+    go false = (p, tt)
+each_with P e (x ∷ xs) same p h = go (nat_eq e.1 0) (nat_lt e.0.0 x.0.0) (nat_eq e.0.0 x.0.0) (each_with P e xs same p h.1)
+  where
+    go : (z a b : Bool) → Each P (with_clock e xs) → Each P (cond z (x ∷ xs) (cond a (e ∷ x ∷ xs) (cond b ((x.0, max x.1 e.1) ∷ xs) (x ∷ with_clock e xs))))
+    go true a b k = h
+    go false true b k = (p, h)
+    go false false true k = (same x (x.0, max x.1 e.1) refl h.0, h.1)
+    go false false false k = (h.0, k)
 
-with_vector : (e : Entry) (xs : List Entry) → IsClient e.0 → 0 < e.1 → IsClock e.1 → IsVector xs → IsVector (with_clock e xs)
-with_vector e [] client some clock v = (client, some, clock, tt, tt)
-with_vector e (x ∷ xs) client some clock v = go (nat_lt e.0.0 x.0.0) refl (nat_eq e.0.0 x.0.0) refl (with_vector e xs client some clock v.4)
+with_vector : (e : Entry) (xs : List Entry) → IsClient e.0 → IsClock e.1 → IsVector xs → IsVector (with_clock e xs)
+with_vector e [] client clock v = go (nat_eq e.1 0) refl
   where
-    go : (p : Bool) → nat_lt e.0.0 x.0.0 ≡ p → (q : Bool) → nat_eq e.0.0 x.0.0 ≡ q → IsVector (with_clock e xs) → IsVector (cond p (e ∷ x ∷ xs) (cond q ((x.0, max x.1 e.1) ∷ xs) (x ∷ with_clock e xs)))
-    go true f q g h =
+    go : (z : Bool) → nat_eq e.1 0 ≡ z → IsVector (cond z [] (e ∷ []))
+    go true z = tt
+    go false z = (client, omega (arith, eqb-false e.1 0 z), clock, tt, tt)
+with_vector e (x ∷ xs) client clock v = go (nat_eq e.1 0) refl (nat_lt e.0.0 x.0.0) refl (nat_eq e.0.0 x.0.0) refl (with_vector e xs client clock v.4)
+  where
+    go : (z : Bool) → nat_eq e.1 0 ≡ z → (p : Bool) → nat_lt e.0.0 x.0.0 ≡ p → (q : Bool) → nat_eq e.0.0 x.0.0 ≡ q → IsVector (with_clock e xs) →
+        IsVector (cond z (x ∷ xs) (cond p (e ∷ x ∷ xs) (cond q ((x.0, max x.1 e.1) ∷ xs) (x ∷ with_clock e xs))))
+    go true z p f q g h = v
+    go false z true f q g h =
         let lt = ltb-true e.0.0 x.0.0 f in
-        (client, some, clock, (lt, each_weaker (λ later. x.0.0 < later.0.0) (λ later. e.0.0 < later.0.0) (λ later more. omega arith) xs v.3), v)
-    go false f true g h = let a = v.1 in let b = v.2 in (v.0, omega arith, omega arith, v.3, v.4)
-    go false f false g h =
+        (client, omega (arith, eqb-false e.1 0 z), clock, (lt, each_weaker (λ later. x.0.0 < later.0.0) (λ later. e.0.0 < later.0.0) (λ later more. omega arith) xs v.3), v)
+    go false z false f true g h = let a = v.1 in let b = v.2 in (v.0, omega arith, omega arith, v.3, v.4)
+    go false z false f false g h =
         let ge = ltb-false e.0.0 x.0.0 f in
         let ne = eqb-false e.0.0 x.0.0 g in
         (v.0, v.1, v.2, each_with (λ later. x.0.0 < later.0.0) e xs (λ f g s lt. omega arith) (omega arith) v.3, h)
@@ -63,11 +87,11 @@ with_vector e (x ∷ xs) client some clock v = go (nat_lt e.0.0 x.0.0) refl (nat
 
 pub maximum_vector : (ls rs : List Entry) → IsVector ls → IsVector rs → IsVector (maximum_of ls rs)
 maximum_vector [] rs v w = w
-maximum_vector (a ∷ ls) rs v w = maximum_vector ls (with_clock a rs) v.4 (with_vector a rs v.0 v.1 v.2 w)
+maximum_vector (a ∷ ls) rs v w = maximum_vector ls (with_clock a rs) v.4 (with_vector a rs v.0 v.2 w)
 
 pub maximum_clocks : (ls rs : List Entry) (c : ℕ) → IsVector ls → IsVector rs → clock_of (maximum_of ls rs) c ≡ max (clock_of ls c) (clock_of rs c)
 maximum_clocks [] rs c v w = omega arith
-maximum_clocks (a ∷ ls) rs c v w = go (nat_eq a.0.0 c) refl (maximum_clocks ls (with_clock a rs) c v.4 (with_vector a rs v.0 v.1 v.2 w))
+maximum_clocks (a ∷ ls) rs c v w = go (nat_eq a.0.0 c) refl (maximum_clocks ls (with_clock a rs) c v.4 (with_vector a rs v.0 v.2 w))
   where
     go : (t : Bool) → nat_eq a.0.0 c ≡ t → clock_of (maximum_of ls (with_clock a rs)) c ≡ max (clock_of ls c) (clock_of (with_clock a rs) c) →
         clock_of (maximum_of ls (with_clock a rs)) c ≡ max (cond t a.1 (clock_of ls c)) (clock_of rs c)
@@ -100,16 +124,17 @@ maximum_groups ls rs ks v w x =
       let h = maximum_clocks rs ks c w x in
       omega arith)
 
-pub raise_one : (old new : List Entry) (client : Client) (clock : ℕ) → IsVector old → IsVector new → IsClient client → 0 < clock → IsClock clock → RaisesOnly old new client.0 clock → new ≡ maximum_of old ((client, clock) ∷ [])
-raise_one old new client clock v w is some bound r = maximum_alone old new ((client, clock) ∷ []) v w (is, some, bound, tt, tt) (λ c. go c (nat_eq client.0 c) refl)
+-- a vector that differs from another in one raised clock
+pub raise_alone : (old new : List Entry) (client : Client) (clock : ℕ) → IsVector old → IsVector new → IsClient client → IsClock clock → RaisesOnly old new client.0 clock → new ≡ with_clock (client, clock) old
+raise_alone old new client clock v w is bound r = vectors_same new (with_clock (client, clock) old) w (with_vector (client, clock) old is bound v) (λ c. go c (nat_eq client.0 c) refl)
   where
-    go : (c : ℕ) (t : Bool) → nat_eq client.0 c ≡ t → clock_of new c ≡ max (clock_of old c) (cond t clock 0)
-    go c true e = rw (eqb-true client.0 c e) at r.this_client
-    go c false e = r.other_clients c (λ s. eqb-false client.0 c e (sym s)) ∙ omega arith
+    go : (c : ℕ) (t : Bool) → nat_eq client.0 c ≡ t → clock_of new c ≡ clock_of (with_clock (client, clock) old) c
+    go c true e = subst (λ z. clock_of new z ≡ clock_of (with_clock (client, clock) old) z) (eqb-true client.0 c e) (r.this_client ∙ sym (with_this (client, clock) old v))
+    go c false e = let ne = λ (s : c ≡ client.0). eqb-false client.0 c e (sym s) in r.other_clients c ne ∙ sym (with_other (client, clock) old c ne)
 
-pub raise_none : (old new : List Entry) (client : Client) → IsVector old → IsVector new → RaisesOnly old new client.0 0 → new ≡ old
-raise_none old new client v w r = vectors_same new old w v (λ c. go c (nat_eq client.0 c) refl)
-  where
-    go : (c : ℕ) (t : Bool) → nat_eq client.0 c ≡ t → clock_of new c ≡ clock_of old c
-    go c true e = let h : clock_of new c ≡ max (clock_of old c) 0 = rw (eqb-true client.0 c e) at r.this_client in omega arith
-    go c false e = r.other_clients c (λ s. eqb-false client.0 c e (sym s))
+pub raise_one : (old : List Entry) (client : Client) (clock : ℕ) → IsVector old → IsClient client → 0 < clock → IsClock clock → with_clock (client, clock) old ≡ maximum_of old ((client, clock) ∷ [])
+raise_one old client clock v is some bound = maximum_commutes ((client, clock) ∷ []) old (is, some, bound, tt, tt) v
+
+pub raise_none : (old : List Entry) (client : Client) → with_clock (client, 0) old ≡ old
+raise_none [] client = refl
+raise_none (x ∷ xs) client = refl

@@ -1,6 +1,6 @@
 -- Sets of ids: the same ids make the same list, and what the union has.
 use Rattle.std.proofs.Common.{◌≡◌, ℕ, ◌+◌, ◌<◌, ◌≤◌, ◌⊎◌, ◌↔◌, Bool, true, false, cond, List, [], ◌∷◌, inl, inr, refl, sym, ap₂, subst, arith, nat_eq}
-use Rattle.std.proofs.lemmas.Bool.{cases_lt, eqb-true, eqb-false}
+use Rattle.std.proofs.lemmas.Bool.{cases_lt, eq-eqb, eqb-true, eqb-false}
 use Rattle.yd_ids.specs.declared.id.Id.{Id}
 use Rattle.yd_ids.specs.declared.id.Span.{Span}
 use Rattle.yd_ids.specs.Each.{Each}
@@ -220,11 +220,13 @@ union_groups ls rs ks m n o = union_alone ls (union_of (union_of ls rs) ks) (uni
       | inr c ↦ (union_ids (union_of ls rs) ks id).1 (inr c)
     ]
 
-pub insert_one : (old new : List Span) (s : Span) → AreMaximal old → AreMaximal new → IsSpan s → 0 < s.len → AddsSpan old new s → new ≡ union_of old (s ∷ [])
-insert_one old new s m n is some h = union_alone old new (s ∷ []) m n (is, some, tt, tt) (λ id. (
-  (λ k. elim ((h id).0 k) [ inl a ↦ inl a | inr i ↦ inr (inl i) ]),
-  (λ k. (h id).1 (elim k [ inl a ↦ inl a | inr b ↦ inr (elim b [ inl i ↦ i | inr none ↦ absurd none ]) ])),
-))
+-- a set that has the ids of another and those of a span
+pub insert_alone : (old new : List Span) (s : Span) → AreMaximal old → AreMaximal new → IsSpan s → AddsSpan old new s → new ≡ with_span s old
+insert_alone old new s m n is h = sets_same new (with_span s old) n (with_maximal s old is m) (λ id. ((λ k. (with_ids s old id).1 ((h id).0 k)), (λ k. (h id).1 ((with_ids s old id).0 k))))
 
-pub insert_none : (old new : List Span) (s : Span) → AreMaximal old → AreMaximal new → s.len ≡ 0 → AddsSpan old new s → new ≡ old
-insert_none old new s m n e h = sets_same new old n m (λ id. ((λ k. elim ((h id).0 k) [ inl a ↦ a | inr i ↦ absurd (omega arith) ]), (λ k. (h id).1 (inl k))))
+pub insert_one : (old : List Span) (s : Span) → AreMaximal old → IsSpan s → 0 < s.len → with_span s old ≡ union_of old (s ∷ [])
+insert_one old s m is some = union_commutes (s ∷ []) old (is, some, tt, tt) m
+
+pub insert_none : (old : List Span) (s : Span) → s.len ≡ 0 → with_span s old ≡ old
+insert_none [] s e = rw (eq-eqb s.len 0 e)
+insert_none (t ∷ ts) s e = rw (eq-eqb s.len 0 e)

@@ -4,8 +4,8 @@ use Rattle.yd_ids.specs.declared.id.Client.{Client}
 use Rattle.yd_ids.specs.declared.id.Id.{Id}
 use Rattle.yd_ids.specs.declared.id.Span.{Span}
 use Rattle.yd_ids.specs.Id.{IsClient, IsClock, IsSpan}
-use Rattle.yd_ids.specs.Set.{HasId, AreMaximal, AddsSpan, AddsSpans, union_of}
-use Rattle.yd_ids.specs.Vector.{clock_of, IsVector, RaisesOnly, maximum_of}
+use Rattle.yd_ids.specs.Set.{HasId, AreMaximal, AddsSpan, AddsSpans, with_span, union_of}
+use Rattle.yd_ids.specs.Vector.{clock_of, IsVector, RaisesOnly, with_clock, maximum_of}
 
 -- two sets with the same ids are one list
 abbrev pub SetsAreTheirIds : Type 0
@@ -27,10 +27,11 @@ pub record UnionsJoin : Type 0 where
   pub commutative : (a b : List Span) → AreMaximal a → AreMaximal b → union_of a b ≡ union_of b a
   pub idempotent : (a : List Span) → AreMaximal a → union_of a a ≡ a
 
--- an insertion is the union with one span, and none for a span without ids
+-- an insertion is the union with one span, and changes nothing for a span without ids
 pub record InsertionIsUnion : Type 0 where
-  pub one : (old new : List Span) (span : Span) → AreMaximal old → AreMaximal new → IsSpan span → 0 < span.len → AddsSpan old new span → new ≡ union_of old (span ∷ [])
-  pub none : (old new : List Span) (span : Span) → AreMaximal old → AreMaximal new → span.len ≡ 0 → AddsSpan old new span → new ≡ old
+  pub alone : (old new : List Span) (span : Span) → AreMaximal old → AreMaximal new → IsSpan span → AddsSpan old new span → new ≡ with_span span old
+  pub one : (old : List Span) (span : Span) → AreMaximal old → IsSpan span → 0 < span.len → with_span span old ≡ union_of old (span ∷ [])
+  pub none : (old : List Span) (span : Span) → span.len ≡ 0 → with_span span old ≡ old
 
 -- the maximum is a vector, it has the greater clock of each client, and nothing else has it as a vector
 pub record MaximumHasGreater : Type 0 where
@@ -44,7 +45,8 @@ pub record MaximaJoin : Type 0 where
   pub commutative : (a b : List (Client × ℕ)) → IsVector a → IsVector b → maximum_of a b ≡ maximum_of b a
   pub idempotent : (a : List (Client × ℕ)) → IsVector a → maximum_of a a ≡ a
 
--- a raise is the maximum with one clock, and none for clock 0
+-- a raise is the maximum with one clock, and changes nothing for clock 0
 pub record RaiseIsMaximum : Type 0 where
-  pub one : (old new : List (Client × ℕ)) (client : Client) (clock : ℕ) → IsVector old → IsVector new → IsClient client → 0 < clock → IsClock clock → RaisesOnly old new client.0 clock → new ≡ maximum_of old ((client, clock) ∷ [])
-  pub none : (old new : List (Client × ℕ)) (client : Client) → IsVector old → IsVector new → RaisesOnly old new client.0 0 → new ≡ old
+  pub alone : (old new : List (Client × ℕ)) (client : Client) (clock : ℕ) → IsVector old → IsVector new → IsClient client → IsClock clock → RaisesOnly old new client.0 clock → new ≡ with_clock (client, clock) old
+  pub one : (old : List (Client × ℕ)) (client : Client) (clock : ℕ) → IsVector old → IsClient client → 0 < clock → IsClock clock → with_clock (client, clock) old ≡ maximum_of old ((client, clock) ∷ [])
+  pub none : (old : List (Client × ℕ)) (client : Client) → with_clock (client, 0) old ≡ old

@@ -21,9 +21,10 @@ pub record RaisesOnly (old new : List (Client × ℕ)) (client clock : ℕ) : Ty
 
 -- a vector in which one client has at least this clock
 abbrev pub with_clock : Client × ℕ → List (Client × ℕ) → List (Client × ℕ)
-with_clock entry [] = entry ∷ []
+with_clock entry [] = if nat_eq entry.1 0 then [] else entry ∷ []
 with_clock entry (first ∷ rest) =
-    if nat_lt entry.0.0 first.0.0 then entry ∷ first ∷ rest
+    if nat_eq entry.1 0 then first ∷ rest
+    else if nat_lt entry.0.0 first.0.0 then entry ∷ first ∷ rest
     else if nat_eq entry.0.0 first.0.0 then (first.0, max first.1 entry.1) ∷ rest
     else first ∷ with_clock entry rest
 

@@ -3,7 +3,7 @@
 ghost use Rattle.std.specs.Prelude.{◌≡◌, ◌↔◌, [], IsTrue, IfOk, OnOk, OnErr};
 ghost use Rattle.std.specs.Iterator.{YieldsFirst, item_count};
 ghost use Rattle.yd_ids.specs.Id.{IsId, IsSpan};
-ghost use Rattle.yd_ids.specs.Set.{HasId, AreMaximal, AddsSpan, AddsSpans};
+ghost use Rattle.yd_ids.specs.Set.{HasId, AreMaximal, AddsSpan, AddsSpans, with_span, union_of};
 
 use crate::fault::NoMemory;
 use crate::id::{Id, Span};
@@ -47,6 +47,7 @@ impl IdSet {
     pub fn insert(&mut self, span: Span) -> Result<(), NoMemory>
         requires { IsSpan span }
         ensures added { OnOk result (AddsSpan self.old self.new span) }
+        ensures exact { OnOk result (self.new ≡ with_span span self.old) }
         ensures unchanged { OnErr result (self.new ≡ self.old) }
         ensures maximal { AreMaximal self.new }
     {
@@ -57,6 +58,7 @@ impl IdSet {
     /// Adds the other's ids, in one pass over both lists and in memory of their lengths.
     pub fn union(&mut self, other: &IdSet) -> Result<(), NoMemory>
         ensures added { OnOk result (AddsSpans self.old self.new other.now) }
+        ensures exact { OnOk result (self.new ≡ union_of self.old other.now) }
         ensures unchanged { OnErr result (self.new ≡ self.old) }
         ensures maximal { AreMaximal self.new }
     {

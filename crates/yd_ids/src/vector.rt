@@ -7,7 +7,7 @@ ghost use Rattle.std.specs.Iterator.{YieldsFirst, item_count};
 ghost use Rattle.yd_ids.specs.declared.id.Client.{Client};
 ghost use Rattle.yd_ids.specs.Each.{Each};
 ghost use Rattle.yd_ids.specs.Id.{IsClient, IsClock};
-ghost use Rattle.yd_ids.specs.Vector.{clock_of, IsVector, RaisesOnly};
+ghost use Rattle.yd_ids.specs.Vector.{clock_of, IsVector, RaisesOnly, with_clock};
 
 use crate::fault::NoMemory;
 use crate::id::Client;
@@ -59,6 +59,7 @@ impl Vector {
         requires is_client { IsClient client }
         requires is_clock { IsClock clock }
         ensures raised { OnOk result (RaisesOnly self.old self.new client.0 clock) }
+        ensures exact { OnOk result (self.new ≡ with_clock (client, clock) self.old) }
         ensures unchanged { OnErr result (self.new ≡ self.old) }
         ensures vector { IsVector self.new }
     {
