@@ -98,6 +98,10 @@ has_place xs zero c v h k f = (tt, above xs c v k f)
 has_place [] (suc n) c v h k f = (tt, tt)
 has_place (x ∷ xs) (suc n) c v h k f = let rest = has_place xs n c v.4 h.1 k (λ lt d. f (omega arith) d) in ((ltb-true x.0.0 c h.0, rest.0), rest.1)
 
+-- the same, as the code reads it
+pub place_of : (xs ys zs : List Entry) (n c : ℕ) → IsVector xs → ys ≡ xs → zs ≡ xs → Each (λ e. nat_lt e.0.0 c ≡ true) (take n ys) → Each (λ e. nat_lt e.0.0 c ≡ false) (drop n ys) → (n < length zs → HoldsAt (λ e. e.0.0 ≢ c) zs n) → HasPlace xs n c
+place_of xs ys zs n c v e f h k g = has_place xs n c v (rw e at h) (rw e at k) (rw f at g)
+
 pub above_none : (xs : List Entry) (c : ℕ) → Each (λ e. c < e.0.0) xs → 0 ≡ clock_of xs c
 above_none [] c h = refl
 above_none (x ∷ xs) c h = let lt = h.0 in rw (ne_eqb x.0.0 c (omega arith)) (above_none xs c h.1)

@@ -8,14 +8,19 @@ pub struct Client(pub u64);
 /// clients, then of their clocks.
 #[derive(Clone, Copy, Debug, PartialEq, Eq, PartialOrd, Ord)]
 pub struct Id {
+    /// Who made the unit.
     pub client: Client,
+    /// Which of the client's units it is, from 0.
     pub clock: u64,
 }
 
-/// Ids of one client in a row, from `clock` on, `len` of them.
+/// Ids of one client in a row. The clock behind the last is below 2^53 too.
 #[derive(Clone, Copy, Debug, PartialEq, Eq)]
 pub struct Span {
+    /// Whose ids they are.
     pub client: Client,
+    /// The clock of the first.
     pub clock: u64,
+    /// How many there are.
     pub len: u64,
 }

@@ -19,8 +19,9 @@ pub fn insert_in(spans: &mut Vec<Span>, span: Span) -> Result<(), NoMemory>
     requires maximal { AreMaximal spans.old.items }
     requires is_span { IsSpan span }
     ensures added { OnOk result (AddsSpan spans.old.items spans.new.items span) }
-    ensures unchanged { OnErr result (spans.new.items ≡ spans.old.items) }
     ensures kept { AreMaximal spans.new.items }
+    ensures unchanged { OnErr result (spans.new.items ≡ spans.old.items) }
+    ensures only_some { OnErr result (0 < span.len) }
 {
     if span.len == 0 {
         return Ok(());

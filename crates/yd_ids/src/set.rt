@@ -1,6 +1,6 @@
 //! Delete sets: finite sets of ids.
 
-ghost use Rattle.std.specs.Prelude.{◌≡◌, ◌↔◌, [], IsTrue, IfOk, OnOk, OnErr};
+ghost use Rattle.std.specs.Prelude.{◌≡◌, ◌↔◌, ◌<◌, [], IsTrue, IfOk, OnOk, OnErr};
 ghost use Rattle.std.specs.Iterator.{YieldsFirst, item_count};
 ghost use Rattle.yd_ids.specs.Id.{IsId, IsSpan};
 ghost use Rattle.yd_ids.specs.Set.{HasId, AreMaximal, AddsSpan, AddsSpans, with_span, union_of};
@@ -48,8 +48,9 @@ impl IdSet {
         requires { IsSpan span }
         ensures added { OnOk result (AddsSpan self.old self.new span) }
         ensures exact { OnOk result (self.new ≡ with_span span self.old) }
-        ensures unchanged { OnErr result (self.new ≡ self.old) }
         ensures maximal { AreMaximal self.new }
+        ensures unchanged { OnErr result (self.new ≡ self.old) }
+        ensures only_some { OnErr result (0 < span.len) }
     {
         insert_in(&mut self.spans, span)?;
         Ok(())
@@ -59,8 +60,8 @@ impl IdSet {
     pub fn union(&mut self, other: &IdSet) -> Result<(), NoMemory>
         ensures added { OnOk result (AddsSpans self.old self.new other.now) }
         ensures exact { OnOk result (self.new ≡ union_of self.old other.now) }
-        ensures unchanged { OnErr result (self.new ≡ self.old) }
         ensures maximal { AreMaximal self.new }
+        ensures unchanged { OnErr result (self.new ≡ self.old) }
     {
         let spans = united(*self.spans.allocator(), &self.spans, &other.spans)?;
         self.spans = spans;

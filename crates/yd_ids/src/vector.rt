@@ -53,15 +53,16 @@ impl Vector {
         clock_in(&self.entries, client)
     }
 
-    /// Raises the client's clock to this one, if it is lower; otherwise it takes no memory. It takes time
-    /// as `get` does, and where the client is new, also that of moving the clients behind it.
+    /// Raises the client's clock to this one, if it is lower. It takes memory only for a client that is
+    /// new, and time as `get` does, for such a client also that of moving the clients behind it.
     pub fn raise(&mut self, client: Client, clock: u64) -> Result<(), NoMemory>
         requires is_client { IsClient client }
         requires is_clock { IsClock clock }
         ensures raised { OnOk result (RaisesOnly self.old self.new client.0 clock) }
         ensures exact { OnOk result (self.new ≡ with_clock (client, clock) self.old) }
-        ensures unchanged { OnErr result (self.new ≡ self.old) }
         ensures vector { IsVector self.new }
+        ensures unchanged { OnErr result (self.new ≡ self.old) }
+        ensures only_new { OnErr result ((clock_of self.old client.0 ≡ 0) × (0 < clock)) }
     {
         raise_in(&mut self.entries, client, clock)?;
         Ok(())
@@ -153,8 +154,9 @@ fn raise_in(entries: &mut Vec<(Client, u64)>, client: Client, clock: u64) -> Res
     requires is_clock { IsClock clock }
     requires vector { IsVector entries.old.items }
     ensures raised { OnOk result (RaisesOnly entries.old.items entries.new.items client.0 clock) }
-    ensures unchanged { OnErr result (entries.new.items ≡ entries.old.items) }
     ensures kept { IsVector entries.new.items }
+    ensures unchanged { OnErr result (entries.new.items ≡ entries.old.items) }
+    ensures only_new { OnErr result ((clock_of entries.old.items client.0 ≡ 0) × (0 < clock)) }
 {
     let at = place(entries, client);
     if is_at(entries, at, client) {
