@@ -1,5 +1,5 @@
 -- An insertion: the span is joined with one after another, and is put between the others.
-use Rattle.std.proofs.Common.{◌≡◌, ℕ, suc, ◌+◌, ◌<◌, ◌≤◌, ◌⊎◌, ◌↔◌, List, [], ◌∷◌, ◌++◌, length, get_or, take, drop, inl, inr, sym, subst, arith}
+use Rattle.std.proofs.Common.{◌≡◌, ℕ, ◌+◌, ◌<◌, ◌≤◌, ◌⊎◌, ◌↔◌, List, ◌∷◌, ◌++◌, length, get_or, take, drop, inl, inr, sym, subst, arith}
 use Rattle.std.proofs.lemmas.List.{drop_more, take-append-drop}
 use Rattle.yd_ids.specs.declared.id.Id.{Id}
 use Rattle.yd_ids.specs.declared.id.Span.{Span}
@@ -52,7 +52,7 @@ joining_goes_on xs from s to w d m j lt touches =
       bound = (omega arith, omega arith);
       is_span = (joined_span w (get_or xs to d) j.is_span.0 (span_at xs to d m lt).0, joined_some w (get_or xs to d) j.is_span.1);
       before = each_both (λ u. EndsBefore u w) (λ u. EndsBefore u (get_or xs to d)) (λ u. EndsBefore u (joined w (get_or xs to d))) (λ u p q. before_joined u w (get_or xs to d) same p q) (take from xs) j.before
-        (before_at xs from to d m bound.0 lt);
+          (before_at xs from to d m bound.0 lt);
       behind = each_weaker (λ next. Reaches next w.client.0 w.clock) (λ next. Reaches next (joined w (get_or xs to d)).client.0 (joined w (get_or xs to d)).clock) (λ u p. reaches_joined u w (get_or xs to d) p) (drop (to + 1) xs) behind.1;
       ids = λ id. regroup (subst (λ ys. (InSpan w id ⊎ HasId ys id) ↔ (InSpan s id ⊎ HasId (drop from xs) id)) rest (j.ids id)) (in_joined w (get_or xs to d) id touches behind.0);
     }

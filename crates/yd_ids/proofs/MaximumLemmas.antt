@@ -1,6 +1,6 @@
 -- State vectors: what their maximum has.
-use Rattle.std.proofs.Common.{◌≡◌, ◌≢◌, ℕ, ◌<◌, ◌≤◌, ◌⊎◌, max, Bool, true, false, cond, List, [], ◌∷◌, inl, inr, refl, sym, ap, ◌∙◌, subst, arith, nat_eq, nat_lt}
-use Rattle.std.proofs.lemmas.Bool.{ltb-true, ltb-false, eqb-true, eqb-false, eq-eqb, ne_eqb, cases_lt}
+use Rattle.std.proofs.Common.{◌≡◌, ◌≢◌, ℕ, ◌<◌, max, Bool, true, false, cond, List, [], ◌∷◌, refl, sym, ap, ◌∙◌, subst, arith, nat_eq, nat_lt}
+use Rattle.std.proofs.lemmas.Bool.{ltb-true, ltb-false, eqb-true, eqb-false, eq-eqb, ne_eqb}
 use Rattle.yd_ids.specs.declared.id.Client.{Client}
 use Rattle.yd_ids.specs.Each.{Each}
 use Rattle.yd_ids.specs.Id.{IsClient, IsClock}
@@ -119,10 +119,10 @@ maximum_again ls v = sym (maximum_alone ls ls ls v v v (λ c. omega arith))
 pub maximum_groups : (ls rs ks : List Entry) → IsVector ls → IsVector rs → IsVector ks → maximum_of (maximum_of ls rs) ks ≡ maximum_of ls (maximum_of rs ks)
 maximum_groups ls rs ks v w x =
     maximum_alone ls (maximum_of (maximum_of ls rs) ks) (maximum_of rs ks) v (maximum_vector (maximum_of ls rs) ks (maximum_vector ls rs v w) x) (maximum_vector rs ks w x) (λ c.
-      let f = maximum_clocks (maximum_of ls rs) ks c (maximum_vector ls rs v w) x in
-      let g = maximum_clocks ls rs c v w in
-      let h = maximum_clocks rs ks c w x in
-      omega arith)
+    let f = maximum_clocks (maximum_of ls rs) ks c (maximum_vector ls rs v w) x in
+    let g = maximum_clocks ls rs c v w in
+    let h = maximum_clocks rs ks c w x in
+    omega arith)
 
 -- a vector that differs from another in one raised clock
 pub raise_alone : (old new : List Entry) (client : Client) (clock : ℕ) → IsVector old → IsVector new → IsClient client → IsClock clock → RaisesOnly old new client.0 clock → new ≡ with_clock (client, clock) old

@@ -1,5 +1,5 @@
 -- Maximal spans: where an id stands among them, and what one span in place of some keeps.
-use Rattle.std.proofs.Common.{◌≡◌, ℕ, zero, suc, ◌+◌, ◌<◌, ◌≤◌, ◌⊎◌, ◌↔◌, true, false, List, [], ◌∷◌, ◌++◌, length, get_or, take, drop, inl, inr, refl, sym, subst, arith}
+use Rattle.std.proofs.Common.{◌≡◌, ℕ, zero, suc, ◌+◌, ◌<◌, ◌≤◌, ◌⊎◌, ◌↔◌, List, [], ◌∷◌, ◌++◌, length, get_or, take, drop, inl, inr, subst, arith}
 use Rattle.std.specs.List.Sorted.{IsPartitionedBy}
 use Rattle.std.proofs.lemmas.Bool.{cases_lt}
 use Rattle.std.proofs.lemmas.List.{get_or_default}
@@ -7,7 +7,7 @@ use Rattle.yd_ids.specs.declared.id.Id.{Id}
 use Rattle.yd_ids.specs.declared.id.Span.{Span}
 use Rattle.yd_ids.specs.Each.{Each}
 use Rattle.yd_ids.specs.Id.{IsSpan}
-use Rattle.yd_ids.specs.Set.{HasId, AreMaximal, AddsSpan, AddsSpans}
+use Rattle.yd_ids.specs.Set.{HasId, AreMaximal, AddsSpan}
 use Rattle.yd_ids.specs.Span.{InSpan, EndsBelow, Reaches, ends_below, EndsBefore, BeginsBy}
 use Rattle.yd_ids.proofs.EachLemmas.{each_weaker, each_append, each_at}
 use Rattle.yd_ids.proofs.SpanLemmas.{below_true, below_is, below_through, through, by_through, by_flipped, below_none, behind_none, in_reaches}
@@ -109,7 +109,8 @@ has_none (x ∷ xs) (suc n) id le p (inr h) = has_none xs n id (omega arith) p.1
 pub maximal_around : (front : List Span) (w : Span) (back : List Span) → AreMaximal front → AreMaximal back → IsSpan w → 0 < w.len → Each (λ u. EndsBefore u w) front → Each (EndsBefore w) back → AreMaximal (front ++ w ∷ back)
 maximal_around [] w back m n is some p q = (is, some, q, n)
 maximal_around (x ∷ front) w back m n is some p q = (
-  m.0, m.1,
+  m.0,
+  m.1,
   each_append (EndsBefore x) front (w ∷ back) m.2 (p.0, each_weaker (EndsBefore w) (EndsBefore x) (λ u e. through x w u p.0 e) back q),
   maximal_around front w back m.3 n is some p.1 q,
 )

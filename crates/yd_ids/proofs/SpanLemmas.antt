@@ -1,5 +1,5 @@
 -- Two spans: what their tests say, and what joining two that touch keeps.
-use Rattle.std.proofs.Common.{◌≡◌, ℕ, suc, ◌+◌, ◌-◌, ◌<◌, ◌≤◌, ◌⊎◌, ◌↔◌, min, max, Bool, true, false, not, IsTrue, ◌||◌, ◌&&◌, inl, inr, refl, sym, ◌∙◌, arith, nat_eq, nat_lt}
+use Rattle.std.proofs.Common.{◌≡◌, ℕ, ◌+◌, ◌<◌, ◌≤◌, ◌⊎◌, ◌↔◌, Bool, true, false, ◌||◌, ◌&&◌, inl, inr, refl, sym, arith, nat_eq, nat_lt}
 use Rattle.std.proofs.lemmas.Bool.{cases_lt, ltb-true, ltb-false, lt-ltb, le-ltb, eq-eqb, eqb-true, eqb-false}
 use Rattle.yd_ids.specs.declared.id.Id.{Id}
 use Rattle.yd_ids.specs.declared.id.Span.{Span}
@@ -135,8 +135,7 @@ in_right s t id e i = (omega arith, omega arith, omega arith)
 -- the joined span has the ids of both
 pub in_joined : (s t : Span) (id : Id) → Reaches s t.client.0 t.clock → Reaches t s.client.0 s.clock → InSpan (joined s t) id ↔ (InSpan s id ⊎ InSpan t id)
 in_joined s t id p q =
-    let e = touch_client s t p q in
-    (
+    let e = touch_client s t p q in (
       (λ i. in_either s t id e (reach s t.client.0 t.clock e p) (reach t s.client.0 s.clock (sym e) q) i),
       (λ i. elim i [ inl a ↦ in_left s t id a | inr b ↦ in_right s t id e b ]),
     )

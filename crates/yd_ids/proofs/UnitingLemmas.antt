@@ -10,7 +10,7 @@ use Rattle.yd_ids.specs.Span.{InSpan, Reaches, ends_below, EndsBefore, BeginsBy,
 use Rattle.yd_ids.specs.Uniting.{with_last}
 use Rattle.yd_ids.proofs.EachLemmas.{each_weaker, each_both}
 use Rattle.yd_ids.proofs.SetLemmas.{span_at, maximal_back}
-use Rattle.yd_ids.proofs.SpanLemmas.{below_true, below_false, before_by, before_begins, by_reaches, through, touch_client, joined_span, joined_some, before_joined, joined_by, in_joined}
+use Rattle.yd_ids.proofs.SpanLemmas.{below_true, below_false, before_by, before_begins, by_reaches, touch_client, joined_span, joined_some, before_joined, joined_by, in_joined}
 
 -- ---- the code's two ways
 
@@ -126,7 +126,10 @@ uniting_begins left right both e = subst (λ zs. IsUniting left right zs 0 0) (s
   where
     begun : IsUniting left right [] 0 0
     begun = record {
-      bound = (omega arith, omega arith); maximal = tt; left_order = none_before left; right_order = none_before right;
+      bound = (omega arith, omega arith);
+      maximal = tt;
+      left_order = none_before left;
+      right_order = none_before right;
       ids = λ id. ((λ h. elim h [ inl k ↦ absurd k | inr k ↦ k ]), (λ h. inr h));
     }
 

@@ -69,7 +69,7 @@ set_vector (x ∷ xs) (suc n) d v h lt e some clock =
 
 -- the entry with the greater clock
 pub raised_vector : (xs : List Entry) (n : ℕ) (d v : Entry) (clock : ℕ) → IsVector xs → IsClock clock → n < length xs → (get_or xs n d).0.0 ≡ v.0.0 → v.1 ≡ max (get_or xs n d).1 clock → IsVector (set xs n v)
-raised_vector xs n d v clock h bound lt e f = 
+raised_vector xs n d v clock h bound lt e f =
     let here = clock_at xs n d h lt in
     let some = here.0 in
     let small = here.1 in

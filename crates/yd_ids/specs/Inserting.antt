@@ -1,5 +1,5 @@
 -- An insertion step by step: the span's place, and what it is joined with (own).
-use Rattle.std.specs.Prelude.{◌≡◌, ◌↔◌, ℕ, ◌+◌, ◌<◌, ◌≤◌, ◌⊎◌, List, length, take, drop}
+use Rattle.std.specs.Prelude.{◌↔◌, ℕ, ◌<◌, ◌≤◌, ◌⊎◌, List, length, take, drop}
 use Rattle.yd_ids.specs.declared.id.Id.{Id}
 use Rattle.yd_ids.specs.declared.id.Span.{Span}
 use Rattle.yd_ids.specs.Each.{Each}

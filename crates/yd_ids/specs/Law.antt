@@ -1,5 +1,5 @@
 -- The laws of state vectors and delete sets.
-use Rattle.std.specs.Prelude.{◌≡◌, ◌↔◌, ℕ, max, ◌<◌, ◌⊎◌, List, [], ◌∷◌}
+use Rattle.std.specs.Prelude.{◌≡◌, ◌↔◌, ℕ, max, ◌<◌, List, [], ◌∷◌}
 use Rattle.yd_ids.specs.declared.id.Client.{Client}
 use Rattle.yd_ids.specs.declared.id.Id.{Id}
 use Rattle.yd_ids.specs.declared.id.Span.{Span}

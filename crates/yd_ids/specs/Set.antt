@@ -1,5 +1,5 @@
 -- Sets of ids as their maximal spans, in order (Yjs, delete set).
-use Rattle.std.specs.Prelude.{◌≡◌, ◌↔◌, ℕ, ◌<◌, ◌⊎◌, List, [], ◌∷◌, if◌then◌else◌, nat_eq}
+use Rattle.std.specs.Prelude.{◌↔◌, ◌<◌, ◌⊎◌, List, [], ◌∷◌, if◌then◌else◌, nat_eq}
 use Rattle.yd_ids.specs.declared.id.Id.{Id}
 use Rattle.yd_ids.specs.declared.id.Span.{Span}
 use Rattle.yd_ids.specs.Each.{Each}

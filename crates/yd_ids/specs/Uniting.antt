@@ -1,5 +1,5 @@
 -- A union step by step: one span more behind others (own).
-use Rattle.std.specs.Prelude.{◌<◌, List, [], ◌∷◌, if◌then◌else◌}
+use Rattle.std.specs.Prelude.{List, [], ◌∷◌, if◌then◌else◌}
 use Rattle.yd_ids.specs.declared.id.Span.{Span}
 use Rattle.yd_ids.specs.Span.{ends_below, joined}
 

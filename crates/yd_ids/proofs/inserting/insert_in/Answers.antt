@@ -1,5 +1,4 @@
 use Rattle.std.proofs.Common.{sym, subst}
-use Rattle.yd_ids.specs.Inserting.{JoinsUpTo}
 use Rattle.yd_ids.specs.Set.{AreMaximal, AddsSpan}
 use Rattle.yd_ids.proofs.InsertingLemmas.{inserted_maximal, inserted_ids}
 use Rattle.yd_ids.proofs.inserting.insert_in.Goals as goal

@@ -1,7 +1,5 @@
 use Rattle.std.proofs.Common.{◌≡◌, Bool, true, false, not, refl, sym, ◌∙◌}
 use Rattle.std.specs.Bool.{OnFalse}
-use Rattle.yd_ids.specs.Each.{Each}
-use Rattle.yd_ids.specs.Span.{EndsBefore}
 use Rattle.yd_ids.proofs.SetLemmas.{ends_from}
 use Rattle.yd_ids.proofs.SpanLemmas.{below_true}
 use Rattle.yd_ids.proofs.inserting.touches_at.Goals as goal

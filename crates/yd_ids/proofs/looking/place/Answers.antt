@@ -1,4 +1,4 @@
-use Rattle.std.proofs.Common.{true, false, rules}
+use Rattle.std.proofs.Common.{rules}
 use Rattle.std.proofs.lemmas.List.Sorted.{IsPartitionPoint-from_clause}
 use Rattle.yd_ids.specs.declared.id.Span.{Span}
 use Rattle.yd_ids.specs.Span.{EndsBelow, Reaches, ends_below}

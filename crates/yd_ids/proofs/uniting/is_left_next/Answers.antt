@@ -1,9 +1,6 @@
-use Rattle.std.proofs.Common.{◌≡◌, ◌↔◌, Bool, true, false, IsTrue, refl}
+use Rattle.std.proofs.Common.{◌↔◌, Bool, true, false, IsTrue, refl}
 use Rattle.std.specs.Bool.{OnTrue, OnFalse}
-use Rattle.yd_ids.specs.Each.{Each}
-use Rattle.yd_ids.specs.Span.{BeginsBy}
 use Rattle.yd_ids.proofs.SetLemmas.{begins_all, begins_all_else}
-use Rattle.yd_ids.proofs.SpanLemmas.{by_flipped}
 use Rattle.yd_ids.proofs.uniting.is_left_next.Goals as goal
 
 on_true : {P A : Type 0} (t : Bool) → (IsTrue t ↔ P) → (P → A) → OnTrue t A
