@@ -1,5 +1,5 @@
 -- An insertion step by step: the span's place, and what it is joined with (own).
-use Rattle.std.specs.Prelude.{◌↔◌, ℕ, ◌<◌, ◌≤◌, ◌⊎◌, List, length, take, drop}
+use Rattle.std.specs.Prelude.{◌↔◌, ℕ, ◌<◌, ◌≤◌, ◌⊎◌, List, ◌∷◌, ◌++◌, length, take, drop}
 use Rattle.yd_ids.specs.declared.id.Id.{Id}
 use Rattle.yd_ids.specs.declared.id.Span.{Span}
 use Rattle.yd_ids.specs.Each.{Each}
@@ -19,3 +19,7 @@ pub record JoinsUpTo (spans : List Span) (from : ℕ) (span : Span) (to : ℕ) (
   pub before : Each (λ front. EndsBefore front whole) (take from spans)
   pub behind : Each (EndsBefore whole) (drop to spans)
   pub ids : (id : Id) → (InSpan whole id ⊎ HasId (drop to spans) id) ↔ (InSpan span id ⊎ HasId (drop from spans) id)
+
+-- the spans with one in place of those between two places
+abbrev pub with_between : List Span → ℕ → ℕ → Span → List Span
+with_between spans from to span = take from spans ++ span ∷ drop to spans

@@ -15,7 +15,11 @@ EndsBelow span client clock = (span.client.0 < client) ⊎ ((span.client.0 ≡ c
 abbrev pub Reaches : Span → ℕ → ℕ → Type 0
 Reaches span client clock = (client < span.client.0) ⊎ ((span.client.0 ≡ client) × (clock ≤ span.clock + span.len))
 
--- the same as a test
+-- one span ends where the other begins, or above
+abbrev pub ReachesInto : Span → Span → Type 0
+ReachesInto span next = Reaches span next.client.0 next.clock
+
+-- whether the span ends below
 abbrev pub ends_below : Span → ℕ → ℕ → Bool
 ends_below span client clock = nat_lt span.client.0 client || (nat_eq span.client.0 client && nat_lt (span.clock + span.len) clock)
 

@@ -1,7 +1,12 @@
--- A union step by step: one span more behind others (own).
+-- A union step by step: which span comes next, and one span more behind others (own).
 use Rattle.std.specs.Prelude.{List, [], ◌∷◌, if◌then◌else◌}
 use Rattle.yd_ids.specs.declared.id.Span.{Span}
-use Rattle.yd_ids.specs.Span.{ends_below, joined}
+use Rattle.yd_ids.specs.Each.{Each}
+use Rattle.yd_ids.specs.Span.{BeginsBy, ends_below, joined}
+
+-- the span begins where each of the others does, or before
+abbrev pub BeginsAll : List Span → Span → Type 0
+BeginsAll others span = Each (BeginsBy span) others
 
 -- the spans and one more, which is joined with the last where they touch
 abbrev pub with_last : List Span → Span → List Span

@@ -14,6 +14,14 @@ abbrev pub IsVector : List (Client × ℕ) → Type 0
 IsVector [] = Unit {0}
 IsVector (entry ∷ rest) = IsClient entry.0 × (0 < entry.1) × IsClock entry.1 × Each (λ later. entry.0.0 < later.0.0) rest × IsVector rest
 
+-- the entry is the client's
+abbrev pub IsOf : ℕ → Client × ℕ → Type 0
+IsOf client entry = entry.0.0 ≡ client
+
+-- the entry is another's
+abbrev pub IsOther : ℕ → Client × ℕ → Type 0
+IsOther client entry = entry.0.0 ≢ client
+
 -- the client's clock is the greater of both, and every other client keeps its clock
 pub record RaisesOnly (old new : List (Client × ℕ)) (client clock : ℕ) : Type 0 where
   pub this_client : clock_of new client ≡ max (clock_of old client) clock

@@ -4,8 +4,8 @@
 #[derive(Clone, Copy, Debug, PartialEq, Eq, PartialOrd, Ord)]
 pub struct Client(pub u64);
 
-/// The id of one unit: its client, and its place among that client's units. Ids are in order of their
-/// clients, then of their clocks.
+/// The id of one unit: its client, and its place among that client's units. Ids are in order of
+/// their clients, then of their clocks.
 #[derive(Clone, Copy, Debug, PartialEq, Eq, PartialOrd, Ord)]
 pub struct Id {
     /// Who made the unit.

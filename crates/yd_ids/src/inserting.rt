@@ -5,9 +5,9 @@ ghost use Rattle.std.specs.Bool.{OnTrue, OnFalse};
 ghost use Rattle.std.specs.List.{HoldsAt};
 ghost use Rattle.yd_ids.specs.Each.{Each};
 ghost use Rattle.yd_ids.specs.Id.{IsSpan};
-ghost use Rattle.yd_ids.specs.Inserting.{IsPlace, JoinsUpTo};
+ghost use Rattle.yd_ids.specs.Inserting.{IsPlace, JoinsUpTo, with_between};
 ghost use Rattle.yd_ids.specs.Set.{AreMaximal, AddsSpan};
-ghost use Rattle.yd_ids.specs.Span.{EndsBefore, Reaches};
+ghost use Rattle.yd_ids.specs.Span.{EndsBefore, ReachesInto};
 
 use crate::fault::NoMemory;
 use crate::id::Span;
@@ -32,7 +32,7 @@ pub fn insert_in(spans: &mut Vec<Span>, span: Span) -> Result<(), NoMemory>
     Ok(())
 }
 
-/// The span joined with those from a place on that it touches, and where the first stands that it does not.
+/// The span joined with those from a place on that it touches, and where the first other one stands.
 fn joined_from(spans: &[Span], from: usize, span: Span) -> (usize, Span)
     requires maximal { AreMaximal spans.now }
     requires is_span { IsSpan span × (0 < span.len) }
@@ -53,7 +53,7 @@ fn joined_from(spans: &[Span], from: usize, span: Span) -> (usize, Span)
 fn touches_at(spans: &[Span], at: usize, span: Span) -> bool
     requires { AreMaximal spans.now }
     ensures inside { OnTrue result (at < length spans.now) }
-    ensures touches { OnTrue result (HoldsAt (λ next. Reaches span next.client.0 next.clock) spans.now at) }
+    ensures touches { OnTrue result (HoldsAt (ReachesInto span) spans.now at) }
     ensures ends { OnFalse result (Each (EndsBefore span) (drop at spans.now)) }
 {
     at < spans.len() && !ends_below(span, spans[at].client.0, spans[at].clock)
@@ -62,7 +62,7 @@ fn touches_at(spans: &[Span], at: usize, span: Span) -> bool
 /// Puts one span in place of those between two places.
 fn replace(spans: &mut Vec<Span>, from: usize, to: usize, span: Span) -> Result<(), NoMemory>
     requires bound { (from ≤ to) × (to ≤ length spans.old.items) }
-    ensures done { OnOk result (spans.new.items ≡ take from spans.old.items ++ span ∷ drop to spans.old.items) }
+    ensures done { OnOk result (spans.new.items ≡ with_between spans.old.items from to span) }
     ensures unchanged { OnErr result (spans.new.items ≡ spans.old.items) }
 {
     if from == to {

@@ -1,8 +1,8 @@
 //! State vectors and delete sets: the clock that each client has reached, and finite sets of ids.
 //!
-//! Joining is maximum and union, so the order of joins and repeats do not matter ([`law`]). Clients,
-//! clocks and the ends of spans are below 2^53: each call requires it of what it takes and keeps it in
-//! what it gives. A call that finds no memory leaves the value as it was.
+//! Joining is maximum and union, so the order of joins and repeats do not matter ([`law`]).
+//! Clients, clocks and the ends of spans are below 2^53: each call requires it of what it takes and
+//! keeps it in what it gives. A call that finds no memory leaves the value as it was.
 //!
 //! ```rust
 //! let mut reached = Vector::new(alloc);

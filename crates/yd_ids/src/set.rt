@@ -42,8 +42,8 @@ impl IdSet {
         }
     }
 
-    /// Adds the span's ids; a span of length 0 has none. It takes time with the logarithm of how many
-    /// spans there are, and that of moving the spans behind.
+    /// Adds the span's ids; a span of length 0 has none. It takes time with the logarithm of how
+    /// many spans there are, and that of moving the spans behind.
     pub fn insert(&mut self, span: Span) -> Result<(), NoMemory>
         requires { IsSpan span }
         ensures added { OnOk result (AddsSpan self.old self.new span) }

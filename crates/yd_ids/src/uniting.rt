@@ -3,11 +3,9 @@
 ghost use Rattle.std.specs.Prelude.{◌≡◌, ◌<◌, ◌⊎◌, length, drop, IfOk, OnOk};
 ghost use Rattle.std.specs.Bool.{OnTrue, OnFalse};
 ghost use Rattle.std.specs.List.{HoldsAt};
-ghost use Rattle.yd_ids.specs.Each.{Each};
 ghost use Rattle.yd_ids.specs.Id.{IsSpan};
 ghost use Rattle.yd_ids.specs.Set.{AreMaximal, AddsSpans};
-ghost use Rattle.yd_ids.specs.Span.{BeginsBy};
-ghost use Rattle.yd_ids.specs.Uniting.{with_last};
+ghost use Rattle.yd_ids.specs.Uniting.{BeginsAll, with_last};
 
 use crate::fault::NoMemory;
 use crate::id::Span;
@@ -42,9 +40,9 @@ fn is_left_next(left: &[Span], i: usize, right: &[Span], j: usize) -> bool
     requires right { AreMaximal right.now }
     requires some { (i < length left.now) ⊎ (j < length right.now) }
     ensures left_inside { OnTrue result (i < length left.now) }
-    ensures left_first { OnTrue result (HoldsAt (λ span. Each (BeginsBy span) (drop j right.now)) left.now i) }
+    ensures left_first { OnTrue result (HoldsAt (BeginsAll (drop j right.now)) left.now i) }
     ensures right_inside { OnFalse result (j < length right.now) }
-    ensures right_first { OnFalse result (HoldsAt (λ span. Each (BeginsBy span) (drop i left.now)) right.now j) }
+    ensures right_first { OnFalse result (HoldsAt (BeginsAll (drop i left.now)) right.now j) }
 {
     i < left.len() && (j >= right.len() || begins_by(left[i], right[j]))
 }

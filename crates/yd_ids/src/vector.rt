@@ -7,7 +7,7 @@ ghost use Rattle.std.specs.Iterator.{YieldsFirst, item_count};
 ghost use Rattle.yd_ids.specs.declared.id.Client.{Client};
 ghost use Rattle.yd_ids.specs.Each.{Each};
 ghost use Rattle.yd_ids.specs.Id.{IsClient, IsClock};
-ghost use Rattle.yd_ids.specs.Vector.{clock_of, IsVector, RaisesOnly, with_clock};
+ghost use Rattle.yd_ids.specs.Vector.{clock_of, IsVector, RaisesOnly, IsOf, IsOther, with_clock};
 
 use crate::fault::NoMemory;
 use crate::id::Client;
@@ -43,8 +43,8 @@ impl Vector {
         }
     }
 
-    /// The clock that the client has reached, which is also the clock of its next unit. It takes time
-    /// with the logarithm of how many clients there are.
+    /// The clock that the client has reached, which is also the clock of its next unit. It takes
+    /// time with the logarithm of how many clients there are.
     pub fn get(&self, client: Client) -> u64
         requires { IsClient client }
         ensures reached { result ≡ clock_of self.now client.0 }
@@ -53,8 +53,8 @@ impl Vector {
         clock_in(&self.entries, client)
     }
 
-    /// Raises the client's clock to this one, if it is lower. It takes memory only for a client that is
-    /// new, and time as `get` does, for such a client also that of moving the clients behind it.
+    /// Raises the client's clock to this one, if it is lower. It takes memory only for a client that
+    /// is new, and time as `get` does, for such a client also that of moving the clients behind it.
     pub fn raise(&mut self, client: Client, clock: u64) -> Result<(), NoMemory>
         requires is_client { IsClient client }
         requires is_clock { IsClock clock }
@@ -68,7 +68,7 @@ impl Vector {
         Ok(())
     }
 
-    /// Each client that has a clock above 0, with that clock, clients descending. It takes no memory.
+    /// Each client with a clock above 0, and that clock, clients descending. It takes no memory.
     pub fn iter(&self) -> VectorIter<'_>
         ensures descending { result ≡ reverse self.now }
         ensures vector { IsVector self.now }
@@ -129,8 +129,8 @@ fn place(entries: &[(Client, u64)], client: Client) -> usize
 /// The client's entry is at this place.
 fn is_at(entries: &[(Client, u64)], at: usize, client: Client) -> bool
     ensures inside { OnTrue result (at < length entries.now) }
-    ensures found { OnTrue result (HoldsAt (λ entry. entry.0.0 ≡ client.0) entries.now at) }
-    ensures other { OnFalse result (at < length entries.now → HoldsAt (λ entry. entry.0.0 ≢ client.0) entries.now at) }
+    ensures found { OnTrue result (HoldsAt (IsOf client.0) entries.now at) }
+    ensures other { OnFalse result (at < length entries.now → HoldsAt (IsOther client.0) entries.now at) }
 {
     at < entries.len() && entries[at].0.0 == client.0
 }
