@@ -9,7 +9,7 @@ number_tree (unsigned n) = whole (pos n)
 number_tree (negative z) = whole z
 number_tree (float x) = undefined
 
--- kind by kind the same
+-- kind by kind the same, but for floats
 abbrev mutual
   pub data_tree : Data → AnyTree
   data_tree Data.null = null

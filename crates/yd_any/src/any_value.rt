@@ -1,9 +1,10 @@
 //! Any-values, and the lists and pairs that hold them.
 
-ghost use Rattle.std.specs.Prelude.{◌≡◌, IfOk, OnOk, OnErr};
+ghost use Rattle.std.specs.Prelude.{◌≡◌, IsTrue, IfOk, OnOk, OnErr};
 ghost use Rattle.yd_any.specs.Tree.{no_trees, no_fields, with_last, with_last_field};
 ghost use Rattle.yd_any.specs.AnyView.{any_tree, any_trees, any_fields};
 ghost use Rattle.yd_any.specs.AnyView.{items_trees, entries_fields};
+ghost use Rattle.yd_any.specs.Valid.{is_valid_any};
 
 use crate::blob::Blob;
 use crate::fault::NoMemory;
@@ -62,8 +63,9 @@ impl AnyList {
         }
     }
 
-    /// Appends a value.
+    /// Appends a value. One that finds no memory is dropped.
     pub fn push(&mut self, item: Any) -> Result<(), NoMemory>
+        requires { IsTrue (is_valid_any (any_tree item)) }
         ensures appended { OnOk result (any_trees self.new
             ≡ with_last (any_trees self.old) (any_tree item)) }
         ensures unchanged { OnErr result (any_trees self.new ≡ any_trees self.old) }
@@ -89,8 +91,9 @@ impl AnyPairs {
         }
     }
 
-    /// Appends a key with its value.
+    /// Appends a key with its value. What finds no memory is dropped.
     pub fn push(&mut self, item: (Text, Any)) -> Result<(), NoMemory>
+        requires { IsTrue (is_valid_any (any_tree item.1)) }
         ensures appended { OnOk result (any_fields self.new
             ≡ with_last_field (any_fields self.old) item.0 (any_tree item.1)) }
         ensures unchanged { OnErr result (any_fields self.new ≡ any_fields self.old) }
@@ -130,6 +133,7 @@ fn push_entry(items: &mut Vec<(Text, Any)>, item: (Text, Any)) -> Result<(), NoM
 impl Any {
     /// The same value once more.
     pub fn copy(&self) -> Result<Any, NoMemory>
+        requires { IsTrue (is_valid_any (any_tree self.now)) }
         ensures { IfOk result (λ v. any_tree v ≡ any_tree self.now) }
     {
         copy(self)

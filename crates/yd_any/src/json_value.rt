@@ -2,7 +2,7 @@
 
 ghost use Rattle.std.specs.Prelude.{◌≡◌, IsTrue, IfOk, OnOk, OnErr};
 ghost use Rattle.yd_any.specs.Tree.{no_trees, no_fields, with_last, with_last_field, last_key};
-ghost use Rattle.yd_any.specs.Valid.{is_above};
+ghost use Rattle.yd_any.specs.Valid.{is_above, is_valid_json};
 ghost use Rattle.yd_any.specs.JsonView.{json_tree, json_trees, json_fields};
 ghost use Rattle.yd_any.specs.JsonView.{items_trees, entries_fields};
 
@@ -52,8 +52,9 @@ impl JsonList {
         }
     }
 
-    /// Appends a value.
+    /// Appends a value. One that finds no memory is dropped.
     pub fn push(&mut self, item: Json) -> Result<(), NoMemory>
+        requires { IsTrue (is_valid_json (json_tree item)) }
         ensures appended { OnOk result (json_trees self.new
             ≡ with_last (json_trees self.old) (json_tree item)) }
         ensures unchanged { OnErr result (json_trees self.new ≡ json_trees self.old) }
@@ -79,9 +80,10 @@ impl JsonFields {
         }
     }
 
-    /// Appends a key, which is above the last one, with its value.
+    /// Appends a key, which is above the last one, with its value. What finds no memory is dropped.
     pub fn push(&mut self, item: (Text, Json)) -> Result<(), NoMemory>
-        requires { IsTrue (is_above (last_key (json_fields self.old)) item.0) }
+        requires above { IsTrue (is_above (last_key (json_fields self.old)) item.0) }
+        requires valid { IsTrue (is_valid_json (json_tree item.1)) }
         ensures appended { OnOk result (json_fields self.new
             ≡ with_last_field (json_fields self.old) item.0 (json_tree item.1)) }
         ensures unchanged { OnErr result (json_fields self.new ≡ json_fields self.old) }
@@ -121,6 +123,7 @@ fn push_entry(items: &mut Vec<(Text, Json)>, item: (Text, Json)) -> Result<(), N
 impl Json {
     /// The same value once more.
     pub fn copy(&self) -> Result<Json, NoMemory>
+        requires { IsTrue (is_valid_json (json_tree self.now)) }
         ensures { IfOk result (λ v. json_tree v ≡ json_tree self.now) }
     {
         copy(self)

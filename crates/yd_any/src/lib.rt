@@ -3,7 +3,7 @@
 //! Each value stands for a plain tree, and every clause speaks of that tree. A call that makes a
 //! JSON value tells a fault exactly where there is one, depth before numbers, and what it answers
 //! is valid. The text of a JSON value is read as that value. A call that finds no memory leaves
-//! what it was given as it was.
+//! what it was lent as it was, and drops what it was given.
 //!
 //! ```rust
 //! let value = json_of_text(alloc, "{\"b\":1,\"a\":2,\"b\":3}")?;

@@ -53,64 +53,88 @@ fn nested(alloc: Global, count: u32) -> Result<String, Fail> {
 }
 
 #[test]
-fn any_values_are_printed(rt: HostRuntime) -> Result<(), Fail> {
+fn any_values_of_each_kind_are_copied_and_printed(rt: HostRuntime) -> Result<(), Fail> {
+    let alloc = rt.alloc();
+    let mut list = AnyList::new(alloc);
+    list.push(Any::Undefined)?;
+    list.push(Any::Null)?;
+    list.push(Any::Flag(false))?;
+    list.push(Any::Raw4([1, 2, 3, 0xff]))?;
+    list.push(Any::Raw8([0x42, 0x78, 0xbc, 0xfe, 0x56, 0x80, 0, 0]))?;
+    list.push(Any::Big(-1))?;
+    list.push(Any::Blob(Blob::copy_of(alloc, &[1, 255])?))?;
+    list.push(Any::Pairs(AnyPairs::new(alloc)))?;
+    assert_eq!(rt; list.as_slice().len(), 8);
+    let text =
+        "[{\"$undefined\":true},null,false,{\"$raw4\":\"010203ff\"},{\"$raw8\":\"4278bcfe56800000\"},{\"$big\":\"-1\"},{\"$blob\":\"01ff\"},{}]";
+    prints(&rt, &Any::List(list), text)
+}
+
+#[test]
+fn pairs_keep_their_order_and_are_carried_by_their_last_keys(rt: HostRuntime) -> Result<(), Fail> {
     let alloc = rt.alloc();
     let mut pairs = AnyPairs::new(alloc);
     pairs.push((Text::copy_of(alloc, "a")?, Any::Undefined))?;
     pairs.push((Text::copy_of(alloc, "b")?, Any::Big(-1)))?;
     assert_eq!(rt; pairs.as_slice().len(), 2);
-    assert_prints(
-        &rt,
-        &Any::Pairs(pairs),
-        "{\"a\":{\"$undefined\":true},\"b\":{\"$big\":\"-1\"}}",
-    )?;
-    let mut list = AnyList::new(alloc);
-    list.push(Any::Raw8([0x42, 0x78, 0xbc, 0xfe, 0x56, 0x80, 0, 0]))?;
-    list.push(Any::Blob(Blob::copy_of(alloc, &[1, 255])?))?;
-    list.push(Any::Str(Text::copy_of(alloc, "\n\u{1f}\"")?))?;
-    assert_eq!(rt; list.as_slice().len(), 3);
-    let list = Any::List(list).copy()?;
-    let text = "[{\"$raw8\":\"4278bcfe56800000\"},{\"$blob\":\"01ff\"},\"\\n\\u001f\\\"\"]";
-    assert_prints(&rt, &list, text)
+    let text = "{\"a\":{\"$undefined\":true},\"b\":{\"$big\":\"-1\"}}";
+    prints(&rt, &Any::Pairs(pairs), text)?;
+    let mut pairs = AnyPairs::new(alloc);
+    pairs.push((Text::copy_of(alloc, "b")?, Any::Whole(1)))?;
+    pairs.push((
+        Text::copy_of(alloc, "a")?,
+        Any::Str(Text::copy_of(alloc, "x")?),
+    ))?;
+    pairs.push((Text::copy_of(alloc, "b")?, Any::Flag(true)))?;
+    is_carried(&rt, &Any::Pairs(pairs), "{\"a\":\"x\",\"b\":true}")
 }
 
-fn assert_prints(rt: &(impl Abort + AllocGlobal), value: &Any, want: &str) -> Result<(), Fail> {
-    let mut out = Vec::new(rt.alloc());
+fn prints(rt: &(impl Abort + AllocGlobal), value: &Any, want: &str) -> Result<(), Fail> {
     assert!(rt; value.is_valid());
-    print_any(value, &mut out)?;
+    let copy = value.copy()?;
+    assert!(rt; copy.is_valid());
+    let mut out = Vec::new(rt.alloc());
+    print_any(&copy, &mut out)?;
     assert_eq!(rt; out.as_slice(), want.as_bytes());
     Ok(())
 }
 
-#[test]
-fn values_go_from_any_to_json_and_back(rt: HostRuntime) -> Result<(), Fail> {
-    let alloc = rt.alloc();
-    let wide = json_of_any(alloc, &Any::Whole(2_147_483_648)).err();
-    assert_eq!(rt; wide, Some(JsonFault::NumberNotCarried));
-    let undefined = json_of_any(alloc, &Any::Undefined).err();
-    assert_eq!(rt; undefined, Some(JsonFault::NumberNotCarried));
-    let json = json_of_any(alloc, &Any::Whole(-5))?;
-    let any = any_of_json(alloc, &json)?;
-    assert!(rt; matches!(any, Any::Whole(-5)));
-    Ok(())
+fn is_carried(rt: &(impl Abort + AllocGlobal), value: &Any, want: &str) -> Result<(), Fail> {
+    assert!(rt; value.is_valid());
+    let json = json_of_any(rt.alloc(), value)?;
+    assert_eq!(rt; text_of_json(rt.alloc(), &json)?.as_str(), want);
+    let again = any_of_json(rt.alloc(), &json)?;
+    prints(rt, &again, want)
 }
 
 #[test]
-fn json_values_are_made_and_copied(rt: HostRuntime) -> Result<(), Fail> {
+fn what_json_does_not_carry_is_told(rt: HostRuntime) {
+    let wide = json_of_any(rt.alloc(), &Any::Whole(2_147_483_648)).err();
+    assert_eq!(rt; wide, Some(JsonFault::NumberNotCarried));
+    let undefined = json_of_any(rt.alloc(), &Any::Undefined).err();
+    assert_eq!(rt; undefined, Some(JsonFault::NumberNotCarried));
+}
+
+#[test]
+fn json_values_of_each_kind_are_read_copied_and_written(rt: HostRuntime) -> Result<(), Fail> {
     let alloc = rt.alloc();
+    let text = "{\"a\":[null,true,-7,\"\\b\\f\\r\\t\\n\\u001f\\\\\\\"/\u{7f}\u{e9}\"],\"b\":{}}";
+    let value = serde_json::Value::from_str(alloc, text)?;
+    let json = json_of_value(alloc, &value)?.copy()?;
+    assert!(rt; json.is_valid());
+    assert_eq!(rt; text_of_json(alloc, &json)?.as_str(), text);
     let mut list = JsonList::new(alloc);
     list.push(Json::Null)?;
     list.push(Json::Whole(7))?;
     assert_eq!(rt; list.as_slice().len(), 2);
+    let list = Json::List(list);
+    assert!(rt; list.is_valid());
     let mut fields = JsonFields::new(alloc);
-    fields.push((Text::copy_of(alloc, "k")?, Json::List(list)))?;
+    fields.push((Text::copy_of(alloc, "k")?, list))?;
     assert_eq!(rt; fields.as_slice().len(), 1);
-    let json = Json::Fields(fields).copy()?;
+    let json = Json::Fields(fields);
     assert!(rt; json.is_valid());
     assert_eq!(rt; text_of_json(alloc, &json)?.as_str(), "{\"k\":[null,7]}");
-    let value = serde_json::Value::from_str(alloc, "[true]")?;
-    let json = json_of_value(alloc, &value)?;
-    assert_eq!(rt; text_of_json(alloc, &json)?.as_str(), "[true]");
     assert_eq!(rt; Text::copy_of(alloc, "t")?.copy()?.as_str(), "t");
     assert_eq!(rt;
         Blob::copy_of(alloc, &[1])?.copy()?.as_slice(),

@@ -57,7 +57,14 @@ fn signed_numbers_keep_the_sign_of_zero(rt: HostRuntime) {
     assert_eq!(rt; signed(&[0xc1, 0x01]), Ok(whole(true, 65)));
     assert_eq!(rt; signed(&[0x40]), Ok(whole(true, 0)));
     assert_eq!(rt; signed(&[0]), Ok(whole(false, 0)));
+    assert_eq!(rt; signed(&[0xc0, 0]), Ok(whole(true, 0)));
+    assert_eq!(rt; signed(&[0x80, 0]), Ok(whole(false, 0)));
     assert_eq!(rt; signed(&[0x80]), Err(NumFault::ShortInput(0)));
+    let too_large = Err(NumFault::NumberTooLarge(0));
+    assert_eq!(rt;
+        signed(&[128, 128, 128, 128, 128, 128, 128, 128, 0]),
+        too_large
+    );
 }
 
 #[test]
