@@ -138,3 +138,25 @@ raise_one old client clock v is some bound = maximum_commutes ((client, clock) �
 pub raise_none : (old : List Entry) (client : Client) → with_clock (client, 0) old ≡ old
 raise_none [] client = refl
 raise_none (x ∷ xs) client = refl
+
+-- one clock more, at any client
+with_clocks : (e : Entry) (xs : List Entry) (c : ℕ) → IsVector xs → clock_of (with_clock e xs) c ≡ max (clock_of xs c) (clock_of (e ∷ []) c)
+with_clocks e xs c v = go (nat_eq e.0.0 c) refl
+  where
+    go : (t : Bool) → nat_eq e.0.0 c ≡ t → clock_of (with_clock e xs) c ≡ max (clock_of xs c) (cond t e.1 0)
+    go true f = subst (λ z. clock_of (with_clock e xs) z ≡ max (clock_of xs z) e.1) (eqb-true e.0.0 c f) (with_this e xs v)
+    go false f = let same = with_other e xs c (λ s. eqb-false e.0.0 c f (sym s)) in omega arith
+
+pub raises_commute : (old : List Entry) (e f : Entry) → IsVector old → IsClient e.0 → IsClock e.1 → IsClient f.0 → IsClock f.1 → with_clock e (with_clock f old) ≡ with_clock f (with_clock e old)
+raises_commute old e f v ec ek fc fk =
+    let with_e = with_vector e old ec ek v in
+    let with_f = with_vector f old fc fk v in
+    vectors_same (with_clock e (with_clock f old)) (with_clock f (with_clock e old)) (with_vector e (with_clock f old) ec ek with_f) (with_vector f (with_clock e old) fc fk with_e) (λ c.
+    let a = with_clocks e (with_clock f old) c with_f in
+    let b = with_clocks f old c v in
+    let p = with_clocks f (with_clock e old) c with_e in
+    let q = with_clocks e old c v in
+    three (clock_of old c) (clock_of (e ∷ []) c) (clock_of (f ∷ []) c) _ _ _ _ a b p q)
+  where
+    three : (x y z a b p q : ℕ) → a ≡ max b y → b ≡ max x z → p ≡ max q z → q ≡ max x y → a ≡ p
+    three x y z a b p q h i j k = omega arith

@@ -230,3 +230,16 @@ insert_one old s m is some = union_commutes (s ∷ []) old (is, some, tt, tt) m
 pub insert_none : (old : List Span) (s : Span) → s.len ≡ 0 → with_span s old ≡ old
 insert_none [] s e = rw (eq-eqb s.len 0 e)
 insert_none (t ∷ ts) s e = rw (eq-eqb s.len 0 e)
+
+pub inserts_commute : (old : List Span) (s t : Span) → AreMaximal old → IsSpan s → IsSpan t → with_span s (with_span t old) ≡ with_span t (with_span s old)
+inserts_commute old s t m is it = sets_same (with_span s (with_span t old)) (with_span t (with_span s old)) (with_maximal s (with_span t old) is (with_maximal t old it m)) (with_maximal t (with_span s old) it (with_maximal s old is m))
+    (λ id. (over s t id, over t s id))
+  where
+    over : (u v : Span) (id : Id) → HasId (with_span u (with_span v old)) id → HasId (with_span v (with_span u old)) id
+    over u v id h = elim ((with_ids u (with_span v old) id).0 h) [
+      | inl k ↦ elim ((with_ids v old id).0 k) [
+        | inl a ↦ (with_ids v (with_span u old) id).1 (inl ((with_ids u old id).1 (inl a)))
+        | inr i ↦ (with_ids v (with_span u old) id).1 (inr i)
+      ]
+      | inr i ↦ (with_ids v (with_span u old) id).1 (inl ((with_ids u old id).1 (inr i)))
+    ]

@@ -27,11 +27,12 @@ pub record UnionsJoin : Type 0 where
   pub commutative : (a b : List Span) → AreMaximal a → AreMaximal b → union_of a b ≡ union_of b a
   pub idempotent : (a : List Span) → AreMaximal a → union_of a a ≡ a
 
--- an insertion is the union with one span, and changes nothing for a span without ids
+-- an insertion is the union with one span, it changes nothing for a span without ids, and two may come in either order
 pub record InsertionIsUnion : Type 0 where
   pub alone : (old new : List Span) (span : Span) → AreMaximal old → AreMaximal new → IsSpan span → AddsSpan old new span → new ≡ with_span span old
   pub one : (old : List Span) (span : Span) → AreMaximal old → IsSpan span → 0 < span.len → with_span span old ≡ union_of old (span ∷ [])
   pub none : (old : List Span) (span : Span) → span.len ≡ 0 → with_span span old ≡ old
+  pub any_order : (old : List Span) (first second : Span) → AreMaximal old → IsSpan first → IsSpan second → with_span first (with_span second old) ≡ with_span second (with_span first old)
 
 -- the maximum is a vector, it has the greater clock of each client, and nothing else has it as a vector
 pub record MaximumHasGreater : Type 0 where
@@ -45,8 +46,10 @@ pub record MaximaJoin : Type 0 where
   pub commutative : (a b : List (Client × ℕ)) → IsVector a → IsVector b → maximum_of a b ≡ maximum_of b a
   pub idempotent : (a : List (Client × ℕ)) → IsVector a → maximum_of a a ≡ a
 
--- a raise is the maximum with one clock, and changes nothing for clock 0
+-- a raise is the maximum with one clock, it changes nothing for clock 0, and two may come in either order
 pub record RaiseIsMaximum : Type 0 where
   pub alone : (old new : List (Client × ℕ)) (client : Client) (clock : ℕ) → IsVector old → IsVector new → IsClient client → IsClock clock → RaisesOnly old new client.0 clock → new ≡ with_clock (client, clock) old
   pub one : (old : List (Client × ℕ)) (client : Client) (clock : ℕ) → IsVector old → IsClient client → 0 < clock → IsClock clock → with_clock (client, clock) old ≡ maximum_of old ((client, clock) ∷ [])
   pub none : (old : List (Client × ℕ)) (client : Client) → with_clock (client, 0) old ≡ old
+  pub any_order : (old : List (Client × ℕ)) (first second : Client × ℕ) → IsVector old → IsClient first.0 → IsClock first.1 → IsClient second.0 → IsClock second.1 →
+      with_clock first (with_clock second old) ≡ with_clock second (with_clock first old)

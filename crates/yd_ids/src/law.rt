@@ -22,7 +22,7 @@ pub fn unions_join()
     ensures { UnionsJoin }
 {}
 
-/// An insertion is the union with one span.
+/// An insertion is the union with one span, and two may come in either order.
 pub fn insertion_is_union()
     ensures { InsertionIsUnion }
 {}
@@ -37,7 +37,7 @@ pub fn maxima_join()
     ensures { MaximaJoin }
 {}
 
-/// A raise is the maximum with one clock.
+/// A raise is the maximum with one clock, and two may come in either order.
 pub fn raise_is_maximum()
     ensures { RaiseIsMaximum }
 {}
