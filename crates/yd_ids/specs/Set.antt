@@ -24,7 +24,7 @@ AddsSpan old new span = (id : Id) → HasId new id ↔ (HasId old id ⊎ InSpan 
 abbrev pub AddsSpans : List Span → List Span → List Span → Type 0
 AddsSpans old new others = (id : Id) → HasId new id ↔ (HasId old id ⊎ HasId others id)
 
--- maximal spans and the ids of one span more, which is joined with those that it touches
+-- the maximal spans with one span more, which is joined with those that it touches, and left out if it is empty
 abbrev pub with_span : Span → List Span → List Span
 with_span span [] = if nat_eq span.len 0 then [] else span ∷ []
 with_span span (first ∷ rest) =

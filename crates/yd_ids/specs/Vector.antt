@@ -27,7 +27,7 @@ pub record RaisesOnly (old new : List (Client × ℕ)) (client clock : ℕ) : Ty
   pub this_client : clock_of new client ≡ max (clock_of old client) clock
   pub other_clients : (other : ℕ) → other ≢ client → clock_of new other ≡ clock_of old other
 
--- a vector in which one client has at least this clock
+-- the vector with a client's clock raised to this one, where clock 0 raises none
 abbrev pub with_clock : Client × ℕ → List (Client × ℕ) → List (Client × ℕ)
 with_clock entry [] = if nat_eq entry.1 0 then [] else entry ∷ []
 with_clock entry (first ∷ rest) =
