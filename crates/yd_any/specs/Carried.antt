@@ -5,8 +5,8 @@ use Rattle.std.specs.Cmp.Lexicographic.{slice_cmp}
 use Rattle.yd_any.specs.Tree.{AnyTree, AnyTrees, AnyFields, undefined, null, flag, whole, raw4, raw8, big, str, list, pairs, blob, no_trees, tree, no_fields, field}
 use Rattle.yd_any.specs.Valid.{is_small}
 
--- each value inside is of a JSON kind, and each number one that JSON values carry
 abbrev mutual
+  -- each value inside is of a JSON kind, and each number one that JSON values carry
   pub is_carried : AnyTree → Bool
   is_carried undefined = false
   is_carried null = true
@@ -35,8 +35,8 @@ abbrev pub put : List ℕ → AnyTree → AnyFields → AnyFields
 put k t no_fields = field k t no_fields
 put k t (field l u fs) = match_ordering (slice_cmp nat_cmp k l) (field k t (field l u fs)) (field l t fs) (field l u (put k t fs))
 
--- the value with the keys of each object in order, of equal keys the last one
 abbrev mutual
+  -- the value with the keys of each object in order, of equal keys the last one
   pub settled : AnyTree → AnyTree
   settled undefined = undefined
   settled null = null

@@ -9,8 +9,8 @@ number_tree (unsigned n) = whole (pos n)
 number_tree (negative z) = whole z
 number_tree (float x) = undefined
 
--- kind by kind the same, but for floats
 abbrev mutual
+  -- kind by kind the same, but for floats
   pub data_tree : Data → AnyTree
   data_tree Data.null = null
   data_tree (Data.boolean b) = flag b

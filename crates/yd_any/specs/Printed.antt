@@ -11,8 +11,8 @@ use Rattle.yd_any.specs.Tree.{AnyTree, AnyTrees, AnyFields, undefined, null, fla
 abbrev pub marked : List ℕ → Token → List Token
 marked name token = Token.begin_object ∷ Token.key name ∷ token ∷ Token.end_object ∷ []
 
--- what stands in the text of a value, from its first bracket, name or word to its last
 abbrev mutual
+  -- what stands in the text of a value, from its first bracket, name or word to its last
   pub tokens_of : AnyTree → List Token
   tokens_of undefined = marked (codes "$undefined") (Token.boolean true)
   tokens_of null = Token.null ∷ []

@@ -2,6 +2,7 @@
 use Rattle.std.specs.Prelude.{ℕ, suc, max, ℤ, List, [], ◌∷◌, Bool, Option, Some, None}
 
 mutual
+  -- an any-value of each kind that lib0 has
   pub data AnyTree : Type 0 where
     undefined : AnyTree
     null : AnyTree
@@ -25,8 +26,8 @@ mutual
     no_fields : AnyFields
     field : List ℕ → AnyTree → AnyFields → AnyFields
 
--- a scalar has depth 0, and a list or an object one more than its deepest member
 abbrev mutual
+  -- a scalar has depth 0, and a list or an object one more than its deepest member
   pub depth : AnyTree → ℕ
   depth undefined = 0
   depth null = 0

@@ -8,8 +8,8 @@ use Rattle.yd_any.specs.Tree.{AnyTree, AnyTrees, AnyFields, undefined, null, fla
 abbrev pub most_depth : ℕ
 most_depth = 100
 
--- each whole number is of magnitude at most 2^53-1
 abbrev mutual
+  -- each whole number is of magnitude at most 2^53-1
   pub is_in_range : AnyTree → Bool
   is_in_range undefined = true
   is_in_range null = true
@@ -50,8 +50,8 @@ is_above (Some last) key = is_below last key
 abbrev pub is_small : ℤ → Bool
 is_small n = nat_lt (unsigned_abs n) (2 ^ 31)
 
--- kinds and numbers of JSON alone, and the keys of each object distinct and in order
 abbrev mutual
+  -- kinds and numbers of JSON alone, and the keys of each object distinct and in order
   pub is_json : AnyTree → Bool
   is_json undefined = false
   is_json null = true

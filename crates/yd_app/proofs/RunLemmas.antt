@@ -135,6 +135,32 @@ comes_five words told = record {
   missing = λ root file asks lacks. inr (inl refl);
 }
 
+-- what can come where a file is refused
+refused_comes : (words : List (List ℕ)) (told : Option Shelf) → AsksWhere words told (λ root bytes. IsRefused bytes) → Comes words told 1
+refused_comes words told w =
+    let Holds : List ℕ → List ℕ → Type 0 = λ root bytes. IsRefused bytes in
+    record {
+      is_status = inr (inl refl);
+      no_form = λ never. absurd (never w.root w.file w.asks);
+      accepted = λ root file bytes update asks has accepted. absurd ((asked_bytes words told Holds root file bytes asks has w).outside update accepted.stands);
+      refused = λ root file bytes asks has refused. inl refl;
+      too_large = λ root file bytes asks has large. let a = asked_bytes words told Holds root file bytes asks has w in absurd (omega (arith, a.within));
+      missing = λ root file asks lacks. absurd (asked_none words told Holds root file asks lacks w);
+    }
+
+-- what can come where a file is too large
+too_large_comes : (words : List (List ℕ)) (told : Option Shelf) → AsksWhere words told (λ root bytes. IsTooLarge bytes) → Comes words told 7
+too_large_comes words told w =
+    let Holds : List ℕ → List ℕ → Type 0 = λ root bytes. IsTooLarge bytes in
+    record {
+      is_status = inr (inr (inr (inr (inr (inr (inl refl))))));
+      no_form = λ never. absurd (never w.root w.file w.asks);
+      accepted = λ root file bytes update asks has accepted. let a = asked_bytes words told Holds root file bytes asks has w in absurd (omega (arith, accepted.within));
+      refused = λ root file bytes asks has refused. let a = asked_bytes words told Holds root file bytes asks has w in absurd (omega (arith, refused.within));
+      too_large = λ root file bytes asks has large. inr (inr (inl refl));
+      missing = λ root file asks lacks. absurd (asked_none words told Holds root file asks lacks w);
+    }
+
 -- which endings can come
 pub ends_comes : (words : List (List ℕ)) (told : Option Shelf) (reads writes : Count) (taken now : Option (List ℕ)) (e : Ending) → Ends words told reads writes taken now e → Comes words told (status_of e)
 ends_comes words told reads writes taken now Shown h =
@@ -147,17 +173,7 @@ ends_comes words told reads writes taken now Shown h =
       too_large = λ root file bytes asks has large. let a = asked_bytes words told Holds root file bytes asks has h in absurd (omega (arith, a.1.within));
       missing = λ root file asks lacks. absurd (asked_none words told Holds root file asks lacks h);
     }
-ends_comes words told reads writes taken now (Refused word) h =
-    let Holds : List ℕ → List ℕ → Type 0 = λ root bytes. IsRefused bytes in
-    let w : AsksWhere words told Holds = record { root = h.0; file = h.1; asks = h.2; holds = h.4 } in
-    record {
-      is_status = inr (inl refl);
-      no_form = λ never. absurd (never h.0 h.1 h.2);
-      accepted = λ root file bytes update asks has accepted. absurd ((asked_bytes words told Holds root file bytes asks has w).outside update accepted.stands);
-      refused = λ root file bytes asks has refused. inl refl;
-      too_large = λ root file bytes asks has large. let a = asked_bytes words told Holds root file bytes asks has w in absurd (omega (arith, a.within));
-      missing = λ root file asks lacks. absurd (asked_none words told Holds root file asks lacks w);
-    }
+ends_comes words told reads writes taken now (Refused word) h = refused_comes words told (record { root = h.0; file = h.1; asks = h.2; holds = h.4 })
 ends_comes words told reads writes taken now Usage h = record {
   is_status = inr (inr (inl refl));
   no_form = λ _. inl refl;
@@ -185,17 +201,7 @@ ends_comes words told reads writes taken now WriteFault h =
       missing = λ root file asks lacks. absurd (asked_none words told Holds root file asks lacks h.0);
     }
 ends_comes words told reads writes taken now NoMemory h = comes_five words told
-ends_comes words told reads writes taken now (TooLarge name) h =
-    let Holds : List ℕ → List ℕ → Type 0 = λ root bytes. IsTooLarge bytes in
-    let w : AsksWhere words told Holds = record { root = h.0; file = name.now; asks = h.1; holds = h.2 } in
-    record {
-      is_status = inr (inr (inr (inr (inr (inr (inl refl))))));
-      no_form = λ never. absurd (never h.0 name.now h.1);
-      accepted = λ root file bytes update asks has accepted. let a = asked_bytes words told Holds root file bytes asks has w in absurd (omega (arith, accepted.within));
-      refused = λ root file bytes asks has refused. let a = asked_bytes words told Holds root file bytes asks has w in absurd (omega (arith, refused.within));
-      too_large = λ root file bytes asks has large. inr (inr (inl refl));
-      missing = λ root file asks lacks. absurd (asked_none words told Holds root file asks lacks w);
-    }
+ends_comes words told reads writes taken now (TooLarge name) h = too_large_comes words told (record { root = h.0; file = name.now; asks = h.1; holds = h.2 })
 
 -- the line of an ending is that of its status
 pub ends_line : (words : List (List ℕ)) (told : Option Shelf) (reads writes : Count) (taken now : Option (List ℕ)) (e : Ending) → Ends words told reads writes taken now e → status_of e ≢ 0 → line_of e ≡ line_of_status words (status_of e)

@@ -38,7 +38,8 @@ pub record InsertionIsUnion : Type 0 where
 pub record MaximumHasGreater : Type 0 where
   pub vector : (left right : List (Client × ℕ)) → IsVector left → IsVector right → IsVector (maximum_of left right)
   pub clocks : (left right : List (Client × ℕ)) (client : ℕ) → IsVector left → IsVector right → clock_of (maximum_of left right) client ≡ max (clock_of left client) (clock_of right client)
-  pub alone : (left both right : List (Client × ℕ)) → IsVector left → IsVector both → IsVector right → ((client : ℕ) → clock_of both client ≡ max (clock_of left client) (clock_of right client)) → both ≡ maximum_of left right
+  pub alone : (left both right : List (Client × ℕ)) → IsVector left → IsVector both → IsVector right → ((client : ℕ) → clock_of both client ≡ max (clock_of left client) (clock_of right client)) →
+      both ≡ maximum_of left right
 
 -- maxima may be taken in any order and again
 pub record MaximaJoin : Type 0 where
@@ -48,8 +49,10 @@ pub record MaximaJoin : Type 0 where
 
 -- a raise is the maximum with one clock, it changes nothing for clock 0, and two may come in either order
 pub record RaiseIsMaximum : Type 0 where
-  pub alone : (old new : List (Client × ℕ)) (client : Client) (clock : ℕ) → IsVector old → IsVector new → IsClient client → IsClock clock → RaisesOnly old new client.0 clock → new ≡ with_clock (client, clock) old
-  pub one : (old : List (Client × ℕ)) (client : Client) (clock : ℕ) → IsVector old → IsClient client → 0 < clock → IsClock clock → with_clock (client, clock) old ≡ maximum_of old ((client, clock) ∷ [])
+  pub alone : (old new : List (Client × ℕ)) (client : Client) (clock : ℕ) → IsVector old → IsVector new → IsClient client → IsClock clock → RaisesOnly old new client.0 clock →
+      new ≡ with_clock (client, clock) old
+  pub one : (old : List (Client × ℕ)) (client : Client) (clock : ℕ) → IsVector old → IsClient client → 0 < clock → IsClock clock →
+      with_clock (client, clock) old ≡ maximum_of old ((client, clock) ∷ [])
   pub none : (old : List (Client × ℕ)) (client : Client) → with_clock (client, 0) old ≡ old
   pub any_order : (old : List (Client × ℕ)) (first second : Client × ℕ) → IsVector old → IsClient first.0 → IsClock first.1 → IsClient second.0 → IsClock second.1 →
       with_clock first (with_clock second old) ≡ with_clock second (with_clock first old)

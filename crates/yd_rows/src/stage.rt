@@ -17,7 +17,7 @@ pub struct Stage {
 
 impl Stage {
     /// A library with one file, `F`.
-    pub fn with_file(alloc: Global, bytes: &[u8]) -> Result<Stage, Fail> {
+    pub(crate) fn with_file(alloc: Global, bytes: &[u8]) -> Result<Stage, Fail> {
         let mut library = MemoryLibrary::new(alloc);
         library.add("F", bytes)?;
         Ok(Stage {
@@ -29,7 +29,7 @@ impl Stage {
     }
 
     /// Runs the words, and wants this status, this on out and this on err.
-    pub fn expect(
+    pub(crate) fn expect(
         &mut self,
         rt: &(impl Abort + AllocGlobal),
         words: &[&str],

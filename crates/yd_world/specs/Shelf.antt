@@ -1,6 +1,7 @@
 -- What a library tells: the bytes under each name, and what is unread of the name last begun (own).
 use Rattle.std.specs.Prelude.{◌≡◌, ℕ, ◌<◌, List, [], ◌++◌, length, take, Option, Some, None, Result, Ok, Err}
 
+-- a library as it is told
 pub record Shelf : Type 0 where
   pub bytes_under : List ℕ → Option (List ℕ)
   pub unread : List ℕ

@@ -6,6 +6,7 @@ use Rattle.yd_world.specs.declared.event.Event.{Event}
 use Rattle.yd_world.specs.declared.board.Sent.{Sent}
 use Rattle.yd_world.specs.declared.board.Sent.TheVariants.{Message, Close}
 
+-- a board as it is told
 pub record Traffic : Type 0 where
   pub coming : List Event
   pub sent : List Sent
