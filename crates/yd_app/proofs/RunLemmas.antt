@@ -72,6 +72,16 @@ reason_five words told reads writes = record {
   too_large = λ n. absurd (omega arith);
 }
 
+reason_two : (words : List (List ℕ)) (told : Option Shelf) (reads writes : Count) (taken now : Option (List ℕ)) → Ends words told reads writes taken now Usage → HasReason words told reads writes 2
+reason_two words told reads writes taken now h = record {
+  shown = λ n. absurd (omega arith);
+  refused = λ n. absurd (omega arith);
+  usage = λ _. h;
+  read_fault = λ n. absurd (omega arith);
+  write_fault = λ n. absurd (omega arith);
+  too_large = λ n. absurd (omega arith);
+}
+
 -- an ending gives its status a reason
 pub ends_reason : (words : List (List ℕ)) (told : Option Shelf) (reads writes : Count) (taken now : Option (List ℕ)) (e : Ending) → Ends words told reads writes taken now e → HasReason words told reads writes (status_of e)
 ends_reason words told reads writes taken now Shown h = record {
@@ -90,14 +100,7 @@ ends_reason words told reads writes taken now (Refused file) h = record {
   write_fault = λ n. absurd (omega arith);
   too_large = λ n. absurd (omega arith);
 }
-ends_reason words told reads writes taken now Usage h = record {
-  shown = λ n. absurd (omega arith);
-  refused = λ n. absurd (omega arith);
-  usage = λ _. h;
-  read_fault = λ n. absurd (omega arith);
-  write_fault = λ n. absurd (omega arith);
-  too_large = λ n. absurd (omega arith);
-}
+ends_reason words told reads writes taken now Usage h = reason_two words told reads writes taken now h
 ends_reason words told reads writes taken now (ReadFault name) h = record {
   shown = λ n. absurd (omega arith);
   refused = λ n. absurd (omega arith);
