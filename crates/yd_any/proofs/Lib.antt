@@ -6,5 +6,6 @@ pub mod CarriedLemmas
 pub mod JsonMapLemmas
 pub mod StayLemmas
 pub mod TextLemmas
+pub mod TextValidLemmas
 pub mod TreeLemmas
 pub mod WritingLemmas

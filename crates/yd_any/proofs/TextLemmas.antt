@@ -1,14 +1,16 @@
 -- The text of a JSON value is read as that value.
-use Rattle.std.proofs.Common.{◌≡◌, ℕ, suc, ◌^◌, ◌≤◌, true, ℤ, pos, negsuc, List, [], ◌∷◌, Option, Some, None, option_map, option_and_then, Ok, Ordering, Less, Equal, Greater, nat_cmp, refl, sym, ap, ◌∙◌, arith, append-nil}
-use Rattle.std.specs.Prelude.{IsTrue, nat_le}
+use Rattle.std.proofs.Common.{◌≡◌, ℕ, suc, ◌^◌, ◌≤◌, true, ℤ, pos, negsuc, List, [], ◌∷◌, Option, Some, None, option_map, option_and_then, Ok, Err, Ordering, Less, Equal, Greater, nat_cmp, refl, sym, ap, ◌∙◌, arith, append-nil}
+use Rattle.std.specs.Prelude.{IsTrue, codes, nat_le}
 use Rattle.std.specs.Fmt.{signed_decimal}
 use Rattle.std.specs.Ordering.{match_ordering}
 use Rattle.std.specs.Cmp.Lexicographic.{slice_cmp}
 use Rattle.std.proofs.lemmas.Bool.{and_parts, ltb-true, leb-true}
 use Rattle.json.specs.Token.{Token}
-use Rattle.json.specs.Lex.{tokens}
+use Rattle.json.specs.Lex.{lex, punctuate, tokens}
 use Rattle.json.specs.Print.{print, IsNumber}
+use Rattle.json.specs.Json.{value}
 use Rattle.json.specs.Json as json
+use Rattle.json.specs.Word.{after_number, word}
 use Rattle.json.specs.Tree as tokens_tree
 use Rattle.json.proofs.Printed.Decimals.{IsNumber-signed_decimal}
 use Rattle.json.proofs.Printed.Tokens.{tokens-print}
@@ -21,7 +23,8 @@ use Rattle.yd_any.specs.Valid.{most_depth, is_above, is_small, is_json, are_json
 use Rattle.yd_any.specs.Carried.{put}
 use Rattle.yd_any.specs.DataTree.{data_tree, data_trees, data_fields}
 use Rattle.yd_any.specs.Printed.{tokens_of, tokens_of_trees, tokens_of_fields, printed}
-use Rattle.yd_any.specs.Outcome.{judged_reading, judged}
+use Rattle.yd_any.specs.Outcome.{judged_reading, judged, value_of_text}
+use Rattle.yd_any.specs.declared.fault.JsonFault.TheVariants.{BadJson}
 use Rattle.yd_any.proofs.StayLemmas.{joined, joined-last, joined-nil, put-last, json-of_joined, is_carried-json}
 
 -- the JSON grammar's value; kinds that JSON does not have are taken as `null`
@@ -205,3 +208,8 @@ read_back t valid =
     let parts = and_parts (nat_le (depth t) most_depth) (is_json t) valid in
     let made = read-printed t parts.1 (leb-true (depth t) most_depth parts.0) in
     ap judged_reading made.1 ∙ ap judged made.2 ∙ judged-valid t parts.1 parts.0
+
+-- the name of undefined is no JSON text
+pub undefined_is_no_text : value_of_text (codes "undefined") ≡ Err BadJson
+unfolding value punctuate lex word after_number
+undefined_is_no_text = refl

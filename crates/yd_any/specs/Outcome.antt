@@ -1,7 +1,8 @@
 -- What making a JSON value comes to, with its faults in the order in which they are judged.
-use Rattle.std.specs.Prelude.{◌≡◌, if◌then◌else◌, nat_le, Option, Some, None, Result, MatchResult}
+use Rattle.std.specs.Prelude.{◌≡◌, ℕ, List, if◌then◌else◌, nat_le, Option, Some, None, Result, MatchResult}
 use Rattle.std.proofs.Common.{Ok, Err}
 use Rattle.serde_json.specs.Data.{Data}
+use Rattle.serde_json.specs.Read.{read as read_text}
 use Rattle.yd_any.specs.Tree.{AnyTree, depth}
 use Rattle.yd_any.specs.Valid.{most_depth}
 use Rattle.yd_any.specs.Carried.{is_carried, settled}
@@ -19,6 +20,10 @@ judged t = if nat_le (depth t) most_depth then (if is_carried t then Ok t else E
 abbrev pub judged_reading : Option Data → Result AnyTree JsonFault
 judged_reading None = Err BadJson
 judged_reading (Some d) = judged (data_tree d)
+
+-- the tree of the JSON value that a text is
+abbrev pub value_of_text : List ℕ → Result AnyTree JsonFault
+value_of_text text = judged_reading (read_text text)
 
 -- the tree of the JSON value that carries an any-value, where each value inside is carried
 abbrev pub carried : AnyTree → Result AnyTree JsonFault

@@ -37,6 +37,11 @@ abbrev mutual
 abbrev pub is_valid_any : AnyTree → Bool
 is_valid_any t = nat_le (depth t) most_depth && is_in_range t
 
+-- each tree in the row is that of a valid any-value
+abbrev pub are_valid_any : AnyTrees → Bool
+are_valid_any no_trees = true
+are_valid_any (tree t ts) = is_valid_any t && are_valid_any ts
+
 -- the first key is below the second in the order of their bytes
 abbrev pub is_below : List ℕ → List ℕ → Bool
 is_below low high = is_lt (slice_cmp nat_cmp low high)

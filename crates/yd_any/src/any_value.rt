@@ -4,7 +4,7 @@ ghost use Rattle.std.specs.Prelude.{◌≡◌, IsTrue, IfOk, OnOk, OnErr};
 ghost use Rattle.yd_any.specs.Tree.{no_trees, no_fields, with_last, with_last_field};
 ghost use Rattle.yd_any.specs.AnyView.{any_tree, any_trees, any_fields};
 ghost use Rattle.yd_any.specs.AnyView.{items_trees, entries_fields};
-ghost use Rattle.yd_any.specs.Valid.{is_valid_any};
+ghost use Rattle.yd_any.specs.Valid.{is_valid_any, are_valid_any};
 
 use crate::blob::Blob;
 use crate::fault::NoMemory;
@@ -78,6 +78,14 @@ impl AnyList {
         ensures { items_trees result.now ≡ any_trees self.now }
     {
         self.items.as_slice()
+    }
+
+    /// The same values once more.
+    pub fn copy(&self) -> Result<AnyList, NoMemory>
+        requires { IsTrue (are_valid_any (any_trees self.now)) }
+        ensures { IfOk result (λ copy. any_trees copy ≡ any_trees self.now) }
+    {
+        copy_list(self)
     }
 }
 

@@ -1,6 +1,8 @@
 -- A fact of every element: of parts of a list, and of a list with another element in it.
 use Rattle.std.proofs.Common.{ℕ, zero, suc, ◌<◌, List, [], ◌∷◌, ◌++◌, length, get_or, set, take, drop, arith}
 use Rattle.std.specs.List.{AllWithin}
+use Rattle.std.specs.List.Sorted.{IsPermutation}
+use Rattle.std.proofs.lemmas.List.Sorted.{All-permutation}
 use Rattle.yd_ids.specs.Each.{Each}
 
 pub each_weaker : {X : Type 0} (P Q : X → Type 0) → ((x : X) → P x → Q x) → (xs : List X) → Each P xs → Each Q xs
@@ -34,6 +36,9 @@ pub each_drop : {X : Type 0} (P : X → Type 0) (xs : List X) (n : ℕ) → AllW
 each_drop P xs zero h = each_all P xs h
 each_drop P [] (suc n) h = tt
 each_drop P (x ∷ xs) (suc n) h = each_drop P xs n (λ k d low lt. h (suc k) d (omega arith) (omega arith))
+
+pub each_permuted : {X : Type 0} (P : X → Type 0) (xs ys : List X) → IsPermutation xs ys → Each P xs → Each P ys
+each_permuted P xs ys p h = each_all P ys (λ k d low lt. All-permutation P xs ys p (λ n e le. each_at P xs n e h le) k d lt)
 
 pub each_both : {X : Type 0} (P Q R : X → Type 0) → ((x : X) → P x → Q x → R x) → (xs : List X) → Each P xs → Each Q xs → Each R xs
 each_both P Q R f [] h k = tt

@@ -1,7 +1,10 @@
 pub mod EachLemmas
+pub mod EntriesLemmas
+pub mod GatheringLemmas
 pub mod InsertingLemmas
 pub mod MaximumLemmas
 pub mod SetLemmas
+pub mod SetOfLemmas
 pub mod SpanLemmas
 pub mod UnionLemmas
 pub mod UnitingLemmas

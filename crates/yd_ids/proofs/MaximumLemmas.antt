@@ -16,7 +16,7 @@ Entry = Client × ℕ
 no_clock : (k n : ℕ) → nat_eq n 0 ≡ true → k ≡ max k n
 no_clock k n e = omega (arith, eqb-true n 0 e)
 
-with_this : (e : Entry) (xs : List Entry) → IsVector xs → clock_of (with_clock e xs) e.0.0 ≡ max (clock_of xs e.0.0) e.1
+pub with_this : (e : Entry) (xs : List Entry) → IsVector xs → clock_of (with_clock e xs) e.0.0 ≡ max (clock_of xs e.0.0) e.1
 with_this e [] v = go (nat_eq e.1 0) refl
   where
     go : (z : Bool) → nat_eq e.1 0 ≡ z → clock_of (cond z [] (e ∷ [])) e.0.0 ≡ max 0 e.1
@@ -34,7 +34,7 @@ with_this e (x ∷ xs) v = go (nat_eq e.1 0) refl (nat_lt e.0.0 x.0.0) refl (nat
     go false z false f true g h = rw (eq-eqb x.0.0 e.0.0 (sym (eqb-true e.0.0 x.0.0 g)))
     go false z false f false g h = let ne = eqb-false e.0.0 x.0.0 g in rw (ne_eqb x.0.0 e.0.0 (λ s. ne (sym s))) h
 
-with_other : (e : Entry) (xs : List Entry) (c : ℕ) → c ≢ e.0.0 → clock_of (with_clock e xs) c ≡ clock_of xs c
+pub with_other : (e : Entry) (xs : List Entry) (c : ℕ) → c ≢ e.0.0 → clock_of (with_clock e xs) c ≡ clock_of xs c
 with_other e [] c ne = go (nat_eq e.1 0)
   where
     go : (z : Bool) → clock_of (cond z [] (e ∷ [])) c ≡ 0
@@ -63,7 +63,7 @@ each_with P e (x ∷ xs) same p h = go (nat_eq e.1 0) (nat_lt e.0.0 x.0.0) (nat_
     go false false true k = (same x (x.0, max x.1 e.1) refl h.0, h.1)
     go false false false k = (h.0, k)
 
-with_vector : (e : Entry) (xs : List Entry) → IsClient e.0 → IsClock e.1 → IsVector xs → IsVector (with_clock e xs)
+pub with_vector : (e : Entry) (xs : List Entry) → IsClient e.0 → IsClock e.1 → IsVector xs → IsVector (with_clock e xs)
 with_vector e [] client clock v = go (nat_eq e.1 0) refl
   where
     go : (z : Bool) → nat_eq e.1 0 ≡ z → IsVector (cond z [] (e ∷ []))

@@ -1,13 +1,14 @@
 -- Maximal spans: where an id stands among them, and what one span in place of some keeps.
-use Rattle.std.proofs.Common.{◌≡◌, ℕ, zero, suc, ◌+◌, ◌<◌, ◌≤◌, ◌⊎◌, ◌↔◌, List, [], ◌∷◌, ◌++◌, length, get_or, take, drop, inl, inr, subst, arith}
-use Rattle.std.specs.List.Sorted.{IsPartitionedBy}
+use Rattle.std.proofs.Common.{◌≡◌, ℕ, zero, suc, ◌+◌, ◌<◌, ◌≤◌, ◌⊎◌, ◌↔◌, List, [], ◌∷◌, ◌++◌, length, get_or, take, drop, inl, inr, sym, subst, arith}
+use Rattle.std.specs.List.Sorted.{IsPartitionedBy, IsPermutation}
 use Rattle.std.proofs.lemmas.Bool.{cases_lt}
 use Rattle.std.proofs.lemmas.List.{get_or_default}
+use Rattle.std.proofs.lemmas.List.Sorted.{Contains-permutation, IsPermutation-sym}
 use Rattle.yd_ids.specs.declared.id.Id.{Id}
 use Rattle.yd_ids.specs.declared.id.Span.{Span}
 use Rattle.yd_ids.specs.Each.{Each}
 use Rattle.yd_ids.specs.Id.{IsSpan}
-use Rattle.yd_ids.specs.Set.{HasId, AreMaximal, AddsSpan}
+use Rattle.yd_ids.specs.Set.{HasId, HaveSameIds, AreMaximal, AddsSpan}
 use Rattle.yd_ids.specs.Span.{InSpan, EndsBelow, Reaches, ends_below, EndsBefore, BeginsBy}
 use Rattle.yd_ids.proofs.EachLemmas.{each_weaker, each_append, each_at}
 use Rattle.yd_ids.proofs.SpanLemmas.{below_true, below_is, below_through, through, by_through, by_flipped, below_none, behind_none, in_reaches}
@@ -78,6 +79,38 @@ has_either [] ys id (inr h) = h
 has_either (x ∷ xs) ys id (inl (inl i)) = inl i
 has_either (x ∷ xs) ys id (inl (inr h)) = inr (has_either xs ys id (inl h))
 has_either (x ∷ xs) ys id (inr h) = inr (has_either xs ys id (inr h))
+
+-- ---- the same ids
+
+pub same_back : (xs ys : List Span) → HaveSameIds xs ys → HaveSameIds ys xs
+same_back xs ys h id = ((h id).1, (h id).0)
+
+pub same_through : (xs ys zs : List Span) → HaveSameIds xs ys → HaveSameIds ys zs → HaveSameIds xs zs
+same_through xs ys zs h k id = ((λ a. (k id).0 ((h id).0 a)), (λ a. (h id).1 ((k id).1 a)))
+
+has_place : (xs : List Span) (id : Id) → HasId xs id → (n : ℕ) × (n < length xs) × ((d : Span) → InSpan (get_or xs n d) id)
+has_place [] id h = absurd h
+has_place (x ∷ xs) id (inl i) = (0, omega arith, λ d. i)
+has_place (x ∷ xs) id (inr h) = let (n, lt, i) = has_place xs id h in (suc n, omega arith, i)
+
+place_has : (xs : List Span) (n : ℕ) (d : Span) (id : Id) → n < length xs → InSpan (get_or xs n d) id → HasId xs id
+place_has [] n d id lt i = absurd (omega arith)
+place_has (x ∷ xs) zero d id lt i = inl i
+place_has (x ∷ xs) (suc n) d id lt i = inr (place_has xs n d id (omega arith) i)
+
+has_permuted : (xs ys : List Span) (id : Id) → IsPermutation xs ys → HasId xs id → HasId ys id
+has_permuted xs ys id p h =
+    let (n, lt, i) = has_place xs id h in
+    let s = get_or xs n (first_of_none id) in
+    let (m, le, e) = Contains-permutation xs ys s p (n, lt, get_or_default xs n s (first_of_none id) lt) in
+    place_has ys m s id le (subst (λ u. InSpan u id) (sym e) (i (first_of_none id)))
+  where
+    first_of_none : Id → Span
+    first_of_none id = record { client = id.client; clock = 0; len = 0 }
+
+-- spans in another order have the same ids
+pub permuted_same : (xs ys : List Span) → IsPermutation xs ys → HaveSameIds xs ys
+permuted_same xs ys p id = (has_permuted xs ys id p, has_permuted ys xs id (IsPermutation-sym xs ys p))
 
 -- ---- an id among them
 

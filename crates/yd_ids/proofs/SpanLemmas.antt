@@ -1,5 +1,6 @@
 -- Two spans: what their tests say, and what joining two that touch keeps.
-use Rattle.std.proofs.Common.{◌≡◌, ℕ, ◌+◌, ◌<◌, ◌≤◌, ◌⊎◌, ◌↔◌, Bool, true, false, ◌||◌, ◌&&◌, inl, inr, refl, sym, arith, nat_eq, nat_lt}
+use Rattle.std.proofs.Common.{◌≡◌, ℕ, ◌+◌, ◌<◌, ◌≤◌, ◌⊎◌, ◌↔◌, Bool, true, false, cond, Ordering, Less, Equal, Greater, is_lt, nat_cmp, ◌||◌, ◌&&◌, inl, inr, refl, sym, arith, nat_eq, nat_lt}
+use Rattle.std.specs.Ordering.{ordering_then}
 use Rattle.std.proofs.lemmas.Bool.{cases_lt, ltb-true, ltb-false, lt-ltb, le-ltb, eq-eqb, eqb-true, eqb-false}
 use Rattle.yd_ids.specs.declared.id.Id.{Id}
 use Rattle.yd_ids.specs.declared.id.Span.{Span}
@@ -42,6 +43,21 @@ by_flipped s t f = elim (cases_lt t.client.0 s.client.0) [
   ]
 ]
 
+-- how spans compare
+abbrev pub span_cmp : Span → Span → Ordering
+span_cmp s t = ordering_then (nat_cmp s.client.0 t.client.0) (ordering_then (nat_cmp s.clock t.clock) (nat_cmp s.len t.len))
+
+-- a span begins where one that is not less does, or before
+pub by_order : (s t : Span) → is_lt (span_cmp t s) ≡ false → BeginsBy s t
+by_order s t h = go (nat_lt t.client.0 s.client.0) refl (nat_eq t.client.0 s.client.0) refl (nat_lt t.clock s.clock) refl h
+  where
+    go : (p : Bool) → nat_lt t.client.0 s.client.0 ≡ p → (q : Bool) → nat_eq t.client.0 s.client.0 ≡ q → (r : Bool) → nat_lt t.clock s.clock ≡ r →
+        is_lt (ordering_then (cond p Less (cond q Equal Greater)) (ordering_then (cond r Less (cond (nat_eq t.clock s.clock) Equal Greater)) (nat_cmp t.len s.len))) ≡ false → BeginsBy s t
+    go true x q y r z e = absurd cc
+    go false x true y true z e = absurd cc
+    go false x true y false z e = inr (sym (eqb-true t.client.0 s.client.0 y), ltb-false t.clock s.clock z)
+    go false x false y r z e = inl (omega (arith, ltb-false t.client.0 s.client.0 x, eqb-false t.client.0 s.client.0 y))
+
 -- ---- one behind the other
 
 pub below_through : (s t : Span) (c k : ℕ) → EndsBefore s t → EndsBelow t c k → EndsBelow s c k
@@ -68,6 +84,12 @@ by_through s t u (inl a) (inl b) = inl (omega arith)
 by_through s t u (inl a) (inr b) = inl (omega arith)
 by_through s t u (inr a) (inl b) = inl (omega arith)
 by_through s t u (inr a) (inr b) = inr (omega arith, omega arith)
+
+pub by_both : (s t u : Span) → BeginsBy s t → BeginsBy t u → BeginsBy s u
+by_both s t u (inl a) (inl b) = inl (omega arith)
+by_both s t u (inl a) (inr b) = inl (omega arith)
+by_both s t u (inr a) (inl b) = inl (omega arith)
+by_both s t u (inr a) (inr b) = inr (omega arith, omega arith)
 
 pub by_reaches : (s t : Span) → BeginsBy s t → Reaches t s.client.0 s.clock
 by_reaches s t (inl a) = inl a

@@ -111,7 +111,7 @@ with_after r s (t ∷ ts) p h = go (nat_eq s.len 0) (ends_below s t.client.0 t.c
     go false false a true b f g = (h.0, f)
     go false false a false b f g = g (before_joined r s t (touch_client s t (below_false s t.client.0 t.clock a) (below_false t s.client.0 s.clock b)) p h.0)
 
-with_maximal : (s : Span) (xs : List Span) → IsSpan s → AreMaximal xs → AreMaximal (with_span s xs)
+pub with_maximal : (s : Span) (xs : List Span) → IsSpan s → AreMaximal xs → AreMaximal (with_span s xs)
 with_maximal s [] is m = go (nat_eq s.len 0) refl
   where
     go : (e : Bool) → nat_eq s.len 0 ≡ e → AreMaximal (cond e [] (s ∷ []))
@@ -126,7 +126,7 @@ with_maximal s (t ∷ ts) is m = go (nat_eq s.len 0) refl (ends_below s t.client
     go false e false a true b f g = (m.0, m.1, with_after t s ts (below_true t s.client.0 s.clock b) m.2, f)
     go false e false a false b f g = g
 
-with_ids : (s : Span) (xs : List Span) (id : Id) → HasId (with_span s xs) id ↔ (HasId xs id ⊎ InSpan s id)
+pub with_ids : (s : Span) (xs : List Span) (id : Id) → HasId (with_span s xs) id ↔ (HasId xs id ⊎ InSpan s id)
 with_ids s [] id = go (nat_eq s.len 0) refl
   where
     go : (e : Bool) → nat_eq s.len 0 ≡ e → HasId (cond e [] (s ∷ [])) id ↔ (HasId [] id ⊎ InSpan s id)

@@ -77,7 +77,7 @@ with_maximal (x ∷ []) s m is some b = go (ends_below x s.client.0 s.clock) ref
     go false e = (joined_span x s m.0 is, joined_some x s m.1, tt, tt)
 with_maximal (x ∷ y ∷ xs) s m is some b = (m.0, m.1, before_with x y xs s m.2 b.1, with_maximal (y ∷ xs) s m.3 is some b.1)
 
-with_has : (xs : List Span) (s : Span) (id : Id) → AllBy xs s → HasId (with_last xs s) id → HasId xs id ⊎ InSpan s id
+pub with_has : (xs : List Span) (s : Span) (id : Id) → AllBy xs s → HasId (with_last xs s) id → HasId xs id ⊎ InSpan s id
 with_has [] s id b (inl i) = inr i
 with_has [] s id b (inr h) = absurd h
 with_has (x ∷ []) s id b h = go (ends_below x s.client.0 s.clock) refl h
@@ -91,7 +91,7 @@ with_has (x ∷ []) s id b h = go (ends_below x s.client.0 s.clock) refl h
 with_has (x ∷ y ∷ xs) s id b (inl i) = inl (inl i)
 with_has (x ∷ y ∷ xs) s id b (inr h) = elim (with_has (y ∷ xs) s id b.1 h) [ inl a ↦ inl (inr a) | inr k ↦ inr k ]
 
-has_with : (xs : List Span) (s : Span) (id : Id) → AllBy xs s → HasId xs id ⊎ InSpan s id → HasId (with_last xs s) id
+pub has_with : (xs : List Span) (s : Span) (id : Id) → AllBy xs s → HasId xs id ⊎ InSpan s id → HasId (with_last xs s) id
 has_with [] s id b (inl h) = absurd h
 has_with [] s id b (inr i) = inl i
 has_with (x ∷ []) s id b h = go (ends_below x s.client.0 s.clock) refl h
@@ -134,7 +134,7 @@ uniting_begins left right both e = subst (λ zs. IsUniting left right zs 0 0) (s
     }
 
 -- an order that the next of one list, and those behind it, keep
-next_order : (both : List Span) (t : Span) (rest : List Span) → Each (AllBy both) rest → Each (BeginsBy t) rest → Each (AllBy (with_last both t)) rest
+pub next_order : (both : List Span) (t : Span) (rest : List Span) → Each (AllBy both) rest → Each (BeginsBy t) rest → Each (AllBy (with_last both t)) rest
 next_order both t rest h b = each_both (AllBy both) (BeginsBy t) (AllBy (with_last both t)) (λ u p q. with_by both t u p q) rest h b
 
 left_ids : {B B2 T A R S : Type 0} → B2 ↔ (B ⊎ T) → (B ⊎ ((T ⊎ A) ⊎ R)) ↔ S → (B2 ⊎ (A ⊎ R)) ↔ S

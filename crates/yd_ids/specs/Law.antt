@@ -1,15 +1,16 @@
 -- The laws of state vectors and delete sets.
-use Rattle.std.specs.Prelude.{◌≡◌, ◌↔◌, ℕ, max, ◌<◌, List, [], ◌∷◌}
+use Rattle.std.specs.Prelude.{◌≡◌, ℕ, max, ◌<◌, List, [], ◌∷◌}
+use Rattle.std.specs.List.Sorted.{IsPermutation}
 use Rattle.yd_ids.specs.declared.id.Client.{Client}
-use Rattle.yd_ids.specs.declared.id.Id.{Id}
 use Rattle.yd_ids.specs.declared.id.Span.{Span}
+use Rattle.yd_ids.specs.Each.{Each}
 use Rattle.yd_ids.specs.Id.{IsClient, IsClock, IsSpan}
-use Rattle.yd_ids.specs.Set.{HasId, AreMaximal, AddsSpan, AddsSpans, with_span, union_of}
-use Rattle.yd_ids.specs.Vector.{clock_of, IsVector, RaisesOnly, with_clock, maximum_of}
+use Rattle.yd_ids.specs.Set.{HaveSameIds, AreMaximal, AddsSpan, AddsSpans, with_span, union_of, set_of}
+use Rattle.yd_ids.specs.Vector.{clock_of, IsVector, IsEntry, RaisesOnly, with_clock, maximum_of, vector_of_entries, HasGreatest}
 
 -- two sets with the same ids are one list
 abbrev pub SetsAreTheirIds : Type 0
-SetsAreTheirIds = (left right : List Span) → AreMaximal left → AreMaximal right → ((id : Id) → HasId left id ↔ HasId right id) → left ≡ right
+SetsAreTheirIds = (left right : List Span) → AreMaximal left → AreMaximal right → HaveSameIds left right → left ≡ right
 
 -- two vectors with the same clocks are one list
 abbrev pub VectorsAreTheirClocks : Type 0
@@ -34,6 +35,14 @@ pub record InsertionIsUnion : Type 0 where
   pub none : (old : List Span) (span : Span) → span.len ≡ 0 → with_span span old ≡ old
   pub any_order : (old : List Span) (first second : Span) → AreMaximal old → IsSpan first → IsSpan second → with_span first (with_span second old) ≡ with_span second (with_span first old)
 
+-- the set of spans is a set, it has their ids, nothing else has them as a set, the order of the spans and how they overlap do not matter, and a set stays as it is
+pub record SetsOfSpans : Type 0 where
+  pub maximal : (spans : List Span) → Each IsSpan spans → AreMaximal (set_of spans)
+  pub ids : (spans : List Span) → HaveSameIds (set_of spans) spans
+  pub alone : (spans set : List Span) → Each IsSpan spans → AreMaximal set → HaveSameIds set spans → set ≡ set_of spans
+  pub same : (spans others : List Span) → Each IsSpan spans → Each IsSpan others → HaveSameIds spans others → set_of spans ≡ set_of others
+  pub itself : (set : List Span) → AreMaximal set → set_of set ≡ set
+
 -- the maximum is a vector, it has the greater clock of each client, and nothing else has it as a vector
 pub record MaximumHasGreater : Type 0 where
   pub vector : (left right : List (Client × ℕ)) → IsVector left → IsVector right → IsVector (maximum_of left right)
@@ -56,3 +65,11 @@ pub record RaiseIsMaximum : Type 0 where
   pub none : (old : List (Client × ℕ)) (client : Client) → with_clock (client, 0) old ≡ old
   pub any_order : (old : List (Client × ℕ)) (first second : Client × ℕ) → IsVector old → IsClient first.0 → IsClock first.1 → IsClient second.0 → IsClock second.1 →
       with_clock first (with_clock second old) ≡ with_clock second (with_clock first old)
+
+-- the vector of entries is a vector, it has the greatest clock of each client, and nothing else has them as a vector, the order of the entries does not matter, and a vector stays as it is
+pub record VectorsOfEntries : Type 0 where
+  pub vector : (entries : List (Client × ℕ)) → Each IsEntry entries → IsVector (vector_of_entries entries)
+  pub clocks : (entries : List (Client × ℕ)) → Each IsEntry entries → HasGreatest (vector_of_entries entries) entries
+  pub alone : (entries vector : List (Client × ℕ)) → Each IsEntry entries → IsVector vector → HasGreatest vector entries → vector ≡ vector_of_entries entries
+  pub any_order : (entries others : List (Client × ℕ)) → Each IsEntry entries → IsPermutation entries others → vector_of_entries entries ≡ vector_of_entries others
+  pub itself : (vector : List (Client × ℕ)) → IsVector vector → vector_of_entries vector ≡ vector

@@ -1,4 +1,5 @@
 pub mod Each
+pub mod Gathering
 pub mod Id
 pub mod Inserting
 pub mod Law

@@ -11,6 +11,10 @@ abbrev pub HasId : List Span → Id → Type 0
 HasId [] id = ⊥
 HasId (span ∷ rest) id = InSpan span id ⊎ HasId rest id
 
+-- two lists of spans have the same ids
+abbrev pub HaveSameIds : List Span → List Span → Type 0
+HaveSameIds left right = (id : Id) → HasId left id ↔ HasId right id
+
 -- the spans are in order and none is empty, and no two of one client overlap or touch
 abbrev pub AreMaximal : List Span → Type 0
 AreMaximal [] = Unit {0}
@@ -37,3 +41,8 @@ with_span span (first ∷ rest) =
 abbrev pub union_of : List Span → List Span → List Span
 union_of [] others = others
 union_of (span ∷ rest) others = union_of rest (with_span span others)
+
+-- the set of the ids of spans, which may overlap, be empty and come in any order, one span after another
+abbrev pub set_of : List Span → List Span
+set_of [] = []
+set_of (span ∷ rest) = with_span span (set_of rest)

@@ -14,6 +14,11 @@ abbrev pub IsVector : List (Client × ℕ) → Type 0
 IsVector [] = Unit {0}
 IsVector (entry ∷ rest) = IsClient entry.0 × (0 < entry.1) × IsClock entry.1 × Each (λ later. entry.0.0 < later.0.0) rest × IsVector rest
 
+-- the entry's client and clock are below 2^53
+pub record IsEntry (entry : Client × ℕ) : Type 0 where
+  pub client : IsClient entry.0
+  pub clock : IsClock entry.1
+
 -- the entry is the client's
 abbrev pub IsOf : ℕ → Client × ℕ → Type 0
 IsOf client entry = entry.0.0 ≡ client
@@ -40,3 +45,17 @@ with_clock entry (first ∷ rest) =
 abbrev pub maximum_of : List (Client × ℕ) → List (Client × ℕ) → List (Client × ℕ)
 maximum_of [] others = others
 maximum_of (entry ∷ rest) others = maximum_of rest (with_clock entry others)
+
+-- the vector of clients and clocks, which may come in any order and again, one entry after another
+abbrev pub vector_of_entries : List (Client × ℕ) → List (Client × ℕ)
+vector_of_entries [] = []
+vector_of_entries (entry ∷ rest) = with_clock entry (vector_of_entries rest)
+
+-- the greatest clock that entries have of a client, or 0
+abbrev pub greatest_clock : List (Client × ℕ) → ℕ → ℕ
+greatest_clock [] client = 0
+greatest_clock (entry ∷ rest) client = if nat_eq entry.0.0 client then max entry.1 (greatest_clock rest client) else greatest_clock rest client
+
+-- the vector has the greatest clock of each client
+abbrev pub HasGreatest : List (Client × ℕ) → List (Client × ℕ) → Type 0
+HasGreatest vector entries = (client : ℕ) → clock_of vector client ≡ greatest_clock entries client

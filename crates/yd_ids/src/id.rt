@@ -14,8 +14,9 @@ pub struct Id {
     pub clock: u64,
 }
 
-/// Ids of one client in a row. The clock behind the last is below 2^53 too.
-#[derive(Clone, Copy, Debug, PartialEq, Eq)]
+/// Ids of one client in a row. The clock behind the last is below 2^53 too. Spans are in order of
+/// their clients, then of their first clocks.
+#[derive(Clone, Copy, Debug, PartialEq, Eq, PartialOrd, Ord)]
 pub struct Span {
     /// Whose ids they are.
     pub client: Client,

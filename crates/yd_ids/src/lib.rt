@@ -12,6 +12,7 @@
 #![tactic(auto)]
 
 mod fault;
+mod gathering;
 mod id;
 mod inserting;
 pub mod law;

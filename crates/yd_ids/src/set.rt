@@ -2,10 +2,12 @@
 
 ghost use Rattle.std.specs.Prelude.{◌≡◌, ◌↔◌, ◌<◌, [], IsTrue, IfOk, OnOk, OnErr};
 ghost use Rattle.std.specs.Iterator.{YieldsFirst, item_count};
+ghost use Rattle.yd_ids.specs.Each.{Each};
 ghost use Rattle.yd_ids.specs.Id.{IsId, IsSpan};
-ghost use Rattle.yd_ids.specs.Set.{HasId, AreMaximal, AddsSpan, AddsSpans, with_span, union_of};
+ghost use Rattle.yd_ids.specs.Set.{HasId, HaveSameIds, AreMaximal, AddsSpan, AddsSpans, with_span, union_of, set_of};
 
 use crate::fault::NoMemory;
+use crate::gathering::gathered;
 use crate::id::{Id, Span};
 use crate::inserting::insert_in;
 use crate::looking::has_in;
@@ -40,6 +42,18 @@ impl IdSet {
         IdSet {
             spans: Vec::new(alloc),
         }
+    }
+
+    /// The set of the ids of these spans, in any order, which may overlap or be empty. It takes the
+    /// time of sorting them.
+    pub fn of_spans(alloc: Global, spans: Vec<Span>) -> Result<IdSet, NoMemory>
+        requires { Each IsSpan spans.items }
+        ensures ids { IfOk result (λ set. HaveSameIds set spans.items) }
+        ensures exact { IfOk result (λ set. set ≡ set_of spans.items) }
+        ensures maximal { IfOk result AreMaximal }
+    {
+        let spans = gathered(alloc, spans)?;
+        Ok(IdSet { spans })
     }
 
     /// Adds the span's ids; a span of length 0 has none. It takes time with the logarithm of how

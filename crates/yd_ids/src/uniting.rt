@@ -48,7 +48,7 @@ fn is_left_next(left: &[Span], i: usize, right: &[Span], j: usize) -> bool
 }
 
 /// Adds a span behind the others, joined with the last one where they touch.
-fn add_last(spans: &mut Vec<Span>, span: Span) -> Result<(), NoMemory>
+pub fn add_last(spans: &mut Vec<Span>, span: Span) -> Result<(), NoMemory>
     requires maximal { AreMaximal spans.old.items }
     requires is_span { IsSpan span }
     ensures { OnOk result (spans.new.items ≡ with_last spans.old.items span) }

@@ -7,7 +7,7 @@ ghost use Rattle.std.specs.Iterator.{YieldsFirst, item_count};
 ghost use Rattle.yd_ids.specs.declared.id.Client.{Client};
 ghost use Rattle.yd_ids.specs.Each.{Each};
 ghost use Rattle.yd_ids.specs.Id.{IsClient, IsClock};
-ghost use Rattle.yd_ids.specs.Vector.{clock_of, IsVector, RaisesOnly, IsOf, IsOther, with_clock};
+ghost use Rattle.yd_ids.specs.Vector.{clock_of, IsVector, IsEntry, RaisesOnly, IsOf, IsOther, with_clock, vector_of_entries, HasGreatest};
 
 use crate::fault::NoMemory;
 use crate::id::Client;
@@ -41,6 +41,18 @@ impl Vector {
         Vector {
             entries: Vec::new(alloc),
         }
+    }
+
+    /// The vector of these clients and clocks, in any order: of a client that comes again the
+    /// greatest clock stands, and a clock of 0 is as absent. It takes the time of sorting them.
+    pub fn of_entries(alloc: Global, entries: Vec<(Client, u64)>) -> Result<Vector, NoMemory>
+        requires { Each IsEntry entries.items }
+        ensures clocks { IfOk result (λ vector. HasGreatest vector entries.items) }
+        ensures exact { IfOk result (λ vector. vector ≡ vector_of_entries entries.items) }
+        ensures vector { IfOk result IsVector }
+    {
+        let entries = collected(alloc, entries)?;
+        Ok(Vector { entries })
     }
 
     /// The clock that the client has reached, which is also the clock of its next unit. It takes
@@ -168,4 +180,29 @@ fn raise_in(entries: &mut Vec<(Client, u64)>, client: Client, clock: u64) -> Res
         entries.insert(at, (client, clock))?;
     }
     Ok(())
+}
+
+/// The greatest clock of each client among the entries.
+fn collected(alloc: Global, mut entries: Vec<(Client, u64)>) -> Result<Vec<(Client, u64)>, NoMemory>
+    requires { Each IsEntry entries.items }
+    ensures vector { IfOk result (λ vector. IsVector vector.items) }
+    ensures clocks { IfOk result (λ vector. HasGreatest vector.items entries.items) }
+{
+    // In order, each new client goes behind the others, so that none is moved.
+    entries.sort_unstable();
+    let vector = raised_by(alloc, &entries)?;
+    Ok(vector)
+}
+
+/// The same, by one raise after another.
+fn raised_by(alloc: Global, entries: &[(Client, u64)]) -> Result<Vec<(Client, u64)>, NoMemory>
+    requires { Each IsEntry entries.now }
+    ensures vector { IfOk result (λ vector. IsVector vector.items) }
+    ensures clocks { IfOk result (λ vector. HasGreatest vector.items entries.now) }
+{
+    let mut vector = Vec::new(alloc);
+    for entry in entries {
+        raise_in(&mut vector, entry.0, entry.1)?;
+    }
+    Ok(vector)
 }

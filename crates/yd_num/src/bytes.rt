@@ -42,6 +42,13 @@ impl Bytes {
         self.bytes.as_slice()
     }
 
+    /// All bytes that were written, given away.
+    pub fn into_vec(self) -> Vec<u8>
+        ensures { result.items ≡ self }
+    {
+        self.bytes
+    }
+
     /// Writes one byte (lib0, writeUint8).
     pub fn push_byte(&mut self, b: u8) -> Result<(), NoMemory>
         ensures appended { OnOk result (self.new ≡ self.old ++ b ∷ []) }
