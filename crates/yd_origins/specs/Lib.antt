@@ -1,0 +1,11 @@
+pub mod Before
+pub mod Deleted
+pub mod Example
+pub mod Growing
+pub mod Ids
+pub mod Law
+pub mod Operations
+pub mod Scan
+pub mod SetLaw
+pub mod Sorted
+pub mod Table
