@@ -1,0 +1,41 @@
+-- What a plan gives, whatever is read.
+use Rattle.std.proofs.Common.{◌≡◌, ℕ, zero, suc, Result, Ok, Err, refl, ap, subst}
+use Rattle.yd_num.proofs.ReadingLemmas.{ok_value}
+use Rattle.yd_parts.specs.Fault.{Fault}
+use Rattle.yd_parts.specs.Plan.{Plan, give, refuse, want, ◌>>=◌, and_then, read_by, repeated}
+use Rattle.yd_parts.specs.declared.fault.Spot.{Spot}
+
+-- each value that the plan gives has P, where each value that is read fits its type
+abbrev pub GivesOnly : {T : Type 0} {V : T → Type 0} {X : Type 0} → ((t : T) → V t → Type 0) → (X → Type 0) → Plan V X → Type 0
+GivesOnly Fits P (give x) = P x
+GivesOnly Fits P (refuse cause spot) = Unit {0}
+GivesOnly {T} {V} Fits P (want t next) = (v : V t) (spot : Spot) → Fits t v → GivesOnly Fits P (next v spot)
+
+-- what reading gives has P
+pub given : {T : Type 0} {V : T → Type 0} {S X : Type 0} (at : (t : T) → S → Result (V t × S) Fault) (spot_of : S → Spot) (Fits : (t : T) → V t → Type 0) (P : X → Type 0) (plan : Plan V X) (s : S) (x : X) (left : S) →
+    ((t : T) (now : S) (v : V t) (next : S) → at t now ≡ Ok (v, next) → Fits t v) → GivesOnly Fits P plan → read_by at spot_of plan s ≡ Ok (x, left) → P x
+unfolding read_by
+given at spot_of Fits P (give y) s x left fits only read = subst P (ap (λ read. read.0) (ok_value (y, s) (x, left) read)) only
+given at spot_of Fits P (refuse cause spot) s x left fits only read = absurd cc
+given {T} {V} {S} {X} at spot_of Fits P (want t next) s x left fits only read =
+    behind (at t s) refl (λ v spot now. given at spot_of Fits P (next v spot) now x left fits) read
+  where
+    behind : (first : Result (V t × S) Fault) → at t s ≡ first → ((v : V t) (spot : Spot) (now : S) → GivesOnly Fits P (next v spot) → read_by at spot_of (next v spot) now ≡ Ok (x, left) → P x) →
+        and_then first (λ got. read_by at spot_of (next got.0 (spot_of got.1)) got.1) ≡ Ok (x, left) → P x
+    behind (Ok got) is later there = later got.0 (spot_of got.1) got.1 (only got.0 (spot_of got.1) (fits t s got.0 got.1 is)) there
+    behind (Err fault) is later there = absurd cc
+
+-- two plans in a row
+pub gives_only_bind : {T : Type 0} {V : T → Type 0} {X Y : Type 0} (Fits : (t : T) → V t → Type 0) (P : X → Type 0) (Q : Y → Type 0) (plan : Plan V X) (next : X → Plan V Y) →
+    GivesOnly Fits P plan → ((x : X) → P x → GivesOnly Fits Q (next x)) → GivesOnly Fits Q (plan >>= next)
+unfolding ◌>>=◌
+gives_only_bind Fits P Q (give x) next first later = later x first
+gives_only_bind Fits P Q (refuse cause spot) next first later = tt
+gives_only_bind Fits P Q (want t go) next first later = λ v spot fits. gives_only_bind Fits P Q (go v spot) next (first v spot fits) later
+
+-- a step so many times
+pub gives_only_repeated : {T : Type 0} {V : T → Type 0} {A : Type 0} (Fits : (t : T) → V t → Type 0) (P : A → Type 0) (step : A → Plan V A) (count : ℕ) (now : A) →
+    P now → ((a : A) → P a → GivesOnly Fits P (step a)) → GivesOnly Fits P (repeated step count now)
+unfolding repeated
+gives_only_repeated Fits P step zero now first each = first
+gives_only_repeated Fits P step (suc count) now first each = gives_only_bind Fits P P (step now) (λ a. repeated step count a) (each now first) (λ a has. gives_only_repeated Fits P step count a has each)

@@ -1,0 +1,12 @@
+pub mod AnyFitsLemmas
+pub mod AnyPlanLemmas
+pub mod AnyReadsLemmas
+pub mod AnyTreeLemmas
+pub mod AnyWritingLemmas
+pub mod ExactLemmas
+pub mod ExpectLemmas
+pub mod FaultLemmas
+pub mod GivenLemmas
+pub mod PartExactLemmas
+pub mod PlanLemmas
+pub mod ReadsLemmas

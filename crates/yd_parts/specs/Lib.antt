@@ -1,0 +1,9 @@
+pub mod AnyBytes
+pub mod AnyPlan
+pub mod Exact
+pub mod Fault
+pub mod Law
+pub mod Part
+pub mod PartGrammar
+pub mod Plan
+pub mod Refused
