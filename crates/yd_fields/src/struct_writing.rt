@@ -1,0 +1,129 @@
+//! Writing structs.
+
+ghost use Rattle.std.specs.Prelude.{◌≡◌, ◌<◌, ◌≤◌, ◌^◌, map, OnOk};
+ghost use Rattle.yd_ids.specs.Each.{Each};
+ghost use Rattle.yd_ops.specs.Value.{item, skip};
+ghost use Rattle.yd_ops.specs.View.{content_value, run_value, struct_value};
+ghost use Rattle.yd_fields.specs.UpdateFields.{fields_of_struct, fields_of_structs};
+ghost use Rattle.yd_fields.specs.UpdateFields.{given_bit, info_of_run, key_bit, kind_bits, origin_bit};
+ghost use Rattle.yd_fields.specs.Writes.{IsWritableRun, IsWritableStruct, Writes};
+
+use crate::content_writing::write_content;
+use crate::list_writing::{write_left, write_list, write_right};
+use crate::writer::FieldWriter;
+use std::alloc::Global;
+use yd_any::Text;
+use yd_ids::Id;
+use yd_ops::{Content, List, Run, Struct};
+use yd_parts::NoMemory;
+
+/// The info byte of a skip.
+const SKIP: u8 = 10;
+
+/// Structs, one after another.
+pub fn write_structs<W: FieldWriter>(
+    alloc: Global,
+    structs: &[Struct],
+    writer: &mut W,
+) -> Result<(), NoMemory>
+    requires { Each IsWritableStruct (map struct_value structs.now) }
+    ensures { OnOk result (Writes W.with_field W.is_spelled
+        (fields_of_structs (map struct_value structs.now)) writer.old writer.new) }
+{
+    for entry in structs {
+        write_struct(alloc, entry, writer)?;
+    }
+    Ok(())
+}
+
+fn write_struct<W: FieldWriter>(
+    alloc: Global,
+    entry: &Struct,
+    writer: &mut W,
+) -> Result<(), NoMemory>
+    requires { IsWritableStruct (struct_value entry.now) }
+    ensures { OnOk result (Writes W.with_field W.is_spelled
+        (fields_of_struct (struct_value entry.now)) writer.old writer.new) }
+{
+    match entry {
+        Struct::Item(run) => write_run(alloc, run, writer),
+        Struct::Skip(count) => write_skip(*count, writer),
+    }
+}
+
+fn write_skip<W: FieldWriter>(count: u64, writer: &mut W) -> Result<(), NoMemory>
+    requires { count < 2 ^ 53 }
+    ensures { OnOk result (Writes W.with_field W.is_spelled
+        (fields_of_struct (skip count)) writer.old writer.new) }
+{
+    writer.put_info(SKIP)?;
+    writer.put_number(count)?;
+    Ok(())
+}
+
+fn write_run<W: FieldWriter>(alloc: Global, run: &Run, writer: &mut W) -> Result<(), NoMemory>
+    requires { IsWritableRun (run_value run.now) }
+    ensures { OnOk result (Writes W.with_field W.is_spelled
+        (fields_of_struct (item (run_value run.now))) writer.old writer.new) }
+{
+    writer.put_info(info_of_run(run))?;
+    write_left(run.left, writer)?;
+    write_right(run.right, writer)?;
+    write_list(&run.list, writer)?;
+    write_content(alloc, &run.content, writer)?;
+    Ok(())
+}
+
+fn info_of_run(run: &Run) -> u8
+    ensures { result ≡ info_of_run (run_value run.now) }
+{
+    kind_bits(&run.content)
+        + key_bit(&run.list)
+        + origin_bit(64, run.right)
+        + origin_bit(128, run.left)
+}
+
+fn kind_bits(content: &Content) -> u8
+    ensures bits { result ≡ kind_bits (content_value content.now) }
+    ensures small { result < 32 }
+{
+    match content {
+        Content::Json(_) => 2,
+        Content::Binary(_) => 3,
+        Content::Str(_) => 4,
+        Content::Embed(_) => 5,
+        Content::Format { .. } => 6,
+        Content::Nested(_) => 7,
+        Content::Any(_) => 8,
+    }
+}
+
+fn key_bit(list: &Option<List>) -> u8
+    ensures bit { result ≡ key_bit list.now }
+    ensures small { result ≤ 32 }
+{
+    match list {
+        None => 0,
+        Some(list) => given_bit(&list.key),
+    }
+}
+
+fn given_bit(key: &Option<Text>) -> u8
+    ensures bit { result ≡ given_bit key.now }
+    ensures small { result ≤ 32 }
+{
+    match key {
+        None => 0,
+        Some(_) => 32,
+    }
+}
+
+fn origin_bit(bit: u8, origin: Option<Id>) -> u8
+    ensures bit { result ≡ origin_bit bit origin }
+    ensures small { result ≤ bit }
+{
+    match origin {
+        None => 0,
+        Some(_) => bit,
+    }
+}
