@@ -1,3 +1,5 @@
+pub mod Carrying
+pub mod Converted
 pub mod Ending
 pub mod Field
 pub mod FormReading
@@ -5,6 +7,7 @@ pub mod Law
 pub mod Lines
 pub mod Loading
 pub mod OneText
+pub mod Reason
 pub mod Run
 pub mod Seen
 pub mod Verdict

@@ -2,10 +2,9 @@
 use Rattle.std.specs.Prelude.{◌≡◌, ◌⊎◌, ℕ, List, [], ◌∷◌, Option}
 use Rattle.yd_world.specs.Faults.{Rose}
 use Rattle.yd_world.specs.Shelf.{Shelf}
-use Rattle.yd_app.specs.Lines.{line_of_status}
-use Rattle.yd_app.specs.OneText.{OneText}
-use Rattle.yd_app.specs.Verdict.{IsAccepted, IsRefused, IsTooLarge, HasBytes, LacksName, AsksWhere, output_of}
-use Rattle.yd_app.specs.Words.{AsksText, AreOfNoForm}
+use Rattle.yd_app.specs.Lines.{IsLine}
+use Rattle.yd_app.specs.Verdict.{IsAccepted, IsRefused, IsTooLarge, HasBytes, Keeps, LacksName, AsksWhere}
+use Rattle.yd_app.specs.Words.{Command, Asks, AreOfNoForm}
 use Rattle.yd_app.specs.Writing.{TakesAll, TakesFront}
 
 -- the number is one of these
@@ -28,63 +27,67 @@ RoseIn count = Rose count.before count.now
 
 -- why the status comes; want of memory, status 5, has no reason
 pub record HasReason (words : List (List ℕ)) (told : Option Shelf) (reads writes : Count) (status : ℕ) : Type 0 where
-  pub shown : status ≡ 0 → AsksWhere words told (λ root bytes. (update : OneText) × IsAccepted bytes update)
-  pub refused : status ≡ 1 → AsksWhere words told (λ root bytes. IsRefused bytes)
+  pub done : status ≡ 0 → AsksWhere words told (λ command bytes. (output : List ℕ) × IsAccepted command bytes output)
+  pub refused : status ≡ 1 → AsksWhere words told (λ command bytes. (why : List ℕ) × IsRefused command bytes why)
   pub usage : status ≡ 2 → AreOfNoForm words
   pub read_fault : status ≡ 3 → RoseIn reads
   pub write_fault : status ≡ 4 → RoseIn writes
-  pub too_large : status ≡ 7 → AsksWhere words told (λ root bytes. IsTooLarge bytes)
+  pub too_large : status ≡ 7 → AsksWhere words told (λ command bytes. IsTooLarge bytes)
 
 -- which statuses there are, and which of them can come
 pub record Comes (words : List (List ℕ)) (told : Option Shelf) (status : ℕ) : Type 0 where
   pub is_status : IsOneOf status (0 ∷ 1 ∷ 2 ∷ 3 ∷ 4 ∷ 5 ∷ 7 ∷ [])
   pub no_form : AreOfNoForm words → IsOneOf status (2 ∷ 5 ∷ [])
-  pub accepted : (root file bytes : List ℕ) (update : OneText) → AsksText words root file → HasBytes told file bytes → IsAccepted bytes update → IsOneOf status (0 ∷ 3 ∷ 4 ∷ 5 ∷ [])
-  pub refused : (root file bytes : List ℕ) → AsksText words root file → HasBytes told file bytes → IsRefused bytes → IsOneOf status (1 ∷ 3 ∷ 5 ∷ [])
-  pub too_large : (root file bytes : List ℕ) → AsksText words root file → HasBytes told file bytes → IsTooLarge bytes → IsOneOf status (3 ∷ 5 ∷ 7 ∷ [])
-  pub missing : (root file : List ℕ) → AsksText words root file → LacksName told file → IsOneOf status (3 ∷ 5 ∷ [])
+  pub accepted : (command : Command) (file bytes output : List ℕ) → Asks words command file → HasBytes told file bytes → IsAccepted command bytes output → IsOneOf status (0 ∷ 3 ∷ 4 ∷ 5 ∷ [])
+  pub refused : (command : Command) (file bytes why : List ℕ) → Asks words command file → HasBytes told file bytes → IsRefused command bytes why → IsOneOf status (1 ∷ 3 ∷ 5 ∷ [])
+  pub too_large : (command : Command) (file bytes : List ℕ) → Asks words command file → HasBytes told file bytes → IsTooLarge bytes → IsOneOf status (3 ∷ 5 ∷ 7 ∷ [])
+  pub missing : (command : Command) (file : List ℕ) → Asks words command file → LacksName told file → IsOneOf status (3 ∷ 5 ∷ [])
 
--- a file that is there is shown, refused or too large, as its bytes say, or memory is wanted
+-- the command is done on a file that is there, or the file is refused or too large, as its bytes say, or memory is wanted
 pub record Follows (words : List (List ℕ)) (told : Option Shelf) (status : ℕ) : Type 0 where
-  pub accepted : (root file bytes : List ℕ) (update : OneText) → AsksText words root file → HasBytes told file bytes → IsAccepted bytes update → IsOneOf status (0 ∷ 5 ∷ [])
-  pub refused : (root file bytes : List ℕ) → AsksText words root file → HasBytes told file bytes → IsRefused bytes → IsOneOf status (1 ∷ 5 ∷ [])
-  pub too_large : (root file bytes : List ℕ) → AsksText words root file → HasBytes told file bytes → IsTooLarge bytes → IsOneOf status (5 ∷ 7 ∷ [])
+  pub accepted : (command : Command) (file bytes output : List ℕ) → Asks words command file → HasBytes told file bytes → IsAccepted command bytes output → IsOneOf status (0 ∷ 5 ∷ [])
+  pub refused : (command : Command) (file bytes why : List ℕ) → Asks words command file → HasBytes told file bytes → IsRefused command bytes why → IsOneOf status (1 ∷ 5 ∷ [])
+  pub too_large : (command : Command) (file bytes : List ℕ) → Asks words command file → HasBytes told file bytes → IsTooLarge bytes → IsOneOf status (5 ∷ 7 ∷ [])
 
 -- no count of faults rises where the file is there
 abbrev pub CountsNothing : List (List ℕ) → Option Shelf → Count → Count → Type 0
-CountsNothing words told reads writes = (root file bytes : List ℕ) → AsksText words root file → HasBytes told file bytes → (reads.now ≡ reads.before) × (writes.now ≡ writes.before)
+CountsNothing words told reads writes = (command : Command) (file bytes : List ℕ) → Asks words command file → HasBytes told file bytes → (reads.now ≡ reads.before) × (writes.now ≡ writes.before)
 
 -- the run is complete where nothing is set to fail, and then counts no fault; and it is complete where no count rose
 pub record Completes (ReadsCalmly WritesCalmly : Type 0) (words : List (List ℕ)) (told : Option Shelf) (reads writes : Count) (status : ℕ) : Type 0 where
   pub calm : ReadsCalmly → WritesCalmly → Follows words told status × CountsNothing words told reads writes
   pub counted : ¬ (RoseIn reads) → ¬ (RoseIn writes) → Follows words told status
 
--- all that the update shows under the root was written, and a line feed, whoever made it and however its bytes spell it
-abbrev pub Shows : List (List ℕ) → Option Shelf → Option (List ℕ) → Option (List ℕ) → Type 0
-Shows words told taken now = AsksWhere words told (λ root bytes. (update : OneText) × IsAccepted bytes update × TakesAll taken now (output_of root update))
+-- all that the command makes of the file was written, whoever made the update and however its bytes spell it; what `convert` wrote stands for that update
+abbrev pub Writes : List (List ℕ) → Option Shelf → Option (List ℕ) → Option (List ℕ) → Type 0
+Writes words told taken now = AsksWhere words told (λ command bytes. (output : List ℕ) × IsAccepted command bytes output × Keeps command bytes output × TakesAll taken now output)
 
 -- a front of that was written
-abbrev pub ShowsFront : List (List ℕ) → Option Shelf → Option (List ℕ) → Option (List ℕ) → Type 0
-ShowsFront words told taken now = AsksWhere words told (λ root bytes. (update : OneText) × IsAccepted bytes update × TakesFront taken now (output_of root update))
+abbrev pub WritesFront : List (List ℕ) → Option Shelf → Option (List ℕ) → Option (List ℕ) → Type 0
+WritesFront words told taken now = AsksWhere words told (λ command bytes. (output : List ℕ) × IsAccepted command bytes output × TakesFront taken now output)
 
 -- what stands on out where the run ended within its output
 pub record CutsOff (words : List (List ℕ)) (told : Option Shelf) (taken now : Option (List ℕ)) (status : ℕ) : Type 0 where
-  pub write_fault : status ≡ 4 → ShowsFront words told taken now
-  pub no_memory : status ≡ 5 → (now ≡ taken) ⊎ ShowsFront words told taken now
+  pub write_fault : status ≡ 4 → WritesFront words told taken now
+  pub no_memory : status ≡ 5 → (now ≡ taken) ⊎ WritesFront words told taken now
+
+-- a front of the status's line was written
+abbrev pub TellsFront : List (List ℕ) → Option Shelf → Option (List ℕ) → Option (List ℕ) → ℕ → Type 0
+TellsFront words told taken now status = (line : List ℕ) × IsLine words told status line × TakesFront taken now line
 
 -- the status's line was written, or a front of it where err failed
-abbrev pub TellsLine : List (List ℕ) → Option (List ℕ) → Option (List ℕ) → Count → ℕ → Type 0
-TellsLine words taken now errs status =
-    TakesFront taken now (line_of_status words status) × (TakesAll taken now (line_of_status words status) ⊎ RoseIn errs)
+abbrev pub TellsLine : List (List ℕ) → Option Shelf → Option (List ℕ) → Option (List ℕ) → Count → ℕ → Type 0
+TellsLine words told taken now errs status =
+    (line : List ℕ) × IsLine words told status line × TakesFront taken now line × (TakesAll taken now line ⊎ RoseIn errs)
 
 -- a front of the line for want of memory was written, or of the line of the status that was due
 abbrev pub TellsNoMemory : List (List ℕ) → Option Shelf → Count → Count → Option (List ℕ) → Option (List ℕ) → Type 0
 TellsNoMemory words told reads writes taken now =
-    TakesFront taken now (line_of_status words 5)
-    ⊎ ((due : ℕ) × IsOneOf due (1 ∷ 2 ∷ 3 ∷ 4 ∷ 7 ∷ []) × HasReason words told reads writes due × TakesFront taken now (line_of_status words due))
+    TellsFront words told taken now 5
+    ⊎ ((due : ℕ) × IsOneOf due (1 ∷ 2 ∷ 3 ∷ 4 ∷ 7 ∷ []) × HasReason words told reads writes due × TellsFront words told taken now due)
 
 -- what stands on err
 pub record TellsErr (words : List (List ℕ)) (told : Option Shelf) (reads writes errs : Count) (taken now : Option (List ℕ)) (status : ℕ) : Type 0 where
-  pub shown : status ≡ 0 → now ≡ taken
-  pub line : IsOneOf status (1 ∷ 2 ∷ 3 ∷ 4 ∷ 7 ∷ []) → TellsLine words taken now errs status
+  pub done : status ≡ 0 → now ≡ taken
+  pub line : IsOneOf status (1 ∷ 2 ∷ 3 ∷ 4 ∷ 7 ∷ []) → TellsLine words told taken now errs status
   pub no_memory : status ≡ 5 → TellsNoMemory words told reads writes taken now

@@ -5,6 +5,7 @@ ghost use Rattle.yd_world.specs.Faults.{Rose};
 ghost use Rattle.yd_app.specs.Ending.{status_of, line_of};
 ghost use Rattle.yd_app.specs.Writing.{TakesAll, TakesFront, CountsFault};
 
+use crate::refusal::{Refusal, tell_refusal};
 use crate::writing::write_out;
 use yd_world::{Outage, Sink};
 
@@ -12,9 +13,9 @@ use yd_world::{Outage, Sink};
 #[derive(Clone, Copy)]
 pub enum Ending<'a> {
     /// The output was written.
-    Shown,
-    /// The file, as the word gives it, is outside the form that runs.
-    Refused(&'a str),
+    Done,
+    /// The file, as the word gives it, is refused.
+    Refused { file: &'a str, why: Refusal },
     /// The words are of no form.
     Usage,
     /// The library failed at this name.
@@ -56,8 +57,8 @@ fn tell<S: Sink>(ending: Ending<'_>, err: &mut S) -> Result<(), Outage>
     ensures failed { IsErrOf result Outage.Failed → Rose (S.faults err.old) (S.faults err.new) }
 {
     match ending {
-        Ending::Shown => Ok(()),
-        Ending::Refused(file) => write_line(err, "refused ", file, " Unbuilt 0\n"),
+        Ending::Done => Ok(()),
+        Ending::Refused { file, why } => tell_refusal(err, file, why),
         Ending::Usage => write_line(err, USAGE, "", "\n"),
         Ending::ReadFault(name) => write_line(err, "read fault ", name, "\n"),
         Ending::WriteFault => write_line(err, "write fault", "", "\n"),
@@ -70,8 +71,8 @@ fn status(ending: Ending<'_>) -> u8
     ensures { result ≡ status_of ending.entry }
 {
     match ending {
-        Ending::Shown => 0,
-        Ending::Refused(_) => 1,
+        Ending::Done => 0,
+        Ending::Refused { .. } => 1,
         Ending::Usage => 2,
         Ending::ReadFault(_) => 3,
         Ending::WriteFault => 4,

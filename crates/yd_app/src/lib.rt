@@ -1,8 +1,8 @@
 //! The program: what the words ask for, what is written, and how it ends.
 //!
 //! [`run`] is the whole program over the traits of the outside. Its contract says which status
-//! comes when, what stands on `out` and on `err` then, and that `show` writes what the update alone
-//! defines, whoever wrote it and however its bytes spell it.
+//! comes when, what stands on `out` and on `err` then, and that what is written is what the file's
+//! update alone defines, whoever wrote it and however its bytes spell it.
 //!
 //! ```rust
 //! let status = run(rt.alloc(), &words, &mut library, &mut out, &mut err, &mut board);
@@ -10,13 +10,18 @@
 //! ```
 #![tactic(auto)]
 
+mod carrying;
+mod converting;
 mod ending;
 mod fault;
 pub mod law;
 mod loading;
 mod one_text;
 mod program;
+mod refusal;
 mod request;
+mod showing;
+mod stop;
 mod word;
 mod writing;
 

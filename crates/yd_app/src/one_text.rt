@@ -1,4 +1,4 @@
-//! The form of update that runs: one string in a root.
+//! The form of update that `show` has: one string in a root.
 
 ghost use Rattle.std.specs.Prelude.{IfOk, OnErr};
 ghost use Rattle.yd_app.specs.OneText.{OneText, StandsFor};
@@ -15,7 +15,7 @@ pub struct StringUpdate<'a> {
     pub content: &'a str,
 }
 
-/// The bytes are no update of the form that runs.
+/// The bytes are no update of the form.
 #[derive(Clone, Copy, Debug, PartialEq, Eq)]
 pub struct Unbuilt;
 

@@ -1,23 +1,23 @@
 //! The program over the traits of the outside.
 
-ghost use Rattle.std.specs.Prelude.{◌≡◌, ◌≢◌, ◌∷◌, [], Err, OnOk};
+ghost use Rattle.std.specs.Prelude.{◌≡◌, ◌≢◌, ◌∷◌, []};
 ghost use Rattle.yd_app.specs.Ending.{status_of, Ends, ReadsFile};
-ghost use Rattle.yd_app.specs.Run.{IsOneOf, count_of, HasReason, Comes, Completes, Shows, CutsOff, TellsErr};
-ghost use Rattle.yd_app.specs.Seen.{seen};
-ghost use Rattle.yd_app.specs.Verdict.{output_of};
-ghost use Rattle.yd_app.specs.Writing.{TakesAll, TakesFront, CountsFault};
+ghost use Rattle.yd_app.specs.Run.{IsOneOf, count_of, HasReason, Comes, Completes, Writes, CutsOff, TellsErr};
 
-use crate::ending::{Ending, report, write_line};
+use crate::carrying::carry_out;
+use crate::ending::{Ending, report};
 use crate::fault::LoadFault;
 use crate::loading::read_all;
-use crate::one_text::{StringUpdate, one_text_of};
 use crate::request::request_of;
+use crate::stop::Stop;
 use crate::word::Word;
 use std::alloc::Global;
-use yd_world::{Library, Outage, Sink, Switchboard};
+use yd_world::{Library, Sink, Switchboard};
 
-/// Does what the words ask for, and answers the status. `show --text NAME v1:FILE` is the form of
-/// words that runs, and the file is an update of one string in a root; all else is refused by name.
+/// Does what the words ask for, and answers the status. The words that run are
+/// `show --text NAME v1:FILE` and `convert v1 v1:FILE`. A file outside the grammar of V1 is refused
+/// by its first fault, and `show` refuses as `Unbuilt 0` bytes that do not spell one string in a
+/// root.
 pub fn run<L: Library, S: Sink, B: Switchboard>(
     alloc: Global,
     words: &[Word],
@@ -36,8 +36,8 @@ pub fn run<L: Library, S: Sink, B: Switchboard>(
         (count_of (L.faults library.old) (L.faults library.new))
         (count_of (S.faults out.old) (S.faults out.new)) result }
 
-    // What is shown is what the update alone defines.
-    ensures converges { result ≡ 0 → Shows words.now (L.told library.old)
+    // What is written is what the file's update alone defines.
+    ensures converges { result ≡ 0 → Writes words.now (L.told library.old)
         (S.bytes_taken out.old) (S.bytes_taken out.new) }
     ensures cuts_off { CutsOff words.now (L.told library.old)
         (S.bytes_taken out.old) (S.bytes_taken out.new) result }
@@ -81,29 +81,13 @@ fn answer<'a, L: Library, S: Sink>(
         Err(LoadFault::ReadFault) => return Ending::ReadFault(request.name),
         Err(LoadFault::TooLarge) => return Ending::TooLarge(request.name),
     };
-    let Ok(update) = one_text_of(&bytes) else {
-        return Ending::Refused(request.file);
-    };
-    match show(update, request.root, out) {
-        Ok(()) => Ending::Shown,
-        Err(Outage::NoMemory) => Ending::NoMemory,
-        Err(Outage::Failed) => Ending::WriteFault,
+    match carry_out(alloc, request.command, &bytes, out) {
+        Ok(()) => Ending::Done,
+        Err(Stop::Refused(why)) => Ending::Refused {
+            file: request.file,
+            why,
+        },
+        Err(Stop::NoMemory) => Ending::NoMemory,
+        Err(Stop::WriteFault) => Ending::WriteFault,
     }
-}
-
-// Writes what the root shows of the update, and a line feed.
-fn show<S: Sink>(update: StringUpdate<'_>, root: &str, out: &mut S) -> Result<(), Outage>
-    ensures whole { OnOk result (TakesAll (S.bytes_taken out.old) (S.bytes_taken out.new)
-        (output_of root.now (seen update.entry))) }
-    ensures front { TakesFront (S.bytes_taken out.old) (S.bytes_taken out.new)
-        (output_of root.now (seen update.entry)) }
-    ensures cause { CountsFault (S.faults out.old) (S.faults out.new) result }
-    ensures calm { S.is_calm out.old → result ≢ Err Outage.Failed }
-{
-    let text = if update.root == root {
-        update.content
-    } else {
-        ""
-    };
-    write_line(out, "", text, "\n")
 }

@@ -23,6 +23,17 @@ fn spans_that_touch_are_one(rt: HostRuntime) -> Result<(), Fail> {
 }
 
 #[test]
+fn spans_in_any_order_are_a_set(rt: HostRuntime) -> Result<(), Fail> {
+    let given = [span(1, 2, 3), span(1, 0, 3), span(2, 7, 1), span(1, 9, 0)];
+    let set = IdSet::of_spans(rt.alloc(), Vec::from_slice(rt.alloc(), &given)?)?;
+    let mut spans = set.spans();
+    assert_eq!(rt; spans.next(), Some(span(1, 0, 5)));
+    assert_eq!(rt; spans.next(), Some(span(2, 7, 1)));
+    assert_eq!(rt; spans.next(), None);
+    Ok(())
+}
+
+#[test]
 fn a_vector_keeps_the_greatest_clocks(rt: HostRuntime) -> Result<(), Fail> {
     let mut vector = Vector::new(rt.alloc());
     vector.raise(Client(1), 3)?;
@@ -32,6 +43,22 @@ fn a_vector_keeps_the_greatest_clocks(rt: HostRuntime) -> Result<(), Fail> {
     let vector = vector.copy()?;
     assert_eq!(rt; vector.get(Client(1)), 3);
     assert_eq!(rt; vector.get(Client(3)), 0);
+    let mut clocks = vector.iter();
+    assert_eq!(rt; clocks.next(), Some((Client(2), 5)));
+    assert_eq!(rt; clocks.next(), Some((Client(1), 3)));
+    assert_eq!(rt; clocks.next(), None);
+    Ok(())
+}
+
+#[test]
+fn entries_in_any_order_are_a_vector(rt: HostRuntime) -> Result<(), Fail> {
+    let given = [
+        (Client(2), 5),
+        (Client(1), 2),
+        (Client(3), 0),
+        (Client(1), 3),
+    ];
+    let vector = Vector::of_entries(rt.alloc(), Vec::from_slice(rt.alloc(), &given)?)?;
     let mut clocks = vector.iter();
     assert_eq!(rt; clocks.next(), Some((Client(2), 5)));
     assert_eq!(rt; clocks.next(), Some((Client(1), 3)));

@@ -2,6 +2,8 @@
 #![tactic(auto)]
 
 #[cfg(test)]
+mod convert;
+#[cfg(test)]
 mod show;
 #[cfg(test)]
 mod stage;

@@ -1,21 +1,14 @@
 //! `show --text`: what is written and said at each status.
 
-use crate::stage::Stage;
+use crate::stage::{PADDED_ABC, Stage, each_front_is_short};
 use std::process::Abort;
 use std::test::Fail;
-
-/// One update of client 1: "abc" in the root `t`.
-const ABC: [u8; 13] = [1, 1, 1, 0, 4, 1, 1, 116, 3, 97, 98, 99, 0];
-
-/// The same update with its first number and the client's number padded.
-const PADDED_ABC: [u8; 15] = [0x81, 0, 1, 0x81, 0, 0, 4, 1, 1, 116, 3, 97, 98, 99, 0];
+use yd_samples::{ABC, BOARD};
 
 /// "abc" in the root whose name is empty.
 const NAMELESS_ABC: [u8; 12] = [1, 1, 1, 0, 4, 1, 0, 3, 97, 98, 99, 0];
 
 const SHOW: [&str; 4] = ["show", "--text", "t", "v1:F"];
-
-const REFUSED: (u8, &str, &str) = (1, "", "refused v1:F Unbuilt 0\n");
 
 const USAGE: (u8, &str, &str) = (
     2,
@@ -37,11 +30,22 @@ fn a_root_is_shown_and_another_is_empty(rt: HostRuntime) -> Result<(), Fail> {
 
 #[test]
 fn each_front_of_an_update_is_refused(rt: HostRuntime) -> Result<(), Fail> {
-    for len in 0..13 {
-        let mut stage = Stage::with_file(rt.alloc(), &ABC[..len])?;
-        stage.expect(&rt, &SHOW, REFUSED)?;
-    }
-    Ok(())
+    each_front_is_short(&rt, &SHOW)
+}
+
+#[test]
+fn an_update_of_another_form_is_unbuilt(rt: HostRuntime) -> Result<(), Fail> {
+    let mut stage = Stage::with_file(rt.alloc(), &[0, 0])?;
+    stage.expect_fault(&rt, &SHOW, ("Unbuilt", 0))?;
+    let mut stage = Stage::with_file(rt.alloc(), &BOARD)?;
+    stage.expect_fault(&rt, &SHOW, ("Unbuilt", 0))
+}
+
+#[test]
+fn a_client_of_no_deletes_is_unbuilt(rt: HostRuntime) -> Result<(), Fail> {
+    let bytes = [1, 1, 1, 0, 4, 1, 1, 0x74, 3, 97, 98, 99, 1, 5, 0];
+    let mut stage = Stage::with_file(rt.alloc(), &bytes)?;
+    stage.expect_fault(&rt, &SHOW, ("Unbuilt", 0))
 }
 
 #[test]
@@ -104,5 +108,5 @@ fn the_largest_file_is_judged_and_a_larger_one_is_not(rt: HostRuntime) -> Result
     stage.expect(&rt, &SHOW, (7, "", "limit F TooLarge\n"))?;
     let (largest, _) = bytes.split_at(67_108_864);
     let mut stage = Stage::with_file(rt.alloc(), largest)?;
-    stage.expect(&rt, &SHOW, REFUSED)
+    stage.expect_fault(&rt, &SHOW, ("Trailing", 2))
 }

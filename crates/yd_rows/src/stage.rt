@@ -1,10 +1,30 @@
 //! The program over things in memory, as a test sees it.
 
+use itoa::Buffer;
 use std::alloc::Global;
 use std::process::Abort;
 use std::test::Fail;
 use yd_app::{Word, run};
+use yd_samples::ABC;
 use yd_world::{MemoryLibrary, MemorySink, ScriptBoard};
+
+/// `ABC` with its first number and the client's number padded.
+pub(crate) const PADDED_ABC: [u8; 15] = [0x81, 0, 1, 0x81, 0, 0, 4, 1, 1, 116, 3, 97, 98, 99, 0];
+
+/// Wants each front of `ABC` refused, at the part that it cuts.
+pub(crate) fn each_front_is_short(
+    rt: &(impl Abort + AllocGlobal),
+    words: &[&str],
+) -> Result<(), Fail> {
+    for (len, place) in [0, 1, 2, 3, 4, 5, 6, 6, 8, 8, 8, 8, 12]
+        .into_iter()
+        .enumerate()
+    {
+        let mut stage = Stage::with_file(rt.alloc(), &ABC[..len])?;
+        stage.expect_fault(rt, words, ("ShortInput", place))?;
+    }
+    Ok(())
+}
 
 /// What a run is given, and what it leaves.
 #[derive(Drop)]
@@ -35,18 +55,35 @@ impl Stage {
         words: &[&str],
         want: (u8, &str, &str),
     ) -> Result<(), Fail> {
+        self.expect_bytes(rt, words, (want.0, want.1.as_bytes(), want.2.as_bytes()))
+    }
+
+    /// Runs the words, and wants the file refused for this cause at this place, and nothing on out.
+    pub(crate) fn expect_fault(
+        &mut self,
+        rt: &(impl Abort + AllocGlobal),
+        words: &[&str],
+        want: (&str, u64),
+    ) -> Result<(), Fail> {
+        let mut line = Vec::new(rt.alloc());
+        let mut digits = Buffer::new();
+        for piece in ["refused v1:F ", want.0, " ", digits.format(want.1), "\n"] {
+            line.extend_from_slice(piece.as_bytes())?;
+        }
+        self.expect_bytes(rt, words, (1, &[], &line))
+    }
+
+    /// Runs the words, and wants this status, these bytes on out and these on err.
+    pub(crate) fn expect_bytes(
+        &mut self,
+        rt: &(impl Abort + AllocGlobal),
+        words: &[&str],
+        want: (u8, &[u8], &[u8]),
+    ) -> Result<(), Fail> {
         let status = self.status_of(rt.alloc(), words)?;
         assert_eq!(rt; status, want.0, "the status of {words:?}");
-        assert_eq!(rt;
-            self.out.as_slice(),
-            want.1.as_bytes(),
-            "the output of {words:?}"
-        );
-        assert_eq!(rt;
-            self.err.as_slice(),
-            want.2.as_bytes(),
-            "the line of {words:?}"
-        );
+        assert_eq!(rt; self.out.as_slice(), want.1, "the output of {words:?}");
+        assert_eq!(rt; self.err.as_slice(), want.2, "the line of {words:?}");
         Ok(())
     }
 

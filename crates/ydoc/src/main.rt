@@ -1,4 +1,5 @@
-//! `ydoc` shows what stands in Yjs updates: the program over the system's files and streams.
+//! `ydoc` shows what stands in Yjs updates and converts them: the program over the system's files
+//! and streams.
 #![tactic(auto)]
 
 use std::env;

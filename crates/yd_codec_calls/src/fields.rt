@@ -1,0 +1,124 @@
+//! Writing fields and any-values one by one, compared byte by byte.
+
+use std::process::Abort;
+use std::test::Fail;
+use yd_any::{Any, AnyList, AnyPairs, Blob, Json, Text};
+use yd_fields::{
+    FieldWriter, NoMemory, V1Reader, V1Writer, read_any_field, read_v1, write_any, write_update,
+};
+use yd_ids::{Client, Id};
+use yd_num::Bytes;
+use yd_parts::counted;
+
+#[test]
+fn the_fields_of_v1_are_written_one_by_one(rt: HostRuntime) -> Result<(), Fail> {
+    let mut writer = V1Writer::new(rt.alloc());
+    writer.put_info(4)?;
+    writer.put_client(1)?;
+    writer.put_left(Id {
+        client: Client(2),
+        clock: 300,
+    })?;
+    writer.put_right(Id {
+        client: Client(300),
+        clock: 5,
+    })?;
+    writer.put_flag(1)?;
+    writer.put_string("t")?;
+    writer.put_key("\u{e9}")?;
+    writer.put_kind(6)?;
+    writer.put_length(7)?;
+    writer.put_any(&Any::Null)?;
+    writer.put_blob(&[9])?;
+    writer.put_json(&Json::Whole(5))?;
+    writer.put_number(128)?;
+    writer.put_range(3, 9, 1)?;
+    let bytes = writer.finish()?;
+    let want = [
+        4, 1, 2, 0xac, 2, 0xac, 2, 5, 1, 1, 116, 2, 0xc3, 0xa9, 6, 7, 126, 1, 9, 1, 53, 0x80, 1, 9,
+        1,
+    ];
+    assert_eq!(rt; bytes.as_slice(), want.as_slice());
+    Ok(())
+}
+
+#[test]
+fn an_update_is_written_up_to_its_last_field(rt: HostRuntime) -> Result<(), Fail> {
+    let update = read_v1(rt.alloc(), &[1, 1, 3, 0, 10, 5, 0])?;
+    let mut writer = V1Writer::new(rt.alloc());
+    write_update(rt.alloc(), &update, &mut writer)?;
+    writer.put_number(6)?;
+    let bytes = writer.finish()?;
+    assert_eq!(rt; bytes.as_slice(), [1, 1, 3, 0, 10, 5, 0, 6].as_slice());
+    Ok(())
+}
+
+#[test]
+fn plain_any_values_are_written_and_read_again(rt: HostRuntime) -> Result<(), Fail> {
+    is_spelled(&rt, &Any::Undefined, &[127])?;
+    is_spelled(&rt, &Any::Null, &[126])?;
+    is_spelled(&rt, &Any::Flag(false), &[121])?;
+    is_spelled(&rt, &Any::Flag(true), &[120])
+}
+
+#[test]
+fn numbers_are_written_and_read_again(rt: HostRuntime) -> Result<(), Fail> {
+    for (n, byte) in [(0, 0), (1, 1), (63, 63), (-1, 0x41), (-63, 0x7f)] {
+        is_spelled(&rt, &Any::Whole(n), &[125, byte])?;
+    }
+    is_spelled(&rt, &Any::Whole(-65), &[125, 0xc1, 1])?;
+    is_spelled(&rt, &Any::Big(258), &[122, 0, 0, 0, 0, 0, 0, 1, 2])
+}
+
+#[test]
+fn raw_bytes_are_written_and_read_again(rt: HostRuntime) -> Result<(), Fail> {
+    is_spelled(&rt, &Any::Raw4([1, 2, 3, 4]), &[124, 1, 2, 3, 4])?;
+    let raw = Any::Raw8([8, 7, 6, 5, 4, 3, 2, 1]);
+    is_spelled(&rt, &raw, &[123, 8, 7, 6, 5, 4, 3, 2, 1])
+}
+
+#[test]
+fn texts_and_byte_strings_are_written_and_read_again(rt: HostRuntime) -> Result<(), Fail> {
+    let text = Any::Str(Text::copy_of(rt.alloc(), "\u{e9}a")?);
+    is_spelled(&rt, &text, &[119, 3, 0xc3, 0xa9, 97])?;
+    let blob = Any::Blob(Blob::copy_of(rt.alloc(), &[9, 8])?);
+    is_spelled(&rt, &blob, &[116, 2, 9, 8])
+}
+
+#[test]
+fn lists_and_pairs_are_written_and_read_again(rt: HostRuntime) -> Result<(), Fail> {
+    let alloc = rt.alloc();
+    let mut list = AnyList::new(alloc);
+    list.push(Any::Flag(true))?;
+    list.push(Any::List(AnyList::new(alloc)))?;
+    is_spelled(&rt, &Any::List(list), &[117, 2, 120, 117, 0])?;
+    // Pairs keep their order, and equal keys stay.
+    let mut pairs = AnyPairs::new(alloc);
+    pairs.push((Text::copy_of(alloc, "b")?, Any::Null))?;
+    pairs.push((Text::copy_of(alloc, "a")?, Any::Pairs(AnyPairs::new(alloc))))?;
+    pairs.push((Text::copy_of(alloc, "b")?, Any::Whole(1)))?;
+    let want = [118, 3, 1, 98, 126, 1, 97, 118, 0, 1, 98, 125, 1];
+    is_spelled(&rt, &Any::Pairs(pairs), &want)
+}
+
+/// The value is written as these bytes behind another, and what they are read as is written again.
+fn is_spelled(rt: &(impl Abort + AllocGlobal), value: &Any, want: &[u8]) -> Result<(), Fail> {
+    assert!(rt; value.is_valid());
+    let mut bytes = Bytes::new(rt.alloc());
+    bytes.push_byte(200)?;
+    write_any(&mut bytes, value)?;
+    assert_eq!(rt; &bytes.as_slice()[1..], want);
+    let mut reader = V1Reader::new(want);
+    let again = read_any_field(rt.alloc(), &mut reader)?;
+    let mut bytes = Bytes::new(rt.alloc());
+    write_any(&mut bytes, &again)?;
+    assert_eq!(rt; bytes.as_slice(), want);
+    Ok(())
+}
+
+#[test]
+fn counts_below_two_to_the_53_are_written(rt: HostRuntime) {
+    assert_eq!(rt; counted(300), Ok(300));
+    assert_eq!(rt; counted(9_007_199_254_740_991), Ok(9_007_199_254_740_991));
+    assert_eq!(rt; counted(9_007_199_254_740_992), Err(NoMemory));
+}

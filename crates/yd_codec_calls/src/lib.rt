@@ -1,0 +1,11 @@
+//! Each public call of the codec of updates once, on its happy path, and files that it refuses.
+#![tactic(auto)]
+
+#[cfg(test)]
+mod fields;
+#[cfg(test)]
+mod ops;
+#[cfg(test)]
+mod reading;
+#[cfg(test)]
+mod writing;
