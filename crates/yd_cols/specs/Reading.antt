@@ -86,6 +86,14 @@ diff_run_at bytes = do
   more ← more_at (nat_eq (number.0.size % 2) 1) number.1
   Ok (record { value = half_of number.0; more = more.0 }, more.1)
 
+-- a run of bytes, and whether it is one without a count, behind which nothing stands
+unfoldable pub byte_run_at : List ℕ → Result ((Run ℕ × Bool) × List ℕ) Cause
+byte_run_at [] = Err short_input
+byte_run_at (b ∷ []) = Ok ((record { value = b; more = 0 }, true), [])
+byte_run_at (b ∷ c ∷ rest) = do
+  more ← unsigned_at (c ∷ rest)
+  Ok ((record { value = b; more = more.0 }, false), more.1)
+
 -- ---- values
 
 -- one reading, and behind it the next one
@@ -125,21 +133,20 @@ stepped runs None = Err (record { cause = NumberTooLarge; at = runs.at })
 unfoldable pub next_diff : DiffsLeft → Result (ℕ × DiffsLeft) ColFault
 next_diff left = and_then (next_in diff_run_at left.runs) (λ step. stepped step.1 (in_range (pos left.before +ℤ step.0)))
 
--- the run of a byte is in hand: the last one without a count, or one with it
-abbrev pub byte_run_of : RunsLeft ℕ → ℕ → List ℕ → Result (ℕ × BytesLeft) ColFault
-byte_run_of left b [] = Ok (b, record { is_open = true; runs = record { value = b; more = 0; at = left.place; place = suc left.place; bytes = [] } })
-byte_run_of left b (c ∷ rest) = and_then (opened left (do
-  more ← unsigned_at (c ∷ rest)
-  Ok (record { value = b; more = more.0 }, more.1))) (λ read. Ok (read.0, record { is_open = false; runs = read.1 }))
-
--- the first byte of the run at the front
-abbrev pub byte_of : RunsLeft ℕ → List ℕ → Result (ℕ × BytesLeft) ColFault
-byte_of left [] = Err (record { cause = ShortInput; at = left.place })
-byte_of left (b ∷ rest) = byte_run_of left b rest
+-- the run of bytes that was read is in hand, and its first byte is given
+abbrev pub opened_byte : RunsLeft ℕ → Result ((Run ℕ × Bool) × List ℕ) Cause → Result (ℕ × BytesLeft) ColFault
+opened_byte left (Ok read) = Ok (
+  read.0.0.value,
+  record {
+    is_open = read.0.1;
+    runs = record { value = read.0.0.value; more = read.0.0.more; at = left.place; place = (left.place + length left.bytes) - length read.1; bytes = read.1 };
+  },
+)
+opened_byte left (Err cause) = Err (record { cause = of_number cause; at = left.place })
 
 -- the next byte of a run with a count, of which so many are in hand, or the first of the next run
 abbrev pub counted_byte : RunsLeft ℕ → ℕ → Result (ℕ × BytesLeft) ColFault
-counted_byte left zero = byte_of left left.bytes
+counted_byte left zero = opened_byte left (byte_run_at left.bytes)
 counted_byte left (suc more) = Ok (left.value, record { is_open = false; runs = record { value = left.value; more = more; at = left.at; place = left.place; bytes = left.bytes } })
 
 -- the next byte; a last run without a count gives it as often as it is asked

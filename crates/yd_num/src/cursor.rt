@@ -51,6 +51,16 @@ impl<'a> Cursor<'a> {
         self.bytes.len() - self.at
     }
 
+    /// Another cursor at the same place.
+    pub fn copy(&self) -> Cursor<'a>
+        ensures { result ≡ self.now }
+    {
+        Cursor {
+            bytes: self.bytes,
+            at: self.at,
+        }
+    }
+
     /// Reads one byte.
     pub fn byte(&mut self) -> Result<u8, NumFault>
         ensures { Reads (λ b. b) self.old self.new result (byte_at self.old.unread) }
