@@ -1,1 +1,6 @@
 pub mod RangeLemmas
+pub mod RunGivenLemmas
+pub mod RunStandLemmas
+pub mod RunTakenLemmas
+pub mod UintFaultLemmas
+pub mod UintRunLemmas
