@@ -1,3 +1,5 @@
+pub mod DiffRunLemmas
+pub mod HalfLemmas
 pub mod RangeLemmas
 pub mod RunGivenLemmas
 pub mod RunStandLemmas
