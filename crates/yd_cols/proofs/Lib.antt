@@ -1,3 +1,4 @@
+pub mod DiffLemmas
 pub mod DiffRunLemmas
 pub mod HalfLemmas
 pub mod RangeLemmas
