@@ -1,3 +1,5 @@
+pub mod ByteLemmas
+pub mod ByteTakenLemmas
 pub mod DiffLemmas
 pub mod DiffRunLemmas
 pub mod HalfLemmas
@@ -6,4 +8,5 @@ pub mod RunGivenLemmas
 pub mod RunStandLemmas
 pub mod RunTakenLemmas
 pub mod UintFaultLemmas
+pub mod UintLemmas
 pub mod UintRunLemmas

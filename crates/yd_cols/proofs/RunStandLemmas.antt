@@ -7,7 +7,7 @@ use Rattle.yd_cols.specs.Taking.{TakesRun}
 use Rattle.yd_cols.specs.declared.run.Run.{Run}
 
 -- what is the same in two lists with a first element
-first_same : {V : Type 0} (x y : V) (xs ys : List V) → x ∷ xs ≡ y ∷ ys → (x ≡ y) × (xs ≡ ys)
+pub first_same : {V : Type 0} (x y : V) (xs ys : List V) → x ∷ xs ≡ y ∷ ys → (x ≡ y) × (xs ≡ ys)
 first_same x y xs ys same = (cc, cc)
 
 -- ---- one value less

@@ -14,7 +14,7 @@ abbrev behind : {V : Type 0} → RunsLeft V → Run V → List ℕ → ℕ → R
 behind left run rest place = record { value = run.value; more = run.more; at = left.place; place = place; bytes = rest }
 
 -- the place behind a run, by what is left and by its own length
-same_place : (place : ℕ) (bytes front rest : List ℕ) → bytes ≡ front ++ rest → (place + length bytes) - length rest ≡ place + length front
+pub same_place : (place : ℕ) (bytes front rest : List ℕ) → bytes ≡ front ++ rest → (place + length bytes) - length rest ≡ place + length front
 same_place place bytes front rest joined = let both : length bytes ≡ length front + length rest = ap length joined ∙ length-append front rest in omega (arith, both)
 
 pub run_taken : {V : Type 0} (run_at : List ℕ → Result (Run V × List ℕ) Cause) (Spells : List ℕ → Run V → Type 0) → Skips run_at Spells →
