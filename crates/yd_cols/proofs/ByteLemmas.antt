@@ -47,10 +47,11 @@ behind left run front rest = record { value = run.value; more = run.more; at = l
 opens : (left : BytesLeft) (v : ℕ) (vs : List ℕ) (run : Run ℕ) (front rest values : List ℕ) → left.is_open ≡ false → left.runs.more ≡ 0 → SpellsByteRun front run → left.runs.bytes ≡ front ++ rest →
     SpellsBytes rest values → replicate (suc run.more) run.value ++ values ≡ v ∷ vs → Given left v vs
 opens left v vs run front rest values closed none spelled joined others all =
-    let same = first_same run.value v (replicate run.more run.value ++ values) vs all in
-    (record { is_open = false; runs = behind left.runs run front rest },
-     inr (inl (record { closed = closed; still_closed = refl; taken = inr (record { none = none; run = run; front = front; rest = rest; spelled = spelled; joined = joined; value = sym same.0; next_is = refl }) })),
-     inr (record { closed = refl; behind = values; spelled = others; all = sym same.1 }))
+    let same = first_same run.value v (replicate run.more run.value ++ values) vs all in (
+      record { is_open = false; runs = behind left.runs run front rest },
+      inr (inl (record { closed = closed; still_closed = refl; taken = inr (record { none = none; run = run; front = front; rest = rest; spelled = spelled; joined = joined; value = sym same.0; next_is = refl }) })),
+      inr (record { closed = refl; behind = values; spelled = others; all = sym same.1 }),
+    )
 
 -- the first run of a column is opened
 first_run : (left : BytesLeft) (v : ℕ) (vs : List ℕ) → left.is_open ≡ false → left.runs.more ≡ 0 → SpellsBytes left.runs.bytes (v ∷ vs) → Given left v vs
@@ -64,15 +65,16 @@ first_run left v vs closed none (inr ends) = by_runs ends.spelled.runs ends.spel
     by_runs : (runs : List (Run ℕ)) → AreSpelled SpellsByteRun runs ends.front → values_of runs ++ replicate (suc ends.more) ends.last ≡ v ∷ vs → Given left v vs
     by_runs [] spelled all =
         let same = first_same ends.last v (replicate ends.more ends.last) vs all in
-        let only : left.runs.bytes ≡ v ∷ [] = ends.bytes_are ∙ ap (λ f. f ++ ends.last ∷ []) spelled ∙ ap (λ b. b ∷ []) same.0 in
-        (record { is_open = true; runs = record { value = v; more = 0; at = left.runs.place; place = suc left.runs.place; bytes = [] } },
-         inr (inr (record { closed = closed; none = none; only = only; next_is = refl })),
-         inl (record { opened = refl; count = ends.more; values_are = sym same.1 ∙ ap (λ b. replicate ends.more b) same.0 }))
+        let only : left.runs.bytes ≡ v ∷ [] = ends.bytes_are ∙ ap (λ f. f ++ ends.last ∷ []) spelled ∙ ap (λ b. b ∷ []) same.0 in (
+          record { is_open = true; runs = record { value = v; more = 0; at = left.runs.place; place = suc left.runs.place; bytes = [] } },
+          inr (inr (record { closed = closed; none = none; only = only; next_is = refl })),
+          inl (record { opened = refl; count = ends.more; values_are = sym same.1 ∙ ap (λ b. replicate ends.more b) same.0 }),
+        )
     by_runs (run ∷ runs) spelled all =
         opens left v vs run spelled.front (spelled.back ++ ends.last ∷ []) (values_of runs ++ replicate (suc ends.more) ends.last) closed none spelled.is_front
-          (ends.bytes_are ∙ ap (λ f. f ++ ends.last ∷ []) spelled.joined ∙ append_assoc spelled.front spelled.back (ends.last ∷ []))
-          (inr (record { front = spelled.back; before = values_of runs; last = ends.last; more = ends.more; spelled = record { runs = runs; spelled = spelled.is_back; cut = refl }; bytes_are = refl; values_are = refl }))
-          (sym (append_assoc (replicate (suc run.more) run.value) (values_of runs) (replicate (suc ends.more) ends.last)) ∙ all)
+        (ends.bytes_are ∙ ap (λ f. f ++ ends.last ∷ []) spelled.joined ∙ append_assoc spelled.front spelled.back (ends.last ∷ []))
+        (inr (record { front = spelled.back; before = values_of runs; last = ends.last; more = ends.more; spelled = record { runs = runs; spelled = spelled.is_back; cut = refl }; bytes_are = refl; values_are = refl }))
+        (sym (append_assoc (replicate (suc run.more) run.value) (values_of runs) (replicate (suc ends.more) ends.last)) ∙ all)
 
 byte_given : (left : BytesLeft) (v : ℕ) (vs : List ℕ) → BytesStand left (v ∷ vs) → Given left v vs
 byte_given left v vs (inl stands) = by_count stands.count stands.values_are
@@ -87,10 +89,11 @@ byte_given left v vs (inr stand) = by_more left.runs.more refl stand.all
     by_more : (more : ℕ) → left.runs.more ≡ more → v ∷ vs ≡ replicate more left.runs.value ++ stand.behind → Given left v vs
     by_more zero none all = first_run left v vs stand.closed none (subst (λ values. SpellsBytes left.runs.bytes values) (sym all) stand.spelled)
     by_more (suc more) there all =
-        let same = first_same v left.runs.value vs (replicate more left.runs.value ++ stand.behind) all in
-        (record { is_open = false; runs = record { value = left.runs.value; more = more; at = left.runs.at; place = left.runs.place; bytes = left.runs.bytes } },
-         inr (inl (record { closed = stand.closed; still_closed = refl; taken = inl (record { more = more; there = there; value = same.0; next_is = refl }) })),
-         inr (record { closed = refl; behind = stand.behind; spelled = stand.spelled; all = same.1 }))
+        let same = first_same v left.runs.value vs (replicate more left.runs.value ++ stand.behind) all in (
+          record { is_open = false; runs = record { value = left.runs.value; more = more; at = left.runs.at; place = left.runs.place; bytes = left.runs.bytes } },
+          inr (inl (record { closed = stand.closed; still_closed = refl; taken = inl (record { more = more; there = there; value = same.0; next_is = refl }) })),
+          inr (record { closed = refl; behind = stand.behind; spelled = stand.spelled; all = same.1 }),
+        )
 
 -- ---- one value more
 

@@ -49,8 +49,8 @@ byte_run_found (b ∷ c ∷ bytes) run is_open rest read =
     let same = ok_value {A = (Run ℕ × Bool) × List ℕ} {E = Cause} ((record { value = b; more = h.0.0 }, false), h.0.1) ((run, is_open), rest) h.2 in
     let count = unsigned_found (c ∷ bytes) h.0.0 h.0.1 h.1 in
     subst (λ (y : (Run ℕ × Bool) × List ℕ). RunFound (b ∷ c ∷ bytes) y.0.0 y.0.1 y.1) same
-      (counted_run (b ∷ count.front) (record { front = b ∷ []; back = count.front; is_front = refl; is_back = count.is_front; joined = refl })
-        (ap (λ bs. b ∷ bs) (count.joined ∙ ap (λ back. count.front ++ back) count.is_back)) refl)
+    (counted_run (b ∷ count.front) (record { front = b ∷ []; back = count.front; is_front = refl; is_back = count.is_front; joined = refl })
+    (ap (λ bs. b ∷ bs) (count.joined ∙ ap (λ back. count.front ++ back) count.is_back)) refl)
 
 -- ---- the next byte
 
@@ -103,7 +103,7 @@ byte_taken left b next read = by_open left.is_open refl read
         let runs : RunsLeft ℕ = record { value = left.runs.value; more = more; at = left.runs.at; place = left.runs.place; bytes = left.runs.bytes } in
         let same = ok_value {E = ColFault} (left.runs.value, record { is_open = false; runs = runs }) (b, next) e in
         subst (λ (y : ℕ × BytesLeft). TakesByte left y.0 y.1) same
-          (inr (inl (record { closed = closed; still_closed = refl; taken = inl (record { more = more; there = there; value = refl; next_is = refl }) })))
+        (inr (inl (record { closed = closed; still_closed = refl; taken = inl (record { more = more; there = there; value = refl; next_is = refl }) })))
 
     by_open : (is_open : Bool) → left.is_open ≡ is_open → (if is_open then Ok (left.runs.value, left) else counted_byte left.runs left.runs.more) ≡ Ok (b, next) → TakesByte left b next
     by_open true opened e =
@@ -115,7 +115,7 @@ pub byte_again : (left : BytesLeft) (b : ℕ) (next : BytesLeft) → TakesByte l
 unfolding next_byte
 byte_again left b next (inl open_) =
     ap (λ o. if o then Ok (left.runs.value, left) else counted_byte left.runs left.runs.more) open_.opened
-      ∙ sym (ap (λ pair. Ok pair) (ap (λ x. (x, next)) open_.value ∙ ap (λ n. (left.runs.value, n)) open_.next_is))
+    ∙ sym (ap (λ pair. Ok pair) (ap (λ x. (x, next)) open_.value ∙ ap (λ n. (left.runs.value, n)) open_.next_is))
 byte_again left b next (inr (inl counted)) = by_taken counted.taken
   where
     closed_next : (runs : RunsLeft ℕ) → next.runs ≡ runs → record { is_open = false; runs = runs } ≡ next
@@ -128,8 +128,8 @@ byte_again left b next (inr (inl counted)) = by_taken counted.taken
         let read = ap byte_run_at opens.joined ∙ byte_run_again opens.front opens.run opens.rest opens.spelled in
         let place = same_place left.runs.place left.runs.bytes opens.front opens.rest opens.joined in
         ap (λ o. if o then Ok (left.runs.value, left) else counted_byte left.runs left.runs.more) counted.closed ∙ (ap (λ more. counted_byte left.runs more) opens.none ∙ ap (λ r. opened_byte left.runs r) read
-          ∙ ap (λ place. Ok (opens.run.value, record { is_open = false; runs = behind left.runs opens.run opens.rest place })) place
-          ∙ ap (λ n. Ok (opens.run.value, n)) (closed_next (behind left.runs opens.run opens.rest (left.runs.place + length opens.front)) opens.next_is) ∙ ap (λ x. Ok (x, next)) (sym opens.value))
+        ∙ ap (λ place. Ok (opens.run.value, record { is_open = false; runs = behind left.runs opens.run opens.rest place })) place
+        ∙ ap (λ n. Ok (opens.run.value, n)) (closed_next (behind left.runs opens.run opens.rest (left.runs.place + length opens.front)) opens.next_is) ∙ ap (λ x. Ok (x, next)) (sym opens.value))
 byte_again left b next (inr (inr last)) =
     rw (last.closed, last.none, last.only, one_run b) (ap (λ place. Ok (b, record { is_open = true; runs = record { value = b; more = 0; at = left.runs.place; place = place; bytes = [] } })) (one_behind left.runs.place) ∙ ap (λ n. Ok (b, n)) (sym last.next_is))
 
@@ -194,8 +194,8 @@ unfolding next_byte
 byte_fails left fault lacks =
     let why = byte_fails_at left.runs.bytes fault.cause lacks.lacking.lacking in
     ap (λ o. if o then Ok (left.runs.value, left) else counted_byte left.runs left.runs.more) lacks.closed
-      ∙ (ap (λ more. counted_byte left.runs more) lacks.lacking.none ∙ ap (λ r. opened_byte left.runs r) why.1
-      ∙ ap (λ cause. Err (record { cause = cause; at = left.runs.place })) why.2 ∙ ap (λ at. Err (record { cause = fault.cause; at = at })) (sym lacks.lacking.place))
+    ∙ (ap (λ more. counted_byte left.runs more) lacks.lacking.none ∙ ap (λ r. opened_byte left.runs r) why.1
+    ∙ ap (λ cause. Err (record { cause = cause; at = left.runs.place })) why.2 ∙ ap (λ at. Err (record { cause = fault.cause; at = at })) (sym lacks.lacking.place))
 
 -- ---- lemmas for callers
 

@@ -23,9 +23,9 @@ IsOut z = (z <ℤ pos 0) ⊎ (pos (2 ^ 53) ≤ℤ z)
 -- what an integer is, by its range
 judged : (z : ℤ) → ((v : ℕ) × (z ≡ pos v) × (v < 2 ^ 53) × (in_range z ≡ Some v)) ⊎ (IsOut z × (in_range z ≡ None))
 judged (pos v) = elim (cases_lt v (2 ^ 53)) [
-    | inl small ↦ inl (v, refl, small, rw (lt-ltb v (2 ^ 53) small) refl)
-    | inr past ↦ inr (inr (omega (arith, ints, past)), rw (le-ltb v (2 ^ 53) past) refl)
-  ]
+  | inl small ↦ inl (v, refl, small, rw (lt-ltb v (2 ^ 53) small) refl)
+  | inr past ↦ inr (inr (omega (arith, ints, past)), rw (le-ltb v (2 ^ 53) past) refl)
+]
 judged (negsuc n) = inr (inl (omega (arith, ints)), refl)
 
 -- none is in the range and out of it
@@ -35,7 +35,7 @@ not_both z v is small (inr past) = omega (arith, ints, is, small, past)
 
 -- ---- one value
 
-diff_taken : (left : DiffsLeft) (v : ℕ) (next : DiffsLeft) → next_diff left ≡ Ok (v, next) → TakesDiff left v next
+pub diff_taken : (left : DiffsLeft) (v : ℕ) (next : DiffsLeft) → next_diff left ≡ Ok (v, next) → TakesDiff left v next
 unfolding next_diff
 diff_taken left v next read = by_step (next_in diff_run_at left.runs) refl read
   where
@@ -59,7 +59,7 @@ diff_again left v next takes =
       | inl fits ↦
           let same : fits.0 ≡ v = omega (arith, ints, fits.1, takes.value) in
           rw (run_again diff_run_at SpellsDiffRun diff_skips left.runs takes.step next.runs takes.taken, fits.3, same)
-            (ap (λ before. Ok (v, record { before = before; runs = next.runs })) (sym takes.before))
+          (ap (λ before. Ok (v, record { before = before; runs = next.runs })) (sym takes.before))
       | inr out ↦ absurd (not_both (pos left.before +ℤ takes.step) v takes.value takes.in_range out.0)
     ]
 
@@ -100,17 +100,18 @@ step_back : (before v : ℕ) → pos before +ℤ (pos v -ℤ pos before) ≡ pos
 step_back before v = omega (arith, ints)
 
 -- and the difference is the only one
-step_only : (before v : ℕ) (step : ℤ) → pos before +ℤ step ≡ pos v → pos v -ℤ pos before ≡ step
+pub step_only : (before v : ℕ) (step : ℤ) → pos before +ℤ step ≡ pos v → pos v -ℤ pos before ≡ step
 step_only before v step is = omega (arith, ints, is)
 
 diff_given : (left : DiffsLeft) (v : ℕ) (vs : List ℕ) → Unit {0} → DiffsStand left (v ∷ vs) → (next : DiffsLeft) × (next_diff left ≡ Ok (v, next)) × Unit {0} × DiffsStand next vs
 diff_given left v vs sound stand =
     let given = run_given SpellsDiffRun left.runs (pos v -ℤ pos left.before) (differences v vs) stand.stand in
-    let next : DiffsLeft = record { before = v; runs = given.0 } in
-    (next,
-     diff_again left v next (record { step = pos v -ℤ pos left.before; taken = given.1; value = step_back left.before v; in_range = stand.in_range.0; before = refl }),
-     tt,
-     record { in_range = stand.in_range.1; stand = given.2 })
+    let next : DiffsLeft = record { before = v; runs = given.0 } in (
+      next,
+      diff_again left v next (record { step = pos v -ℤ pos left.before; taken = given.1; value = step_back left.before v; in_range = stand.in_range.0; before = refl }),
+      tt,
+      record { in_range = stand.in_range.1; stand = given.2 },
+    )
 
 diff_before : (left : DiffsLeft) (v : ℕ) (next : DiffsLeft) (vs : List ℕ) → Unit {0} → next_diff left ≡ Ok (v, next) → DiffsStand next vs → DiffsStand left (v ∷ vs)
 diff_before left v next vs sound read stand =
@@ -119,7 +120,7 @@ diff_before left v next vs sound read stand =
     record {
       in_range = (takes.in_range, stand.in_range);
       stand = subst (λ step. RunsStand SpellsDiffRun left.runs (step ∷ differences v vs)) (sym (step_only left.before v takes.step takes.value))
-        (run_before SpellsDiffRun left.runs takes.step next.runs (differences v vs) takes.taken behind);
+          (run_before SpellsDiffRun left.runs takes.step next.runs (differences v vs) takes.taken behind);
     }
 
 pub diff_whole : IsReadWhole (λ left. Unit {0}) next_diff end_of_diffs DiffsStand

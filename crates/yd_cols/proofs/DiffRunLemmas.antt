@@ -45,7 +45,7 @@ diff_found bytes run rest read =
         let count = more_found (is_odd number) middle more back more_is in
         let h = signed_found bytes number middle is in
         let both = joined_then (λ front. SpellsInteger front (doubled (record { value = half_of number; more = more }))) more bytes middle back
-            (record { front = h.front; back = h.back; is_front = number_spells h.front number more h.is_front count.0; is_back = h.is_back; joined = h.joined }) count.1 in
+        (record { front = h.front; back = h.back; is_front = number_spells h.front number more h.is_front count.0; is_back = h.is_back; joined = h.joined }) count.1 in
         subst (λ (y : Run ℤ × List ℕ). Joins (λ front. SpellsDiffRun front y.0) (λ back. back ≡ y.1) bytes) same both
 
 diff_only : (front : List ℕ) (run : Run ℤ) (rest : List ℕ) → SpellsDiffRun front run → diff_run_at (front ++ rest) ≡ Ok (run, rest)
@@ -54,7 +54,7 @@ diff_only front run rest spells =
     let number = spells.is_front.0 in
     let half = half_is number run.value (has_more run.more) spells.is_front.2 in
     let at_front : signed_at (front ++ rest) ≡ Ok (number, spells.back ++ rest) =
-        ap (λ b. signed_at (b ++ rest)) spells.joined ∙ ap signed_at (append_assoc spells.front spells.back rest) ∙ signed_only spells.front number (spells.back ++ rest) spells.is_front.1 in
+    ap (λ b. signed_at (b ++ rest)) spells.joined ∙ ap signed_at (append_assoc spells.front spells.back rest) ∙ signed_only spells.front number (spells.back ++ rest) spells.is_front.1 in
     rw (at_front, half.1, more_again spells.back run.more rest spells.is_back) (ap (λ d. Ok (record { value = d; more = run.more }, rest)) half.0)
 
 pub diff_skips : Skips diff_run_at SpellsDiffRun

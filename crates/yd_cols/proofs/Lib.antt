@@ -2,6 +2,7 @@ pub mod ByteLemmas
 pub mod ByteTakenLemmas
 pub mod DiffLemmas
 pub mod DiffRunLemmas
+pub mod GivenLemmas
 pub mod HalfLemmas
 pub mod RangeLemmas
 pub mod RunGivenLemmas

@@ -20,19 +20,21 @@ run_given {V} Spells left v vs stand = by_more left.more refl stand.all
     by_runs [] none spelled all = absurd cc
     by_runs (run ∷ runs) none spelled all =
         let same = first_same run.value v (replicate run.more run.value ++ values_of runs) vs all in
-        let next : RunsLeft V = record { value = run.value; more = run.more; at = left.place; place = left.place + length spelled.front; bytes = spelled.back } in
-        (next,
-         inr (record { none = none; run = run; front = spelled.front; rest = spelled.back; spelled = spelled.is_front; joined = spelled.joined; value = sym same.0; next_is = refl }),
-         record { behind = values_of runs; spelled = record { runs = runs; spelled = spelled.is_back; cut = refl }; all = sym same.1 })
+        let next : RunsLeft V = record { value = run.value; more = run.more; at = left.place; place = left.place + length spelled.front; bytes = spelled.back } in (
+          next,
+          inr (record { none = none; run = run; front = spelled.front; rest = spelled.back; spelled = spelled.is_front; joined = spelled.joined; value = sym same.0; next_is = refl }),
+          record { behind = values_of runs; spelled = record { runs = runs; spelled = spelled.is_back; cut = refl }; all = sym same.1 },
+        )
 
     by_more : (more : ℕ) → left.more ≡ more → v ∷ vs ≡ replicate more left.value ++ stand.behind → (next : RunsLeft V) × TakesRun Spells left v next × RunsStand Spells next vs
     by_more zero none all = by_runs stand.spelled.runs none stand.spelled.spelled (stand.spelled.cut ∙ sym all)
     by_more (suc more) there all =
         let same = first_same v left.value vs (replicate more left.value ++ stand.behind) all in
-        let next : RunsLeft V = record { value = left.value; more = more; at = left.at; place = left.place; bytes = left.bytes } in
-        (next,
-         inl (record { more = more; there = there; value = same.0; next_is = refl }),
-         record { behind = stand.behind; spelled = stand.spelled; all = same.1 })
+        let next : RunsLeft V = record { value = left.value; more = more; at = left.at; place = left.place; bytes = left.bytes } in (
+          next,
+          inl (record { more = more; there = there; value = same.0; next_is = refl }),
+          record { behind = stand.behind; spelled = stand.spelled; all = same.1 },
+        )
 
 -- ---- one value more
 
@@ -52,7 +54,7 @@ run_before {V} Spells left v next vs (inr opens) stand =
         runs = opens.run ∷ stand.spelled.runs;
         spelled = record { front = opens.front; back = opens.rest; is_front = opens.spelled; is_back = subst (λ b. AreSpelled Spells stand.spelled.runs b) bytes stand.spelled.spelled; joined = opens.joined };
         cut = sym (ap (λ x. x ∷ vs) opens.value
-          ∙ ap (λ xs. opens.run.value ∷ xs) (stand.all ∙ ap (λ n. replicate n.more n.value ++ stand.behind) opens.next_is ∙ ap (λ b. replicate opens.run.more opens.run.value ++ b) (sym stand.spelled.cut)));
+            ∙ ap (λ xs. opens.run.value ∷ xs) (stand.all ∙ ap (λ n. replicate n.more n.value ++ stand.behind) opens.next_is ∙ ap (λ b. replicate opens.run.more opens.run.value ++ b) (sym stand.spelled.cut)));
       };
       all = sym (ap (λ more. replicate more left.value ++ v ∷ vs) opens.none);
     }

@@ -54,8 +54,8 @@ run_again run_at Spells skips left v next (inr opens) =
     let read = ap run_at opens.joined ∙ skips.only opens.front opens.run opens.rest opens.spelled in
     let place = same_place left.place left.bytes opens.front opens.rest opens.joined in
     ap (λ more. next_of run_at left more) opens.none ∙ ap (λ r. opened left r) read
-      ∙ ap (λ place. Ok (opens.run.value, behind left opens.run opens.rest place)) place
-      ∙ sym (ap (λ pair. Ok pair) (ap (λ x. (x, next)) opens.value ∙ ap (λ n. (opens.run.value, n)) opens.next_is))
+    ∙ ap (λ place. Ok (opens.run.value, behind left opens.run opens.rest place)) place
+    ∙ sym (ap (λ pair. Ok pair) (ap (λ x. (x, next)) opens.value ∙ ap (λ n. (opens.run.value, n)) opens.next_is))
 
 -- ---- faults
 
@@ -85,4 +85,4 @@ unfolding next_in
 run_fails run_at Lacking fails left fault lacks =
     let why = fails.fails left.bytes fault.cause lacks.lacking in
     ap (λ more. next_of run_at left more) lacks.none ∙ ap (λ r. opened left r) why.1
-      ∙ ap (λ cause. Err (record { cause = cause; at = left.place })) why.2 ∙ ap (λ at. Err (record { cause = fault.cause; at = at })) (sym lacks.place)
+    ∙ ap (λ cause. Err (record { cause = cause; at = left.place })) why.2 ∙ ap (λ at. Err (record { cause = fault.cause; at = at })) (sym lacks.place)

@@ -66,7 +66,7 @@ uint_found bytes run rest read =
     let number_is : h.0.0 ≡ record { negative = has_more m.0.0; size = h.0.0.size } = ap (λ negative. record { negative = negative; size = h.0.0.size }) (sym count.0) in
     let both = joined_then (λ front. SpellsSigned front (record { negative = has_more m.0.0; size = h.0.0.size })) m.0.0 bytes h.0.1 m.0.1 (subst (λ n. Joins (λ front. SpellsSigned front n) (λ back. back ≡ h.0.1) bytes) number_is number) count.1 in
     subst (λ (y : Run ℕ × List ℕ). Joins (λ front. SpellsUintRun front y.0) (λ back. back ≡ y.1) bytes) same
-      (record { front = both.front; back = both.back; is_front = record { in_range = ltb-true h.0.0.size (2 ^ 53) c.0; spelled = both.is_front }; is_back = both.is_back; joined = both.joined })
+    (record { front = both.front; back = both.back; is_front = record { in_range = ltb-true h.0.0.size (2 ^ 53) c.0; spelled = both.is_front }; is_back = both.is_back; joined = both.joined })
 
 uint_only : (front : List ℕ) (run : Run ℕ) (rest : List ℕ) → SpellsUintRun front run → uint_run_at (front ++ rest) ≡ Ok (run, rest)
 unfolding uint_run_at
