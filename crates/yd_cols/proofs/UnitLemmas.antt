@@ -1,12 +1,15 @@
 -- How many units characters and texts have.
-use Rattle.std.proofs.Common.{◌≡◌, ℕ, ◌+◌, ◌^◌, ◌<◌, ◌≤◌, ◌⊎◌, List, [], ◌++◌, length, IsUtf8, refl, sym, ap, ◌∙◌, inl, inr, arith, length-append}
-use Rattle.std.proofs.Math.Utf8.{encode}
+use Rattle.std.proofs.Common.{◌≡◌, ℕ, ◌+◌, ◌^◌, ◌<◌, ◌≤◌, ◌⊎◌, List, [], ◌∷◌, ◌++◌, length, IsUtf8, refl, sym, ap, ◌∙◌, inl, inr, arith, length-append}
+use Rattle.std.proofs.Math.Utf8.{encode, encodes}
 use Rattle.std.proofs.lemmas.Bool.{cases_lt, le-ltb}
-use Rattle.std.proofs.lemmas.Str.{length-encode, len_utf8_bounds}
+use Rattle.std.proofs.lemmas.Str.{encodes-chars, length-encode, len_utf8_bounds}
 use Rattle.std.proofs.str.Utf16.{one_unit, two_units}
 use Rattle.std.specs.Char.{len_utf8}
 use Rattle.std.specs.Char.Escape.{encode_utf16}
+use Rattle.std.specs.List.{flat_map}
+use Rattle.std.specs.Str.{chars}
 use Rattle.yd_cols.specs.Column.{units_in}
+use Rattle.yd_units.specs.Text.{units_of}
 use Rattle.yd_units.proofs.TextLemmas.{units_of-step, units_of-nil}
 
 -- a character has one unit, or two from 2^16 on
@@ -39,3 +42,14 @@ units_in-nil = ap length units_of-nil
 -- the units of a text, one character more
 pub units_in-step : (bs rest : List ℕ) (c : ℕ) → IsUtf8 bs → bs ≡ encode c ++ rest → units_in bs ≡ length (encode_utf16 c) + units_in rest
 units_in-step bs rest c is e = ap length (units_of-step bs rest c is e) ∙ length-append (encode_utf16 c) _
+
+-- ---- whole texts
+
+chars_within : (cs : List ℕ) → length (flat_map encode_utf16 cs) ≤ length (encodes cs)
+chars_within [] = omega arith
+chars_within (c ∷ cs) = omega (arith, units_within c, chars_within cs, length-append (encode_utf16 c) (flat_map encode_utf16 cs), length-append (encode c) (encodes cs))
+
+-- a text has no more units than bytes
+pub units_in-le : (text : List ℕ) → IsUtf8 text → units_in text ≤ length text
+unfolding units_of
+units_in-le text is = omega (arith, chars_within (chars text), ap length (encodes-chars text is))

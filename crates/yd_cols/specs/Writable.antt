@@ -7,10 +7,14 @@ pub record FitsUint (run : Run ℕ) : Type 0 where
   pub in_range : run.value < 2 ^ 53
   pub count : run.more ≤ 2 ^ 53
 
--- a run of differences of such numbers
+-- a difference of two such numbers
+pub record IsStep (step : ℤ) : Type 0 where
+  pub above : neg_ℤ (pos (2 ^ 53)) <ℤ step
+  pub below : step <ℤ pos (2 ^ 53)
+
+-- a run of such differences
 pub record FitsDiff (run : Run ℤ) : Type 0 where
-  pub above : neg_ℤ (pos (2 ^ 53)) <ℤ run.value
-  pub below : run.value <ℤ pos (2 ^ 53)
+  pub in_range : IsStep run.value
   pub count : run.more ≤ 2 ^ 53
 
 -- a run of bytes

@@ -1,7 +1,7 @@
 //! The writer of a column of numbers by their differences.
 
-ghost use Rattle.std.specs.Prelude.{◌≡◌, ◌^◌, ◌<◌, pos, neg_ℤ, ◌<ℤ◌, Some, IfOk, OnOk, OnErr};
-ghost use Rattle.yd_cols.specs.Writable.{FitsDiff, HandFits};
+ghost use Rattle.std.specs.Prelude.{◌≡◌, ◌^◌, ◌<◌, Some, IfOk, OnOk, OnErr};
+ghost use Rattle.yd_cols.specs.Writable.{FitsDiff, HandFits, IsStep};
 ghost use Rattle.yd_cols.specs.Writing.{diff_column, no_diffs, put_diff, put_step, written};
 
 use crate::run::Run;
@@ -72,8 +72,7 @@ impl IntDiffWriter {
 /// The run that is in hand behind a difference more; the one before is written, if it does not take
 /// it.
 fn put(bytes: &mut Bytes, hand: Option<Run<i64>>, step: i64) -> Result<Run<i64>, NoMemory>
-    requires above { neg_ℤ (pos (2 ^ 53)) <ℤ step }
-    requires below { step <ℤ pos (2 ^ 53) }
+    requires step { IsStep step }
     requires hand { HandFits FitsDiff hand }
     ensures put { IfOk result (λ run. written bytes.new (Some run) ≡ put_step step (written bytes.old hand)) }
     ensures fits { IfOk result (λ run. FitsDiff run) }

@@ -4,6 +4,7 @@
 mod byte_writer;
 mod diff_writer;
 mod fault;
+pub mod law;
 mod run;
 mod run_writing;
 mod string_writer;
