@@ -1,5 +1,9 @@
 pub mod BackLemmas
 pub mod ColumnLemmas
+pub mod CutLemmas
+pub mod CuttingLemmas
 pub mod RunLemmas
 pub mod SpelledLemmas
+pub mod StringColumnLemmas
+pub mod StringLemmas
 pub mod UnitLemmas

@@ -7,6 +7,7 @@ mod fault;
 pub mod law;
 mod run;
 mod run_writing;
+mod string_cutting;
 mod string_writer;
 mod uint_writer;
 
