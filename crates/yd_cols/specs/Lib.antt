@@ -5,4 +5,5 @@ pub mod Reading
 pub mod Run
 pub mod Standing
 pub mod Taking
+pub mod Writable
 pub mod Writing

@@ -13,9 +13,13 @@ abbrev pub more_bytes : ℕ → List ℕ
 more_bytes zero = []
 more_bytes (suc more) = shortest more
 
+-- a number, and how many more of it there are than two
+abbrev pub counted_bytes : Signed → ℕ → List ℕ
+counted_bytes number more = shortest_signed number ++ more_bytes more
+
 -- a run of numbers
 abbrev pub uint_run_bytes : Run ℕ → List ℕ
-uint_run_bytes run = shortest_signed (record { negative = has_more run.more; size = run.value }) ++ more_bytes run.more
+uint_run_bytes run = counted_bytes (record { negative = has_more run.more; size = run.value }) run.more
 
 -- an integer with its sign; zero has none
 abbrev pub signed_of : ℤ → Signed
@@ -24,7 +28,7 @@ signed_of (negsuc n) = record { negative = true; size = suc n }
 
 -- a run of differences
 abbrev pub diff_run_bytes : Run ℤ → List ℕ
-diff_run_bytes run = shortest_signed (signed_of (doubled run)) ++ more_bytes run.more
+diff_run_bytes run = counted_bytes (signed_of (doubled run)) run.more
 
 -- a run of bytes
 abbrev pub byte_run_bytes : Run ℕ → List ℕ
@@ -40,6 +44,10 @@ last_byte run = run.value ∷ []
 pub record RunsWritten (V : Type 0) : Type 0 where
   pub bytes : List ℕ
   pub hand : Option (Run V)
+
+-- these bytes are written, and this run is in hand
+abbrev pub written : {V : Type 0} → List ℕ → Option (Run V) → RunsWritten V
+written bytes hand = record { bytes = bytes; hand = hand }
 
 -- nothing is written
 abbrev pub no_runs : {V : Type 0} → RunsWritten V
@@ -69,11 +77,11 @@ hand_bytes spell (Some run) = spell run
 
 -- one more number; a run has at most 2^53+1 of them, since 2^53-1 is the greatest count that is read
 abbrev pub put_uint : ℕ → RunsWritten ℕ → RunsWritten ℕ
-put_uint v written = put_behind uint_run_bytes nat_eq (2 ^ 53) v written.bytes written.hand
+put_uint v runs = put_behind uint_run_bytes nat_eq (2 ^ 53) v runs.bytes runs.hand
 
 -- a column of numbers
 abbrev pub uint_column : RunsWritten ℕ → List ℕ
-uint_column written = written.bytes ++ hand_bytes uint_run_bytes written.hand
+uint_column runs = runs.bytes ++ hand_bytes uint_run_bytes runs.hand
 
 -- what is written of a column of differences: these, and the last value
 pub record DiffsWritten : Type 0 where
@@ -84,21 +92,25 @@ pub record DiffsWritten : Type 0 where
 abbrev pub no_diffs : DiffsWritten
 no_diffs = record { last = 0; runs = no_runs }
 
+-- one more difference; a run has at most 2^53+1 of them
+abbrev pub put_step : ℤ → RunsWritten ℤ → RunsWritten ℤ
+put_step step runs = put_behind diff_run_bytes int_eq (2 ^ 53) step runs.bytes runs.hand
+
 -- one more number, by its difference from the last one
 abbrev pub put_diff : ℕ → DiffsWritten → DiffsWritten
-put_diff v written = record { last = v; runs = put_behind diff_run_bytes int_eq (2 ^ 53) (pos v -ℤ pos written.last) written.runs.bytes written.runs.hand }
+put_diff v diffs = record { last = v; runs = put_step (pos v -ℤ pos diffs.last) diffs.runs }
 
 -- a column of differences
 abbrev pub diff_column : DiffsWritten → List ℕ
-diff_column written = written.runs.bytes ++ hand_bytes diff_run_bytes written.runs.hand
+diff_column diffs = diffs.runs.bytes ++ hand_bytes diff_run_bytes diffs.runs.hand
 
 -- one more byte; a run has at most 2^53 of them
 abbrev pub put_byte : ℕ → RunsWritten ℕ → RunsWritten ℕ
-put_byte b written = put_behind byte_run_bytes nat_eq (2 ^ 53 - 1) b written.bytes written.hand
+put_byte b runs = put_behind byte_run_bytes nat_eq (2 ^ 53 - 1) b runs.bytes runs.hand
 
 -- a column of bytes; the count of the last run is left out
 abbrev pub byte_column : RunsWritten ℕ → List ℕ
-byte_column written = written.bytes ++ hand_bytes last_byte written.hand
+byte_column runs = runs.bytes ++ hand_bytes last_byte runs.hand
 
 -- what is written of a column of strings: the text that joins them, and their lengths
 pub record StringsWritten : Type 0 where
@@ -111,13 +123,13 @@ no_strings = record { text = []; lengths = no_runs }
 
 -- one more string
 abbrev pub put_string : List ℕ → StringsWritten → StringsWritten
-put_string string written = record { text = written.text ++ string; lengths = put_uint (units_in string) written.lengths }
+put_string string strings = record { text = strings.text ++ string; lengths = put_uint (units_in string) strings.lengths }
 
 -- a column of strings: the text, and then how many units each has
 abbrev pub string_column : StringsWritten → List ℕ
-string_column written = shortest_blob written.text ++ uint_column written.lengths
+string_column strings = shortest_blob strings.text ++ uint_column strings.lengths
 
 -- values put one behind the other
 abbrev pub put_all : {V W : Type 0} → (V → W → W) → List V → W → W
-put_all put [] written = written
-put_all put (v ∷ vs) written = put_all put vs (put v written)
+put_all put [] so_far = so_far
+put_all put (v ∷ vs) so_far = put_all put vs (put v so_far)

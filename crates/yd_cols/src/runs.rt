@@ -72,6 +72,13 @@ impl<'a, V: Copy> Runs<'a, V> {
         self.at
     }
 
+    /// The place behind the run in hand.
+    pub fn end_place(&self) -> usize
+        ensures { result ≡ self.now.place }
+    {
+        self.cursor.place()
+    }
+
     /// One more value of the run in hand, if it has one.
     pub fn hand(&mut self) -> Option<V>
         ensures { GivesHand self.old self.new result }
@@ -137,7 +144,8 @@ impl<'a, V: Copy> Runs<'a, V> {
     }
 }
 
-fn cause_of(fault: NumFault) -> ColCause
+/// The cause of a number or a text that cannot be read.
+pub fn cause_of(fault: NumFault) -> ColCause
     ensures { result ≡ of_number (cause_of fault) }
 {
     match fault {

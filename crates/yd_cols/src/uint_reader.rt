@@ -59,6 +59,13 @@ impl<'a> UintReader<'a> {
         self.runs.place()
     }
 
+    /// The place behind the run in hand.
+    pub(crate) fn end_place(&self) -> usize
+        ensures { result ≡ self.now.place }
+    {
+        self.runs.end_place()
+    }
+
     /// Reads the next number, at most 2^53-1. After a fault the same is answered again.
     #[tactic(auto, unfolding(crate::specs::Reading::next_in))]
     pub fn next(&mut self) -> Result<u64, ColFault>

@@ -1,6 +1,6 @@
 //! Bytes that grow by one field after the other.
 
-ghost use Rattle.std.specs.Prelude.{◌≡◌, ◌^◌, ◌<◌, [], ◌∷◌, ◌++◌, length, OnOk, OnErr};
+ghost use Rattle.std.specs.Prelude.{◌≡◌, ◌^◌, ◌<◌, [], ◌∷◌, ◌++◌, length, take, OnOk, OnErr};
 ghost use Rattle.yd_num.specs.Writing.{shortest, shortest_signed, shortest_blob};
 
 use crate::fault::NoMemory;
@@ -47,6 +47,13 @@ impl Bytes {
         ensures { result.items ≡ self }
     {
         self.bytes
+    }
+
+    /// Keeps the first `len` bytes, and forgets the others.
+    pub fn truncate(&mut self, len: usize)
+        ensures { self.new ≡ take len self.old }
+    {
+        self.bytes.truncate(len);
     }
 
     /// Writes one byte (lib0, writeUint8).
