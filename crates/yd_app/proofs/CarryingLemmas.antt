@@ -1,10 +1,10 @@
 -- What a command does with a file that it does not read, or does not write.
-use Rattle.std.proofs.Common.{◌≡◌, ℕ, List, Option, None, Result, Ok, Err, refl, inl, inr, subst, sym, arith}
+use Rattle.std.proofs.Common.{◌≡◌, ℕ, List, Option, Result, Ok, Err, refl, inl, inr, subst, sym, arith}
 use Rattle.std.proofs.lemmas.Fmt.{decimal_digit}
 use Rattle.std.specs.Prelude.{codes}
 use Rattle.std.specs.Result.{IsErr, IsErrAnd}
-use Rattle.yd_fields.specs.UpdatePlan.{update_plan}
-use Rattle.yd_fields.specs.V1Answer.{AnswersRightly}
+use Rattle.yd_fields.specs.Answer.{AnswersRightly}
+use Rattle.yd_v1.specs.Grammar.{HasFirstFaultV1, StandsForV1}
 use Rattle.yd_parts.specs.declared.fault.ReadError.{ReadError}
 use Rattle.yd_parts.specs.declared.fault.ReadError.TheVariants as errors
 use Rattle.yd_ops.specs.View.{update_value}
@@ -33,7 +33,7 @@ told = rw (decimal_digit 0 (omega arith)) refl
 
 -- each command refuses a file outside the grammar
 pub outside_refused : (command : Command) (bytes : List ℕ) (taken : Option (List ℕ)) (result : Result (Unit {0}) Stop) (error : ReadError) → IsErr result × IsErrAnd result (λ s. s ≡ stop_of_read error)
-    → AnswersRightly update_value (update_plan None) bytes (Err error) → Carries command bytes taken taken result
+    → AnswersRightly update_value (StandsForV1 bytes) (HasFirstFaultV1 bytes) (Err error) → Carries command bytes taken taken result
 outside_refused command bytes taken result errors.NoMemory is rightly = stops command bytes taken result (stop_of_read errors.NoMemory) is (inl refl)
 outside_refused command bytes taken result (errors.Fault cause spot) is rightly = stops command bytes taken result (stop_of_read (errors.Fault cause spot)) is (refuses command)
   where

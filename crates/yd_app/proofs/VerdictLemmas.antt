@@ -2,11 +2,11 @@
 use Rattle.std.proofs.Common.{◌≡◌, ◌⊎◌, ◌^◌, ℕ, List, [], ◌∷◌, ◌++◌, length, Result, Ok, Err, inl, inr, refl, sym, ap, ◌∙◌}
 use Rattle.std.proofs.lemmas.Bool.{cases_lt}
 use Rattle.std.specs.Prelude.{codes, None}
-use Rattle.yd_fields.proofs.V1ExactLemmas.{fails_whole, fills_whole, whole_fails, whole_fills}
+use Rattle.yd_v1.proofs.FileLemmas.{fails_whole, fills_whole, whole_fails, whole_fills}
 use Rattle.yd_parts.specs.Fault.{Fault}
 use Rattle.yd_fields.specs.UpdatePlan.{update_plan}
-use Rattle.yd_fields.specs.V1.{v1_reading}
-use Rattle.yd_fields.specs.V1Grammar.{HasFirstFaultV1, StandsForV1}
+use Rattle.yd_v1.specs.Reading.{v1_reading}
+use Rattle.yd_v1.specs.Grammar.{HasFirstFaultV1, StandsForV1}
 use Rattle.yd_num.proofs.ReadingLemmas.{ok_value}
 use Rattle.yd_ops.specs.Value.{UpdateValue}
 use Rattle.yd_app.proofs.FirstFormLemmas.{first_form_stands}

@@ -1,6 +1,6 @@
 -- Laws over the form that `show` has, and over what a file is to a command.
 use Rattle.std.specs.Prelude.{◌≡◌, ◌⊎◌, ℕ, List}
-use Rattle.yd_fields.specs.V1Grammar.{StandsForV1}
+use Rattle.yd_v1.specs.Grammar.{StandsForV1}
 use Rattle.yd_app.specs.OneText.{OneText, StandsFor, update_of}
 use Rattle.yd_app.specs.Verdict.{IsAccepted, IsRefused, IsTooLarge}
 use Rattle.yd_app.specs.Words.{Asks, Command}

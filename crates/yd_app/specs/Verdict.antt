@@ -1,7 +1,7 @@
 -- What a file is to a command (own).
 use Rattle.std.specs.Prelude.{◌≡◌, ◌⊎◌, ℕ, ◌^◌, ◌<◌, ◌≤◌, List, ◌++◌, ◌∷◌, [], length, codes, Option, Some, None}
 use Rattle.yd_parts.specs.Fault.{Fault}
-use Rattle.yd_fields.specs.V1Grammar.{HasFirstFaultV1, StandsForV1}
+use Rattle.yd_v1.specs.Grammar.{HasFirstFaultV1, StandsForV1}
 use Rattle.yd_ops.specs.Value.{UpdateValue}
 use Rattle.yd_world.specs.Shelf.{Shelf}
 use Rattle.yd_app.specs.Converted.{converted_bytes}

@@ -9,7 +9,7 @@ use crate::request::Command;
 use crate::showing::show;
 use crate::stop::Stop;
 use std::alloc::Global;
-use yd_fields::read_v1;
+use yd_v1::read_v1;
 use yd_world::Sink;
 
 /// Judges the bytes, and writes what the command makes of them.

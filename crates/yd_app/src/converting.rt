@@ -1,7 +1,7 @@
 //! `convert`: an update in another spelling.
 
 ghost use Rattle.std.specs.Prelude.{◌≡◌, ◌≢◌, Err, IfOk, ℕ, List};
-ghost use Rattle.yd_fields.specs.V1Grammar.{StandsForV1};
+ghost use Rattle.yd_v1.specs.Grammar.{StandsForV1};
 ghost use Rattle.yd_ops.specs.Valid.{IsValidUpdate};
 ghost use Rattle.yd_ops.specs.View.{update_value};
 ghost use Rattle.yd_app.specs.Carrying.{Carries, CountsStop, IsRefusal};
@@ -11,8 +11,8 @@ ghost use Rattle.yd_app.specs.Words.{convert_v1};
 use crate::stop::Stop;
 use crate::writing::write_out;
 use std::alloc::Global;
-use yd_fields::write_v1;
 use yd_ops::Update;
+use yd_v1::write_v1;
 use yd_world::Sink;
 
 /// Writes the update in V1.

@@ -4,11 +4,13 @@ use std::process::Abort;
 use std::test::Fail;
 use yd_any::{Any, AnyList, AnyPairs, Blob, Json, Text};
 use yd_fields::{
-    FieldWriter, NoMemory, V1Reader, V1Writer, read_any_field, read_v1, write_any, write_update,
+    FieldWriter, NoMemory, flag_of, range_of, read_any_field, value_of_text, write_any,
+    write_update,
 };
 use yd_ids::{Client, Id};
 use yd_num::Bytes;
-use yd_parts::counted;
+use yd_parts::{Cause, Column, ReadError, Spot, counted};
+use yd_v1::{V1Reader, V1Writer, read_v1};
 
 #[test]
 fn the_fields_of_v1_are_written_one_by_one(rt: HostRuntime) -> Result<(), Fail> {
@@ -34,6 +36,7 @@ fn the_fields_of_v1_are_written_one_by_one(rt: HostRuntime) -> Result<(), Fail> 
     writer.put_number(128)?;
     writer.put_range(3, 9, 1)?;
     let bytes = writer.finish()?;
+    // Each number, length and text in the order of the calls above, the ids and the range in two.
     let want = [
         4, 1, 2, 0xac, 2, 0xac, 2, 5, 1, 1, 116, 2, 0xc3, 0xa9, 6, 7, 126, 1, 9, 1, 53, 0x80, 1, 9,
         1,
@@ -113,6 +116,38 @@ fn is_spelled(rt: &(impl Abort + AllocGlobal), value: &Any, want: &[u8]) -> Resu
     let mut bytes = Bytes::new(rt.alloc());
     write_any(&mut bytes, &again)?;
     assert_eq!(rt; bytes.as_slice(), want);
+    Ok(())
+}
+
+#[test]
+fn flags_and_ranges_are_judged_at_their_spots(rt: HostRuntime) {
+    let spot = Spot {
+        column: Column::Whole,
+        at: 9,
+    };
+    assert_eq!(rt; flag_of(1, spot), Ok(1));
+    let cause = Cause::BadParent;
+    assert_eq!(rt; flag_of(2, spot), Err(ReadError::Fault { cause, spot }));
+    assert_eq!(rt; range_of(5, 2, spot), Ok((5, 2)));
+    let cause = Cause::ClockTooLarge;
+    assert_eq!(rt;
+        range_of(9_007_199_254_740_991, 1, spot),
+        Err(ReadError::Fault { cause, spot })
+    );
+}
+
+#[test]
+fn a_json_value_is_made_of_its_text(rt: HostRuntime) -> Result<(), Fail> {
+    let spot = Spot {
+        column: Column::Whole,
+        at: 9,
+    };
+    let value = value_of_text(rt.alloc(), "-7", spot)?;
+    assert!(rt; matches!(value, Json::Whole(-7)));
+    let cause = Cause::BadJson;
+    assert!(rt;
+        value_of_text(rt.alloc(), "-", spot).err() == Some(ReadError::Fault { cause, spot })
+    );
     Ok(())
 }
 

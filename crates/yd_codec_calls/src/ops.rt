@@ -1,42 +1,25 @@
 //! Calls of `yd_ops`.
 
+use std::alloc::Global;
 use std::test::Fail;
 use yd_any::{Json, Text};
-use yd_fields::write_v1;
 use yd_ids::{Client, Id, IdSet};
 use yd_ops::{
     Block, BlockList, Content, JsonUnit, JsonUnits, Kind, List, Parent, Run, Struct, StructList,
     Update,
 };
+use yd_v1::write_v1;
 
 #[test]
 fn an_update_is_made_judged_and_copied(rt: HostRuntime) -> Result<(), Fail> {
-    let mut units = JsonUnits::new(rt.alloc());
-    units.push(JsonUnit::Undefined)?;
-    units.push(JsonUnit::Value(Json::Null))?;
-    assert_eq!(rt; units.as_slice().len(), 2);
-    let run = Run {
-        id: Id {
-            client: Client(3),
-            clock: 1,
-        },
-        left: None,
-        right: None,
-        list: Some(List {
-            parent: Parent::Item(Id {
-                client: Client(2),
-                clock: 0,
-            }),
-            key: None,
-        }),
-        content: Content::Json(units),
-    };
+    let alloc = rt.alloc();
+    let run = two_units(alloc)?;
     assert_eq!(rt; (run.len(), run.content.len()), (2, 2));
     assert!(rt; run.content.is_valid());
-    let mut structs = StructList::new(rt.alloc());
+    let mut structs = StructList::new(alloc);
     structs.push(Struct::Item(run.copy()?))?;
     structs.push(Struct::Skip(4))?;
-    let mut blocks = BlockList::new(rt.alloc());
+    let mut blocks = BlockList::new(alloc);
     blocks.push(Block {
         client: Client(3),
         clock: 1,
@@ -44,7 +27,7 @@ fn an_update_is_made_judged_and_copied(rt: HostRuntime) -> Result<(), Fail> {
     })?;
     let update = Update {
         blocks,
-        deletes: IdSet::new(rt.alloc()),
+        deletes: IdSet::new(alloc),
     };
     assert!(rt; update.is_valid());
     let copy = update.copy()?;
@@ -52,6 +35,24 @@ fn an_update_is_made_judged_and_copied(rt: HostRuntime) -> Result<(), Fail> {
     let kind = Kind::Array.copy()?;
     assert!(rt; matches!(kind, Kind::Array));
     Ok(())
+}
+
+/// Two JSON units of client 3, in the type of the unit (2, 0).
+fn two_units(alloc: Global) -> Result<Run, Fail> {
+    let mut units = JsonUnits::new(alloc);
+    units.push(JsonUnit::Undefined)?;
+    units.push(JsonUnit::Value(Json::Null))?;
+    let list = List {
+        parent: Parent::Item(id(2, 0)),
+        key: None,
+    };
+    Ok(Run {
+        id: id(3, 1),
+        left: None,
+        right: None,
+        list: Some(list),
+        content: Content::Json(units),
+    })
 }
 
 // JSON units of client 1, `undefined` and 7, under the key `k` of the root `t`.
@@ -63,25 +64,13 @@ const UNITS: [u8; 24] = [
 #[test]
 fn copies_of_the_parts_make_the_same_update(rt: HostRuntime) -> Result<(), Fail> {
     let alloc = rt.alloc();
-    let mut units = JsonUnits::new(alloc);
-    let unit = JsonUnit::Value(Json::Whole(7));
-    units.push(JsonUnit::Undefined)?;
-    units.push(unit.copy()?)?;
-    let content = Content::Json(units.copy()?);
-    let parent = Parent::Root(Text::copy_of(alloc, "t")?);
-    let list = List {
-        parent: parent.copy()?,
-        key: Some(Text::copy_of(alloc, "k")?),
-    };
+    let content = Content::Json(copied_units(alloc)?);
     assert!(rt; content.is_valid());
     let item = Struct::Item(Run {
-        id: Id {
-            client: Client(1),
-            clock: 0,
-        },
+        id: id(1, 0),
         left: None,
         right: None,
-        list: Some(list.copy()?),
+        list: Some(keyed_list(alloc)?.copy()?),
         content: content.copy()?,
     });
     assert_eq!(rt; (item.len(), Struct::Skip(4).len()), (2, 4));
@@ -101,4 +90,29 @@ fn copies_of_the_parts_make_the_same_update(rt: HostRuntime) -> Result<(), Fail>
     assert!(rt; update.is_valid());
     assert_eq!(rt; write_v1(alloc, &update)?.as_slice(), UNITS.as_slice());
     Ok(())
+}
+
+/// A copy of the units `undefined` and 7, of which the second is a copy too.
+fn copied_units(alloc: Global) -> Result<JsonUnits, Fail> {
+    let mut units = JsonUnits::new(alloc);
+    let unit = JsonUnit::Value(Json::Whole(7));
+    units.push(JsonUnit::Undefined)?;
+    units.push(unit.copy()?)?;
+    Ok(units.copy()?)
+}
+
+/// The list under the key `k` of the root `t`.
+fn keyed_list(alloc: Global) -> Result<List, Fail> {
+    let parent = Parent::Root(Text::copy_of(alloc, "t")?);
+    Ok(List {
+        parent: parent.copy()?,
+        key: Some(Text::copy_of(alloc, "k")?),
+    })
+}
+
+fn id(client: u64, clock: u64) -> Id {
+    Id {
+        client: Client(client),
+        clock,
+    }
 }

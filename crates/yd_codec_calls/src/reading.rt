@@ -5,13 +5,13 @@ use std::process::Abort;
 use std::test::Fail;
 use yd_any::Any;
 use yd_fields::{
-    Cause, Column, FieldReader, Parts, ReadError, Spot, V1Reader, read_any, read_any_field,
-    read_update, read_v1, read_vector,
+    Cause, Column, FieldReader, Parts, ReadError, Spot, read_any, read_any_field, read_update,
 };
 use yd_ids::{Client, Id};
 use yd_num::Signed;
 use yd_ops::{Content, Parent, Struct};
 use yd_samples::{ABC, BOARD, BOARD_PARTS, EDITS, EDITS_PARTS};
+use yd_v1::{V1Reader, read_v1, read_vector};
 
 /// The fault that a file is refused for, if it is.
 fn fault_of(alloc: Global, bytes: &[u8]) -> Option<(Cause, u64)> {
@@ -88,6 +88,7 @@ fn an_update_holds_its_run(rt: HostRuntime) -> Result<(), Fail> {
 
 #[test]
 fn parts_are_read_one_by_one(rt: HostRuntime) -> Result<(), Fail> {
+    // The byte 7, the number 300, the signed number -65, "a", the byte string of "b", and 3 and 4.
     let mut parts = Parts::new(Column::Rest, &[7, 0xac, 2, 0xc1, 1, 1, 97, 1, 98, 3, 4]);
     assert_eq!(rt; parts.here(), spot(0));
     assert_eq!(rt; parts.byte()?, 7);
@@ -116,6 +117,7 @@ fn spot(at: u64) -> Spot {
 
 #[test]
 fn an_any_value_is_read(rt: HostRuntime) -> Result<(), Fail> {
+    // A list of the whole number 5 and `true`.
     let mut parts = Parts::new(Column::Whole, &[117, 2, 125, 5, 120]);
     let Any::List(values) = read_any(rt.alloc(), &mut parts)? else {
         return Err(Fail::from("no list"));
@@ -131,6 +133,8 @@ fn an_any_value_is_read(rt: HostRuntime) -> Result<(), Fail> {
 
 #[test]
 fn the_fields_of_v1_are_read_one_by_one(rt: HostRuntime) -> Result<(), Fail> {
+    // An info byte, a client, two ids, a flag, "t", "k", a type, a length, `null`, a byte string, the
+    // JSON text "5", a number, and a range.
     let mut reader = V1Reader::new(&[
         4, 1, 2, 3, 4, 5, 1, 1, 116, 1, 107, 6, 7, 126, 1, 9, 1, 53, 8, 9, 1,
     ]);

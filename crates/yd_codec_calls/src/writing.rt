@@ -6,7 +6,6 @@ use std::alloc::Global;
 use std::process::Abort;
 use std::test::Fail;
 use yd_any::{Any, AnyList, AnyPairs, Blob, Json, Text};
-use yd_fields::{read_v1, read_vector, write_v1, write_vector};
 use yd_ids::{Client, Id, IdSet, Span, Vector};
 use yd_ops::{
     Block, BlockList, Content, JsonUnit, JsonUnits, Kind, List, Parent, Run, Struct, StructList,
@@ -14,6 +13,7 @@ use yd_ops::{
 };
 use yd_samples::{ABC, BOARD, EDITS};
 use yd_units::Units;
+use yd_v1::{read_v1, read_vector, write_v1, write_vector};
 
 #[test]
 fn a_string_in_a_root_is_written(rt: HostRuntime) -> Result<(), Fail> {
@@ -55,6 +55,7 @@ fn clients_of_deletions_are_written_descending(rt: HostRuntime) -> Result<(), Fa
         blocks: BlockList::new(alloc),
         deletes,
     };
+    // No blocks, and three clients: 300 with one range, 7 with one, and 1 with two.
     let want = [0, 3, 0xac, 2, 1, 0, 1, 7, 1, 9, 4, 1, 2, 2, 1, 5, 2];
     is_written(&rt, &update, &want)
 }
@@ -73,6 +74,7 @@ fn any_values_under_a_key_are_written(rt: HostRuntime) -> Result<(), Fail> {
         list: Some(list),
         content: Content::Any(some_values(alloc)?),
     };
+    // Any-values (8) under "q" (32) of (2, 3), six as they are made below; and the skip.
     let want = [
         1, 2, 1, 0, 40, 0, 2, 3, 1, 113, 6, 127, 125, 0xc1, 1, 122, 255, 255, 255, 255, 255, 255,
         255, 254, 120, 118, 2, 1, 107, 126, 1, 108, 124, 1, 2, 3, 4, 117, 2, 116, 2, 9, 8, 119, 2,
@@ -111,6 +113,7 @@ fn a_mark_between_two_origins_is_written(rt: HostRuntime) -> Result<(), Fail> {
             value: Json::Flag(true),
         },
     };
+    // A mark (6) behind (1, 0) and before (2, 0): "bold", and the JSON text "true"; and the skip.
     let want = [
         1, 2, 3, 0, 0xc6, 1, 0, 2, 0, 4, 98, 111, 108, 100, 4, 116, 114, 117, 101, 10, 0xac, 2, 0,
     ];
@@ -130,6 +133,7 @@ fn json_units_before_a_right_origin_are_written(rt: HostRuntime) -> Result<(), F
         list: None,
         content: Content::Json(units),
     };
+    // JSON units (2) before (2, 0): two of them, "undefined" and "null"; and the skip.
     let want = [
         1, 2, 3, 0, 0x42, 2, 0, 2, 9, 117, 110, 100, 101, 102, 105, 110, 101, 100, 4, 110, 117,
         108, 108, 10, 0xac, 2, 0,

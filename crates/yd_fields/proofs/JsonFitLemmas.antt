@@ -16,6 +16,17 @@ use Rattle.yd_fields.specs.JsonPlan.{made_at, unit_at, value_at}
 use Rattle.yd_parts.specs.Plan.{and_then}
 use Rattle.yd_parts.specs.declared.fault.Spot.{Spot}
 
+-- the value that was made of a JSON text is valid
+pub value_at_valid : (spot : Spot) (text : List ℕ) (t : AnyTree) → value_at spot text ≡ Ok t → IsTrue (is_valid_json t)
+value_at_valid spot text t is = made (value_of_text text) refl is
+  where
+    made : (value : Result AnyTree JsonFault) → value_of_text text ≡ value → made_at spot value ≡ Ok t → IsTrue (is_valid_json t)
+    made (Ok u) is_value at = value_of_text_valid text t (is_value ∙ at_value u at)
+      where
+        at_value : (u : AnyTree) → made_at spot (Ok u) ≡ Ok t → ◌≡◌ {A = Result AnyTree JsonFault} (Ok u) (Ok t)
+        at_value u at = ap Ok (ok_value u t at)
+    made (Err fault) is_value at = absurd cc
+
 -- the unit of a text
 pub unit_at_valid : (spot : Spot) (text : List ℕ) (u : Option AnyTree) → unit_at spot text ≡ Ok u → IsValidUnit u
 unit_at_valid spot text u is = by_name (bytes_eq text (codes "undefined")) is

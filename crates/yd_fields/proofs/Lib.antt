@@ -1,3 +1,4 @@
+pub mod AnswerLemmas
 pub mod BlockExpectLemmas
 pub mod BlockPlanLemmas
 pub mod ContentExpectLemmas
@@ -5,11 +6,11 @@ pub mod ContentPlanLemmas
 pub mod DeletesExpectLemmas
 pub mod DeletesFitLemmas
 pub mod DeletesPlanLemmas
-pub mod FileLemmas
 pub mod GroupLemmas
 pub mod InfoLemmas
 pub mod ItemPlanLemmas
 pub mod JsonFitLemmas
+pub mod JudgedFitLemmas
 pub mod ListExpectLemmas
 pub mod StructExpectLemmas
 pub mod StructFitLemmas
@@ -17,13 +18,7 @@ pub mod StructPlanLemmas
 pub mod UpdateExpectLemmas
 pub mod UpdateFitLemmas
 pub mod UpdatePlanLemmas
-pub mod V1AnswerLemmas
-pub mod V1ExactLemmas
-pub mod V1FitLemmas
-pub mod V1SpellsLemmas
 pub mod VectorExpectLemmas
 pub mod VectorPlanLemmas
-pub mod VectorWrittenLemmas
 pub mod WritableLemmas
 pub mod WritesLemmas
-pub mod WrittenLemmas

@@ -1,14 +1,13 @@
+pub mod Answer
 pub mod Field
 pub mod JsonPlan
+pub mod Judged
 pub mod Law
 pub mod RangesView
 pub mod ReadView
 pub mod StructPlan
+pub mod TypeNumber
 pub mod UpdateFields
 pub mod UpdatePlan
-pub mod V1
-pub mod V1Answer
-pub mod V1Bytes
-pub mod V1Grammar
 pub mod VectorFields
 pub mod Writes

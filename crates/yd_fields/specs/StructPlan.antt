@@ -18,6 +18,9 @@ use Rattle.yd_parts.specs.declared.fault.Cause.TheVariants as causes
 use Rattle.yd_parts.specs.declared.fault.Spot.{Spot}
 use Rattle.yd_fields.specs.declared.info.ContentKind.{ContentKind}
 use Rattle.yd_fields.specs.declared.info.ContentKind.TheVariants.{Json, Binary, Str, Embed, Format, Nested, Any}
+use Rattle.yd_fields.specs.TypeNumber.{kind_of_number}
+use Rattle.yd_fields.specs.declared.kinds.TypeKind.{TypeKind}
+use Rattle.yd_fields.specs.declared.kinds.TypeKind.TheVariants as types
 use Rattle.yd_fields.specs.declared.info.StructKind.{StructKind}
 use Rattle.yd_fields.specs.declared.info.StructKind.TheVariants.{Collected, Item, Subdocument, Skip, Unknown}
 
@@ -86,17 +89,24 @@ unit_step found = want field.string (λ text spot. do
 unfoldable pub value_step : AnyTrees → FieldPlan AnyTrees
 value_step found = want field.any (λ t spot. give (with_last found t))
 
--- a type by its number; elements and hooks have a name
+-- what stands behind a type's number: elements and hooks have a name
+abbrev pub type_plan : TypeKind → FieldPlan Kind
+type_plan types.Array = give kinds.Array
+type_plan types.Map = give kinds.Map
+type_plan types.Text = give kinds.Text
+type_plan types.Element = want field.key (λ name at. give (kinds.Element name))
+type_plan types.Fragment = give kinds.Fragment
+type_plan types.Hook = want field.key (λ name at. give (kinds.Hook name))
+type_plan types.ElementText = give kinds.ElementText
+
+-- a type that was found by its number, or none
+abbrev pub numbered_plan : Spot → Option TypeKind → FieldPlan Kind
+numbered_plan spot None = refuse causes.BadType spot
+numbered_plan spot (Some kind) = type_plan kind
+
+-- a type by its number
 unfoldable pub kind_plan : FieldPlan Kind
-kind_plan = want field.kind (λ n spot.
-    if nat_eq n 0 then give kinds.Array
-    else if nat_eq n 1 then give kinds.Map
-    else if nat_eq n 2 then give kinds.Text
-    else if nat_eq n 3 then want field.key (λ name at. give (kinds.Element name))
-    else if nat_eq n 4 then give kinds.Fragment
-    else if nat_eq n 5 then want field.key (λ name at. give (kinds.Hook name))
-    else if nat_eq n 6 then give kinds.ElementText
-    else refuse causes.BadType spot)
+kind_plan = want field.kind (λ n spot. numbered_plan spot (kind_of_number n))
 
 -- so many JSON units; none at all is refused where the struct began
 unfoldable pub units_plan : Spot → FieldPlan ops.ContentValue

@@ -1,6 +1,6 @@
 //! Writing the contents of items.
 
-ghost use Rattle.std.specs.Prelude.{◌<◌, ◌^◌, [], ◌∷◌, map, OnOk};
+ghost use Rattle.std.specs.Prelude.{[], ◌∷◌, map, OnOk};
 ghost use Rattle.yd_any.specs.AnyView.{any_trees, items_trees};
 ghost use Rattle.yd_ids.specs.Each.{Each};
 ghost use Rattle.yd_ops.specs.Valid.{AreValidTrees, IsValidContent, IsValidUnit};
@@ -8,9 +8,11 @@ ghost use Rattle.yd_ops.specs.Value.{any};
 ghost use Rattle.yd_ops.specs.View.{content_value, unit_value};
 ghost use Rattle.yd_units.specs.Text.{text_of};
 ghost use Rattle.yd_fields.specs.Field as field;
+ghost use Rattle.yd_fields.specs.TypeNumber.{number_of_kind};
 ghost use Rattle.yd_fields.specs.UpdateFields.{field_of_unit, fields_of_content, fields_of_kind, fields_of_trees};
 ghost use Rattle.yd_fields.specs.Writes.{Writes};
 
+use crate::kinds::{TypeKind, number_of_kind};
 use crate::writer::FieldWriter;
 use std::alloc::Global;
 use yd_any::{Any, AnyList, text_of_json};
@@ -135,31 +137,33 @@ fn write_kind<W: FieldWriter>(kind: &Kind, writer: &mut W) -> Result<(), NoMemor
         (fields_of_kind kind.now) writer.old writer.new) }
 {
     match kind {
-        Kind::Array => write_plain_kind(0, writer),
-        Kind::Map => write_plain_kind(1, writer),
-        Kind::Text => write_plain_kind(2, writer),
-        Kind::Element(name) => write_named_kind(3, name.as_str(), writer),
-        Kind::Fragment => write_plain_kind(4, writer),
-        Kind::Hook(name) => write_named_kind(5, name.as_str(), writer),
-        Kind::ElementText => write_plain_kind(6, writer),
+        Kind::Array => write_plain_kind(TypeKind::Array, writer),
+        Kind::Map => write_plain_kind(TypeKind::Map, writer),
+        Kind::Text => write_plain_kind(TypeKind::Text, writer),
+        Kind::Element(name) => write_named_kind(TypeKind::Element, name.as_str(), writer),
+        Kind::Fragment => write_plain_kind(TypeKind::Fragment, writer),
+        Kind::Hook(name) => write_named_kind(TypeKind::Hook, name.as_str(), writer),
+        Kind::ElementText => write_plain_kind(TypeKind::ElementText, writer),
     }
 }
 
-fn write_plain_kind<W: FieldWriter>(number: u64, writer: &mut W) -> Result<(), NoMemory>
-    requires { number < 2 ^ 53 }
+fn write_plain_kind<W: FieldWriter>(kind: TypeKind, writer: &mut W) -> Result<(), NoMemory>
     ensures { OnOk result (Writes W.with_field W.is_spelled
-        ((field.kind, number) ∷ []) writer.old writer.new) }
+        ((field.kind, number_of_kind kind) ∷ []) writer.old writer.new) }
 {
-    writer.put_kind(number)?;
+    writer.put_kind(number_of_kind(kind))?;
     Ok(())
 }
 
-fn write_named_kind<W: FieldWriter>(number: u64, name: &str, writer: &mut W) -> Result<(), NoMemory>
-    requires { number < 2 ^ 53 }
+fn write_named_kind<W: FieldWriter>(
+    kind: TypeKind,
+    name: &str,
+    writer: &mut W,
+) -> Result<(), NoMemory>
     ensures { OnOk result (Writes W.with_field W.is_spelled
-        ((field.kind, number) ∷ (field.key, name.now) ∷ []) writer.old writer.new) }
+        ((field.kind, number_of_kind kind) ∷ (field.key, name.now) ∷ []) writer.old writer.new) }
 {
-    writer.put_kind(number)?;
+    writer.put_kind(number_of_kind(kind))?;
     writer.put_key(name)?;
     Ok(())
 }

@@ -3,6 +3,46 @@
 ghost use Rattle.std.specs.Prelude.{◌≡◌};
 ghost use Rattle.yd_fields.specs.StructPlan.{kind_of_info, has_left, has_right, has_key};
 
+// What a struct is, in the low five bits of its info byte (Yjs 13, contentRefs).
+const KIND_COLLECTED: u8 = 0;
+
+const KIND_DELETED: u8 = 1;
+
+const KIND_SUBDOCUMENT: u8 = 9;
+
+/// The bits of JSON units.
+pub const KIND_JSON: u8 = 2;
+
+/// The bits of a byte string.
+pub const KIND_BINARY: u8 = 3;
+
+/// The bits of a string.
+pub const KIND_STRING: u8 = 4;
+
+/// The bits of an embed.
+pub const KIND_EMBED: u8 = 5;
+
+/// The bits of a mark.
+pub const KIND_FORMAT: u8 = 6;
+
+/// The bits of a type.
+pub const KIND_NESTED: u8 = 7;
+
+/// The bits of any-values.
+pub const KIND_ANY: u8 = 8;
+
+/// The bits of a skip.
+pub const KIND_SKIP: u8 = 10;
+
+/// The bit of a key.
+pub const KEY_BIT: u8 = 32;
+
+/// The bit of a right origin.
+pub const RIGHT_BIT: u8 = 64;
+
+/// The bit of a left origin.
+pub const LEFT_BIT: u8 = 128;
+
 /// What an item holds.
 #[derive(Clone, Copy, Debug, PartialEq, Eq)]
 pub enum ContentKind {
@@ -29,17 +69,17 @@ pub enum StructKind {
 pub fn kind_of_info(info: u8) -> StructKind
     ensures { result ≡ kind_of_info info }
 {
-    match info % 32 {
-        0 | 1 => StructKind::Collected,
-        2 => StructKind::Item(ContentKind::Json),
-        3 => StructKind::Item(ContentKind::Binary),
-        4 => StructKind::Item(ContentKind::Str),
-        5 => StructKind::Item(ContentKind::Embed),
-        6 => StructKind::Item(ContentKind::Format),
-        7 => StructKind::Item(ContentKind::Nested),
-        8 => StructKind::Item(ContentKind::Any),
-        9 => StructKind::Subdocument,
-        10 => StructKind::Skip,
+    match info % KEY_BIT {
+        KIND_COLLECTED | KIND_DELETED => StructKind::Collected,
+        KIND_JSON => StructKind::Item(ContentKind::Json),
+        KIND_BINARY => StructKind::Item(ContentKind::Binary),
+        KIND_STRING => StructKind::Item(ContentKind::Str),
+        KIND_EMBED => StructKind::Item(ContentKind::Embed),
+        KIND_FORMAT => StructKind::Item(ContentKind::Format),
+        KIND_NESTED => StructKind::Item(ContentKind::Nested),
+        KIND_ANY => StructKind::Item(ContentKind::Any),
+        KIND_SUBDOCUMENT => StructKind::Subdocument,
+        KIND_SKIP => StructKind::Skip,
         _ => StructKind::Unknown,
     }
 }
@@ -48,19 +88,19 @@ pub fn kind_of_info(info: u8) -> StructKind
 pub fn has_left(info: u8) -> bool
     ensures { result ≡ has_left info }
 {
-    info / 128 % 2 == 1
+    info / LEFT_BIT % 2 == 1
 }
 
 /// A right origin is there.
 pub fn has_right(info: u8) -> bool
     ensures { result ≡ has_right info }
 {
-    info / 64 % 2 == 1
+    info / RIGHT_BIT % 2 == 1
 }
 
 /// The list has a key, where no origin is there.
 pub fn has_key(info: u8) -> bool
     ensures { result ≡ has_key info }
 {
-    info / 32 % 2 == 1
+    info / KEY_BIT % 2 == 1
 }

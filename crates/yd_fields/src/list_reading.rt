@@ -4,8 +4,9 @@ ghost use Rattle.std.specs.Prelude.{Some};
 ghost use Rattle.yd_parts.specs.Fault.{Gives};
 ghost use Rattle.yd_fields.specs.Field as field;
 ghost use Rattle.yd_parts.specs.Plan.{read_by};
-ghost use Rattle.yd_fields.specs.StructPlan.{carried_plan, kind_plan, list_plan, optional_plan, parent_plan};
+ghost use Rattle.yd_fields.specs.StructPlan.{carried_plan, kind_plan, list_plan, optional_plan, parent_plan, type_plan};
 
+use crate::kinds::{TypeKind, kind_of_number};
 use crate::reader::FieldReader;
 use std::alloc::Global;
 use yd_any::Text;
@@ -115,23 +116,32 @@ pub fn read_kind<'a, R: FieldReader<'a>>(alloc: Global, reader: &mut R) -> Resul
         (read_by R.field_at R.spot_of kind_plan reader.old) }
 {
     let number = reader.get_kind()?;
-    match number {
-        0 => Ok(Kind::Array),
-        1 => Ok(Kind::Map),
-        2 => Ok(Kind::Text),
-        3 => {
-            let name = reader.get_key()?;
-            Ok(Kind::Element(Text::copy_of(alloc, name)?))
-        }
-        4 => Ok(Kind::Fragment),
-        5 => {
-            let name = reader.get_key()?;
-            Ok(Kind::Hook(Text::copy_of(alloc, name)?))
-        }
-        6 => Ok(Kind::ElementText),
-        _ => Err(ReadError::Fault {
+    match kind_of_number(number) {
+        None => Err(ReadError::Fault {
             cause: Cause::BadType,
             spot: reader.spot(),
         }),
+        Some(kind) => read_type(alloc, reader, kind),
+    }
+}
+
+// What stands behind the number of a type.
+#[tactic(auto, unfolding(yd_parts::specs::Plan::read_by))]
+fn read_type<'a, R: FieldReader<'a>>(
+    alloc: Global,
+    reader: &mut R,
+    kind: TypeKind,
+) -> Result<Kind, ReadError>
+    ensures { Gives (λ found. found) result reader.new
+        (read_by R.field_at R.spot_of (type_plan kind) reader.old) }
+{
+    match kind {
+        TypeKind::Array => Ok(Kind::Array),
+        TypeKind::Map => Ok(Kind::Map),
+        TypeKind::Text => Ok(Kind::Text),
+        TypeKind::Element => Ok(Kind::Element(Text::copy_of(alloc, reader.get_key()?)?)),
+        TypeKind::Fragment => Ok(Kind::Fragment),
+        TypeKind::Hook => Ok(Kind::Hook(Text::copy_of(alloc, reader.get_key()?)?)),
+        TypeKind::ElementText => Ok(Kind::ElementText),
     }
 }

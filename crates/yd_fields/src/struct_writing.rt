@@ -9,6 +9,10 @@ ghost use Rattle.yd_fields.specs.UpdateFields.{given_bit, info_of_run, key_bit, 
 ghost use Rattle.yd_fields.specs.Writes.{IsWritableRun, IsWritableStruct, Writes};
 
 use crate::content_writing::write_content;
+use crate::info::{
+    KEY_BIT, KIND_ANY, KIND_BINARY, KIND_EMBED, KIND_FORMAT, KIND_JSON, KIND_NESTED, KIND_SKIP,
+    KIND_STRING, LEFT_BIT, RIGHT_BIT,
+};
 use crate::list_writing::{write_left, write_list, write_right};
 use crate::writer::FieldWriter;
 use std::alloc::Global;
@@ -16,9 +20,6 @@ use yd_any::Text;
 use yd_ids::Id;
 use yd_ops::{Content, List, Run, Struct};
 use yd_parts::NoMemory;
-
-/// The info byte of a skip.
-const SKIP: u8 = 10;
 
 /// Structs, one after another.
 pub fn write_structs<W: FieldWriter>(
@@ -56,7 +57,7 @@ fn write_skip<W: FieldWriter>(count: u64, writer: &mut W) -> Result<(), NoMemory
     ensures { OnOk result (Writes W.with_field W.is_spelled
         (fields_of_struct (skip count)) writer.old writer.new) }
 {
-    writer.put_info(SKIP)?;
+    writer.put_info(KIND_SKIP)?;
     writer.put_number(count)?;
     Ok(())
 }
@@ -79,8 +80,8 @@ fn info_of_run(run: &Run) -> u8
 {
     kind_bits(&run.content)
         + key_bit(&run.list)
-        + origin_bit(64, run.right)
-        + origin_bit(128, run.left)
+        + origin_bit(RIGHT_BIT, run.right)
+        + origin_bit(LEFT_BIT, run.left)
 }
 
 fn kind_bits(content: &Content) -> u8
@@ -88,13 +89,13 @@ fn kind_bits(content: &Content) -> u8
     ensures small { result < 32 }
 {
     match content {
-        Content::Json(_) => 2,
-        Content::Binary(_) => 3,
-        Content::Str(_) => 4,
-        Content::Embed(_) => 5,
-        Content::Format { .. } => 6,
-        Content::Nested(_) => 7,
-        Content::Any(_) => 8,
+        Content::Json(_) => KIND_JSON,
+        Content::Binary(_) => KIND_BINARY,
+        Content::Str(_) => KIND_STRING,
+        Content::Embed(_) => KIND_EMBED,
+        Content::Format { .. } => KIND_FORMAT,
+        Content::Nested(_) => KIND_NESTED,
+        Content::Any(_) => KIND_ANY,
     }
 }
 
@@ -114,7 +115,7 @@ fn given_bit(key: &Option<Text>) -> u8
 {
     match key {
         None => 0,
-        Some(_) => 32,
+        Some(_) => KEY_BIT,
     }
 }
 

@@ -2,7 +2,7 @@
 use Rattle.std.proofs.Common.{◌≡◌, ◌∙◌, List, [], ◌∷◌, Result, Ok, Err, refl, ap, subst, sym}
 use Rattle.yd_num.proofs.ReadingLemmas.{ok_value}
 use Rattle.yd_parts.specs.Fault.{Fault}
-use Rattle.yd_parts.specs.Plan.{Plan, give, refuse, want, and_then, read_by, Found, LeadsTo, StandInTurn, PlanGives, PlanFails}
+use Rattle.yd_parts.specs.Plan.{Plan, give, refuse, want, and_then, read_by, Found, LeadsTo, StandInTurn, StopsAt, PlanGives, PlanFails}
 use Rattle.yd_parts.specs.Exact.{ReadsExactly}
 use Rattle.yd_parts.specs.declared.fault.Spot.{Spot}
 
@@ -72,3 +72,21 @@ gives_read at spot_of Stands Fails exact (thing ∷ things) (want t next) rest s
     let first = exact.only t s leads.0 leads.1 stand.0 (subst (λ found. Stands s found stand.0) leads.2 stand.1) in
     let here : read_by at spot_of (want t next) s ≡ read_by at spot_of (next leads.0 (spot_of stand.0)) stand.0 = rw first.0 refl in
     here ∙ ap (λ spot. read_by at spot_of (next leads.0 spot) stand.0) (sym first.1) ∙ gives_read at spot_of Stands Fails exact things (next leads.0 leads.1) rest stand.0 place leads.3 stand.2
+
+-- what a plan gives is read
+pub given_read : {T : Type 0} {V : T → Type 0} {S X : Type 0} (at : (t : T) → S → Result (V t × S) Fault) (spot_of : S → Spot) (Stands : S → Found V → S → Type 0) (Fails : T → S → Fault → Type 0) → ReadsExactly at spot_of Stands Fails →
+    (plan : Plan V X) (s : S) (x : X) (end : S) → PlanGives Stands plan s x end → read_by at spot_of plan s ≡ Ok (x, end)
+unfolding read_by
+given_read at spot_of Stands Fails exact plan s x end gives = gives_read at spot_of Stands Fails exact gives.things plan (give x) s end gives.leads gives.stand
+
+-- how a plan fails is read
+pub failed_read : {T : Type 0} {V : T → Type 0} {S X : Type 0} (at : (t : T) → S → Result (V t × S) Fault) (spot_of : S → Spot) (Stands : S → Found V → S → Type 0) (Fails : T → S → Fault → Type 0) → ReadsExactly at spot_of Stands Fails →
+    (plan : Plan V X) (s : S) (fault : Fault) → PlanFails Stands Fails plan s fault → read_by at spot_of plan s ≡ Err fault
+unfolding read_by
+failed_read {T} {V} {S} {X} at spot_of Stands Fails exact plan s fault fails =
+    gives_read at spot_of Stands Fails exact fails.things plan fails.rest s fails.place fails.leads fails.stand ∙ stopped fails.rest fails.stops
+  where
+    stopped : (rest : Plan V X) → StopsAt Fails rest fails.place fault → read_by at spot_of rest fails.place ≡ Err fault
+    stopped (give x) stops = absurd stops
+    stopped (refuse cause spot) stops = ap Err (sym stops)
+    stopped (want t next) stops = let failed = exact.fails_only t fails.place fault stops in rw failed refl

@@ -8,5 +8,6 @@ pub mod ExpectLemmas
 pub mod FaultLemmas
 pub mod GivenLemmas
 pub mod PartExactLemmas
+pub mod PartFitLemmas
 pub mod PlanLemmas
 pub mod ReadsLemmas

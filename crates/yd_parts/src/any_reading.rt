@@ -36,7 +36,8 @@ pub fn read_any(alloc: Global, parts: &mut Parts<'_>) -> Result<Any, ReadError>
 #[tactic(auto, using(crate::proofs::AnyPlanLemmas::read_any_plan))]
 fn read_within(alloc: Global, parts: &mut Parts<'_>, most: u64) -> Result<Any, ReadError>
     requires { most ≤ 100 }
-    ensures { Gives any_tree result parts.new (read_by part_at last_spot (any_plan most) parts.old) }
+    ensures { Gives any_tree result parts.new
+        (read_by part_at last_spot (any_plan most) parts.old) }
 {
     let byte = parts.byte()?;
     let spot = parts.spot();
@@ -95,7 +96,7 @@ fn read_whole(parts: &mut Parts<'_>) -> Result<Any, ReadError>
 }
 
 #[cycle(reading)]
-#[tactic(auto, using(crate::proofs::AnyPlanLemmas::read_list_plan, crate::proofs::AnyPlanLemmas::read_list_refused))]
+#[tactic(auto, using(crate::proofs::AnyPlanLemmas::read_list_plan))]
 fn read_list(
     alloc: Global,
     parts: &mut Parts<'_>,
@@ -107,6 +108,7 @@ fn read_list(
         (read_by part_at last_spot (list_plan (inner_plan most) spot) parts.old) }
 {
     if most == 0 {
+        #[tactic(auto, using(crate::proofs::AnyPlanLemmas::read_list_refused))]
         return Err(refused(Cause::TooDeep, spot));
     }
     let count = parts.unsigned()?;
@@ -138,7 +140,7 @@ fn read_item(
 }
 
 #[cycle(reading)]
-#[tactic(auto, using(crate::proofs::AnyPlanLemmas::read_pairs_plan, crate::proofs::AnyPlanLemmas::read_pairs_refused))]
+#[tactic(auto, using(crate::proofs::AnyPlanLemmas::read_pairs_plan))]
 fn read_pairs(
     alloc: Global,
     parts: &mut Parts<'_>,
@@ -150,6 +152,7 @@ fn read_pairs(
         (read_by part_at last_spot (pairs_plan (inner_plan most) spot) parts.old) }
 {
     if most == 0 {
+        #[tactic(auto, using(crate::proofs::AnyPlanLemmas::read_pairs_refused))]
         return Err(refused(Cause::TooDeep, spot));
     }
     let count = parts.unsigned()?;

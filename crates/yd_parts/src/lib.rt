@@ -1,9 +1,9 @@
 //! Parts of bytes, plans of reading them, and any-values.
 //!
-//! A *part* is a byte, a number, a text or a byte string of lib0, with a place of its own. A *plan*
-//! says what is read next for what was read so far; a grammar is one plan, and what it gives and how
-//! it first fails is proved of all plans at once ([`law`]). Any-values are read by such a plan, each
-//! fault at its own part, and what is written of one is read again.
+//! A *part* is a byte, a number, a text or a byte string of lib0, with a place of its own. A
+//! *plan* says what is read next for what was read so far; a grammar is one plan, and what it gives
+//! and how it first fails is proved of all plans at once ([`law`]). Any-values are read by such a
+//! plan, each fault at its own part, and what is written of one is read again.
 //!
 //! ```rust
 //! let mut parts = Parts::new(Column::Whole, &[117, 1, 125, 5]);

@@ -20,23 +20,48 @@ pub enum Tag {
     Blob,
 }
 
+// The bytes of the tags (lib0, writeAny).
+const TAG_UNDEFINED: u8 = 127;
+
+const TAG_NULL: u8 = 126;
+
+const TAG_WHOLE: u8 = 125;
+
+const TAG_RAW4: u8 = 124;
+
+const TAG_RAW8: u8 = 123;
+
+const TAG_BIG: u8 = 122;
+
+const TAG_FALSE: u8 = 121;
+
+const TAG_TRUE: u8 = 120;
+
+const TAG_STR: u8 = 119;
+
+const TAG_PAIRS: u8 = 118;
+
+const TAG_LIST: u8 = 117;
+
+const TAG_BLOB: u8 = 116;
+
 /// The byte of a tag.
 pub fn byte_of_tag(tag: Tag) -> u8
     ensures { result ≡ byte_of_tag tag }
 {
     match tag {
-        Tag::Undefined => 127,
-        Tag::Null => 126,
-        Tag::Whole => 125,
-        Tag::Raw4 => 124,
-        Tag::Raw8 => 123,
-        Tag::Big => 122,
-        Tag::False => 121,
-        Tag::True => 120,
-        Tag::Str => 119,
-        Tag::Pairs => 118,
-        Tag::List => 117,
-        Tag::Blob => 116,
+        Tag::Undefined => TAG_UNDEFINED,
+        Tag::Null => TAG_NULL,
+        Tag::Whole => TAG_WHOLE,
+        Tag::Raw4 => TAG_RAW4,
+        Tag::Raw8 => TAG_RAW8,
+        Tag::Big => TAG_BIG,
+        Tag::False => TAG_FALSE,
+        Tag::True => TAG_TRUE,
+        Tag::Str => TAG_STR,
+        Tag::Pairs => TAG_PAIRS,
+        Tag::List => TAG_LIST,
+        Tag::Blob => TAG_BLOB,
     }
 }
 
@@ -45,18 +70,18 @@ pub fn tag_of_byte(byte: u8) -> Option<Tag>
     ensures { result ≡ tag_of_byte byte }
 {
     match byte {
-        127 => Some(Tag::Undefined),
-        126 => Some(Tag::Null),
-        125 => Some(Tag::Whole),
-        124 => Some(Tag::Raw4),
-        123 => Some(Tag::Raw8),
-        122 => Some(Tag::Big),
-        121 => Some(Tag::False),
-        120 => Some(Tag::True),
-        119 => Some(Tag::Str),
-        118 => Some(Tag::Pairs),
-        117 => Some(Tag::List),
-        116 => Some(Tag::Blob),
+        TAG_UNDEFINED => Some(Tag::Undefined),
+        TAG_NULL => Some(Tag::Null),
+        TAG_WHOLE => Some(Tag::Whole),
+        TAG_RAW4 => Some(Tag::Raw4),
+        TAG_RAW8 => Some(Tag::Raw8),
+        TAG_BIG => Some(Tag::Big),
+        TAG_FALSE => Some(Tag::False),
+        TAG_TRUE => Some(Tag::True),
+        TAG_STR => Some(Tag::Str),
+        TAG_PAIRS => Some(Tag::Pairs),
+        TAG_LIST => Some(Tag::List),
+        TAG_BLOB => Some(Tag::Blob),
         _ => None,
     }
 }

@@ -1,7 +1,0 @@
-use Rattle.yd_fields.specs.V1.{v1_at, v1_spot}
-use Rattle.yd_fields.proofs.V1FitLemmas.{v1_fits}
-use Rattle.yd_fields.proofs.VectorPlanLemmas.{entries_read}
-use Rattle.yd_fields.proofs.vector_reading.read_entries.Goals as goal
-
-pub of_entries-requires : goal.of_entries-requires
-of_entries-requires c = entries_read v1_at v1_spot c.in_ok-count.count _ _ _ v1_fits c.in_ok-entries.ensures

@@ -1,8 +1,0 @@
-use Rattle.std.proofs.Common.{◌++◌, drop}
-use Rattle.yd_fields.specs.V1Bytes.{V1Spells, v1_bytes}
-use Rattle.yd_fields.specs.VectorFields.{fields_of_entries}
-use Rattle.yd_fields.proofs.WritesLemmas.{Remain}
-use Rattle.yd_fields.proofs.vector_writing.write_entries.Given as goal
-
-abbrev pub invariant-loop-entry : goal.invariant-loop-entry
-invariant-loop-entry l = Remain (λ f bytes. bytes ++ v1_bytes f) V1Spells (fields_of_entries l.entries) (fields_of_entries (drop l.entry-index l.entries)) l.fn.writer l.writer

@@ -1,0 +1,6 @@
+pub mod ExactLemmas
+pub mod FileLemmas
+pub mod FitLemmas
+pub mod SpellsLemmas
+pub mod VectorWrittenLemmas
+pub mod WrittenLemmas

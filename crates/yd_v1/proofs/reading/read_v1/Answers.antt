@@ -1,0 +1,11 @@
+use Rattle.std.proofs.Common.{None}
+use Rattle.yd_ops.specs.View.{update_value}
+use Rattle.yd_fields.proofs.AnswerLemmas.{reads_whole}
+use Rattle.yd_fields.specs.UpdatePlan.{update_plan}
+use Rattle.yd_v1.proofs.FileLemmas.{files_read}
+use Rattle.yd_v1.specs.Grammar.{HasFirstFaultV1, StandsForV1}
+use Rattle.yd_v1.specs.Reading.{v1_reading}
+use Rattle.yd_v1.proofs.reading.read_v1.Goals as goal
+
+pub returns-clause-exact : goal.returns-clause-exact
+returns-clause-exact c = reads_whole update_value v1_reading StandsForV1 HasFirstFaultV1 (files_read (update_plan None)) c.args.bytes.now c.read_update_v1.result c.read_update_v1.ensures.made

@@ -1,0 +1,4 @@
+pub mod Bytes
+pub mod Grammar
+pub mod Law
+pub mod Reading

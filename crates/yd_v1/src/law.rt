@@ -1,0 +1,24 @@
+//! The laws of V1, each the contract of an empty function.
+
+ghost use Rattle.yd_fields.specs.Law.{FilesAreOne, FilesAreRead};
+ghost use Rattle.yd_fields.specs.UpdatePlan.{vector_plan};
+ghost use Rattle.yd_v1.specs.Grammar.{FailsV1, FillsV1, HasFirstFaultV1, StandsForV1};
+ghost use Rattle.yd_v1.specs.Law.{FieldsAreRead};
+ghost use Rattle.yd_v1.specs.Reading.{v1_reading, vector_reading};
+
+/// The fields of V1 are read as they stand, and fail just where none stands.
+pub fn fields_are_read()
+    ensures { FieldsAreRead }
+{}
+
+/// A file in V1 is read as what it stands for, or refused for the first fault in it.
+pub fn files_are_read()
+    ensures updates { FilesAreRead v1_reading StandsForV1 HasFirstFaultV1 }
+    ensures vectors { FilesAreRead vector_reading (FillsV1 vector_plan) (FailsV1 vector_plan) }
+{}
+
+/// A file in V1 stands for one value, or has one first fault, and never both.
+pub fn files_are_one()
+    ensures updates { FilesAreOne StandsForV1 HasFirstFaultV1 }
+    ensures vectors { FilesAreOne (FillsV1 vector_plan) (FailsV1 vector_plan) }
+{}

@@ -1,0 +1,36 @@
+//! Updates, read in V1.
+
+ghost use Rattle.std.specs.Prelude.{IfOk};
+ghost use Rattle.yd_ops.specs.Valid.{IsValidUpdate};
+ghost use Rattle.yd_ops.specs.View.{update_value};
+ghost use Rattle.yd_parts.specs.Fault.{Makes};
+ghost use Rattle.yd_fields.specs.Answer.{ReadsWhole};
+ghost use Rattle.yd_v1.specs.Grammar.{HasFirstFaultV1, StandsForV1};
+ghost use Rattle.yd_v1.specs.Reading.{v1_reading};
+
+use crate::reader::V1Reader;
+use std::alloc::Global;
+use yd_fields::{FieldReader, read_update};
+use yd_ops::Update;
+use yd_parts::ReadError;
+
+/// Reads an update in format V1: the one update that the bytes stand for, or the first fault in
+/// them (Yjs 13, decodeUpdate).
+pub fn read_v1(alloc: Global, bytes: &[u8]) -> Result<Update, ReadError>
+    ensures exact { ReadsWhole update_value
+        (StandsForV1 bytes.now) (HasFirstFaultV1 bytes.now) result }
+    ensures valid { IfOk result (λ update. IsValidUpdate (update_value update)) }
+{
+    read_update_v1(alloc, bytes)
+}
+
+#[tactic(auto, unfolding(crate::specs::Reading::v1_whole))]
+fn read_update_v1(alloc: Global, bytes: &[u8]) -> Result<Update, ReadError>
+    ensures made { Makes update_value result (v1_reading bytes.now) }
+    ensures valid { IfOk result (λ update. IsValidUpdate (update_value update)) }
+{
+    let mut reader = V1Reader::new(bytes);
+    let update = read_update(alloc, &mut reader)?;
+    reader.finish()?;
+    Ok(update)
+}
