@@ -51,6 +51,14 @@ impl<'a> Cursor<'a> {
         self.bytes.len() - self.at
     }
 
+    /// Lends the bytes that are left, and stays.
+    pub fn rest(&self) -> &'a [u8]
+        ensures { result.now ≡ self.now.unread }
+    {
+        let (_, rest) = self.bytes.split_at(self.at);
+        rest
+    }
+
     /// Another cursor at the same place.
     pub fn copy(&self) -> Cursor<'a>
         ensures { result ≡ self.now }

@@ -57,6 +57,13 @@ impl<'a> Parts<'a> {
         self.cursor.left()
     }
 
+    /// Lends the bytes that are left, and stays.
+    pub fn rest(&self) -> &'a [u8]
+        ensures { result.now ≡ self.now.bytes }
+    {
+        self.cursor.rest()
+    }
+
     /// The spot of the part that was read last.
     pub fn spot(&self) -> Spot
         ensures { result ≡ last_spot self.now }

@@ -1,0 +1,7 @@
+pub mod Answer
+pub mod Grammar
+pub mod HeadView
+pub mod Left
+pub mod Part
+pub mod Plan
+pub mod Reading

@@ -1,0 +1,9 @@
+//! Update format V2.
+#![tactic(auto)]
+
+mod column;
+mod head;
+mod json_making;
+mod reader;
+
+pub use reader::V2Reader;
