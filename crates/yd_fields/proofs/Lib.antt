@@ -12,9 +12,11 @@ pub mod ItemPlanLemmas
 pub mod JsonFitLemmas
 pub mod JudgedFitLemmas
 pub mod ListExpectLemmas
+pub mod StructAlikeLemmas
 pub mod StructExpectLemmas
 pub mod StructFitLemmas
 pub mod StructPlanLemmas
+pub mod UpdateAlikeLemmas
 pub mod UpdateExpectLemmas
 pub mod UpdateFitLemmas
 pub mod UpdatePlanLemmas

@@ -1,9 +1,14 @@
-//! The law of the fields, as the contract of an empty function.
+//! The laws of the fields, each the contract of an empty function.
 
-ghost use Rattle.yd_fields.specs.Law.{FieldsComeBack};
+ghost use Rattle.yd_fields.specs.Law.{FieldsComeBack, PlacesDoNotMatter};
 
 /// The fields that are written of an update or a vector are those that reading wants, in any format,
 /// and make it again.
 pub fn fields_come_back()
     ensures { FieldsComeBack }
+{}
+
+/// What fields make does not depend on the places where they stand.
+pub fn places_do_not_matter()
+    ensures { PlacesDoNotMatter }
 {}

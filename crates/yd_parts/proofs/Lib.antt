@@ -1,3 +1,4 @@
+pub mod AlikeLemmas
 pub mod AnyFitsLemmas
 pub mod AnyPlanLemmas
 pub mod AnyReadsLemmas

@@ -1,6 +1,6 @@
 -- Plans of reading: what was read so far decides what is read next, or that nothing is (own). A grammar is one plan,
 -- and each format says how what the plan wants is read.
-use Rattle.std.specs.Prelude.{◌≡◌, ℕ, zero, suc, List, [], ◌∷◌, Result, Ok, Err}
+use Rattle.std.specs.Prelude.{◌≡◌, ℕ, zero, suc, List, [], ◌∷◌, map, Result, Ok, Err}
 use Rattle.yd_parts.specs.Fault.{Fault}
 use Rattle.yd_parts.specs.declared.fault.Cause.{Cause}
 use Rattle.yd_parts.specs.declared.fault.Spot.{Spot}
@@ -56,6 +56,10 @@ pub record Found {T : Type 0} (V : T → Type 0) : Type 0 where
   pub type : T
   pub value : V type
   pub spot : Spot
+
+-- the things that were found, wherever they stand
+abbrev pub things_in : {T : Type 0} {V : T → Type 0} → List (Found V) → List ((t : T) × V t)
+things_in found = map (λ thing. (thing.type, thing.value)) found
 
 -- these things, one after another, lead a plan to what is left of it
 abbrev pub LeadsTo : {T : Type 0} {V : T → Type 0} {X : Type 0} → Plan V X → List (Found V) → Plan V X → Type 0
