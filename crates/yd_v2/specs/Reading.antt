@@ -33,7 +33,7 @@ pub record Columns : Type 0 where
 unfoldable pub columns_plan : PartPlan Columns
 columns_plan = want part.blob (λ keys at. want part.blob (λ clients at. want part.blob (λ lefts at. want part.blob (λ rights at. want part.blob (λ infos at.
     want part.blob (λ strings at. want part.blob (λ parents at. want part.blob (λ kinds at. want part.blob (λ lengths at.
-      give (record { keys = keys; clients = clients; lefts = lefts; rights = rights; infos = infos; strings = strings; parents = parents; kinds = kinds; lengths = lengths })))))))))
+    give (record { keys = keys; clients = clients; lefts = lefts; rights = rights; infos = infos; strings = strings; parents = parents; kinds = kinds; lengths = lengths }))))))))))
 
 -- what a flag other than 0 is refused for
 abbrev pub flagged_plan : Spot → ℕ → PartPlan Columns
