@@ -134,6 +134,7 @@ impl<'a> FieldReader<'a> for V2Reader<'a> {
         })
     }
 
+    #[tactic(auto, using(crate::proofs::FieldLemmas::flag_field_at))]
     fn get_flag(&mut self) -> Result<u8, ReadError> {
         let (flag, spot) = byte_in(Column::Parents, &mut self.parents)?;
         self.spot = spot;
@@ -146,6 +147,7 @@ impl<'a> FieldReader<'a> for V2Reader<'a> {
         Ok(string)
     }
 
+    #[tactic(auto, using(crate::proofs::FieldLemmas::key_at))]
     fn get_key(&mut self) -> Result<&'a str, ReadError> {
         let (number, spot) = diff_in(Column::Keys, &mut self.keys)?;
         self.spot = spot;
@@ -171,6 +173,7 @@ impl<'a> FieldReader<'a> for V2Reader<'a> {
         Ok(len)
     }
 
+    #[tactic(auto, using(crate::proofs::FieldLemmas::any_at))]
     fn get_any(&mut self, alloc: Global) -> Result<Any, ReadError> {
         self.spot = self.rest.here();
         read_any(alloc, &mut self.rest)
@@ -181,6 +184,7 @@ impl<'a> FieldReader<'a> for V2Reader<'a> {
         self.rest.blob()
     }
 
+    #[tactic(auto, using(crate::proofs::FieldLemmas::json_at))]
     fn get_json(&mut self, alloc: Global) -> Result<Json, ReadError> {
         self.spot = self.rest.here();
         let value = read_any(alloc, &mut self.rest)?;
@@ -192,9 +196,10 @@ impl<'a> FieldReader<'a> for V2Reader<'a> {
         self.rest.unsigned()
     }
 
+    #[tactic(auto, using(crate::proofs::FieldLemmas::range_field_at, crate::proofs::RestLemmas::unsigned_small))]
     fn get_range(&mut self, before: u64) -> Result<(u64, u64), ReadError> {
-        self.spot = self.rest.here();
         let far = self.rest.unsigned()?;
+        self.spot = self.rest.spot();
         let less = self.rest.unsigned()?;
         range_of(before + far, less + 1, self.spot)
     }
@@ -207,6 +212,7 @@ impl<'a> FieldReader<'a> for V2Reader<'a> {
         Some(MOST_STRUCTS)
     }
 
+    #[tactic(auto, unfolding(crate::specs::Reading::v2_end))]
     fn finish(self) -> Result<(), ReadError> {
         if self.rest.left() > 0 {
             return Err(ReadError::Fault {
