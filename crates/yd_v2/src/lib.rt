@@ -4,6 +4,7 @@
 mod column;
 mod head;
 mod json_making;
+mod known;
 mod reader;
 
 pub use reader::V2Reader;

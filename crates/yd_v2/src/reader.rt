@@ -1,12 +1,13 @@
 //! Fields, read in V2.
 
-ghost use Rattle.std.specs.Prelude.{◌≡◌, Some, map};
+ghost use Rattle.std.specs.Prelude.{◌≡◌, Some};
 ghost use Rattle.yd_parts.specs.Fault.{Makes, TakesNoMemory};
 ghost use Rattle.yd_v2.specs.Reading.{most_structs, v2_at, v2_end, v2_spot, v2_start};
 
 use crate::column::{byte_in, diff_in, end_in, refusal, string_in, uint_in};
 use crate::head::read_head;
 use crate::json_making::json_of_value;
+use crate::known::key_of;
 use std::alloc::Global;
 use std::marker::Model;
 use yd_any::{Any, Json};
@@ -38,7 +39,7 @@ pub struct V2Reader<'a> {
 }
 
 impl<'a> Model for V2Reader<'a> {
-    ghost use Rattle.std.specs.Prelude.{map};
+    ghost use Rattle.yd_v2.specs.KnownView.{keys_of};
     ghost use Rattle.yd_v2.specs.Reading.{V2Now};
 
     ghost Value = { V2Now };
@@ -56,7 +57,7 @@ impl<'a> Model for V2Reader<'a> {
         lengths = r.lengths;
         rest = r.rest;
       };
-      known = map (λ key. key.now) r.known.items;
+      known = keys_of r.known.items;
       spot = r.spot;
     } };
 }
@@ -147,12 +148,12 @@ impl<'a> FieldReader<'a> for V2Reader<'a> {
         Ok(string)
     }
 
-    #[tactic(auto, using(crate::proofs::FieldLemmas::key_at))]
+    #[tactic(auto, using(crate::proofs::FieldLemmas::key_at, crate::proofs::KnownLemmas::keys_with_last))]
     fn get_key(&mut self) -> Result<&'a str, ReadError> {
         let (number, spot) = diff_in(Column::Keys, &mut self.keys)?;
         self.spot = spot;
-        if number < self.known.len() as u64 {
-            return Ok(self.known[number as usize]);
+        if let Some(key) = key_of(&self.known, number) {
+            return Ok(key);
         }
         let (key, _) = string_in(Column::Strings, &mut self.strings)?;
         if self.known.push(key).is_err() {
