@@ -1,4 +1,7 @@
+pub mod FieldExactLemmas
 pub mod FieldLemmas
+pub mod FileLemmas
 pub mod KnownLemmas
 pub mod PartExactLemmas
 pub mod RestLemmas
+pub mod StartLemmas
