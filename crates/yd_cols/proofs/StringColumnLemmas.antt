@@ -214,6 +214,10 @@ strings_start bytes strings = (start_of bytes strings, λ found. start_spells by
 pub start_text : (bytes : List ℕ) (left : StringsLeft) → strings_in bytes ≡ Ok left → IsUtf8 left.text
 start_text bytes left e = let read = start_read bytes left e in (text_found bytes left.text read.0 read.1).is_front.is_utf8
 
+-- of a text, the next string is a text, and so is what is left
+pub string_texts : (left : StringsLeft) (string : List ℕ) (next : StringsLeft) → IsUtf8 left.text → next_string left ≡ Ok (string, next) → IsUtf8 string × IsUtf8 next.text
+string_texts left string next is_text read = let parts = given_text left string next is_text (is_given left string next read) in (parts.string_text, parts.rest_text)
+
 -- strings that were given stand before what is left
 given_all : (strings : List (List ℕ)) (start left : StringsLeft) → IsUtf8 start.text → GivesAll next_string start strings left → start.text ≡ concat strings ++ left.text
 given_all [] start left is_text given = ap (λ (l : StringsLeft). l.text) given

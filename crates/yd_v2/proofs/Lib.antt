@@ -4,4 +4,5 @@ pub mod FileLemmas
 pub mod KnownLemmas
 pub mod PartExactLemmas
 pub mod RestLemmas
+pub mod SoundLemmas
 pub mod StartLemmas

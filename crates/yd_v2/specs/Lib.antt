@@ -2,7 +2,9 @@ pub mod Answer
 pub mod Grammar
 pub mod HeadView
 pub mod KnownView
+pub mod Law
 pub mod Left
 pub mod Part
 pub mod Plan
 pub mod Reading
+pub mod Sound

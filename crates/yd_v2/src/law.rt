@@ -1,0 +1,21 @@
+//! The laws of V2, each the contract of an empty function.
+
+ghost use Rattle.yd_fields.specs.Law.{FilesAreOne, FilesAreRead};
+ghost use Rattle.yd_v2.specs.Grammar.{HasFirstFaultV2, StandsForV2};
+ghost use Rattle.yd_v2.specs.Law.{FieldsAreRead};
+ghost use Rattle.yd_v2.specs.Reading.{v2_reading};
+
+/// The fields of V2 are read as they stand, and fail just where none stands.
+pub fn fields_are_read()
+    ensures { FieldsAreRead }
+{}
+
+/// A file in V2 is read as what it stands for, or refused for the first fault in it.
+pub fn files_are_read()
+    ensures { FilesAreRead v2_reading StandsForV2 HasFirstFaultV2 }
+{}
+
+/// A file in V2 stands for one update, or has one first fault, and never both.
+pub fn files_are_one()
+    ensures { FilesAreOne StandsForV2 HasFirstFaultV2 }
+{}
