@@ -5,7 +5,7 @@ use Rattle.yd_ids.specs.Id.{IsClient, IsSpan}
 use Rattle.yd_ids.specs.declared.id.Client.{Client}
 use Rattle.yd_ids.specs.declared.id.Span.{Span}
 use Rattle.yd_parts.specs.Fault.{Fault}
-use Rattle.yd_fields.specs.Field.{FieldType, FieldValue, Fits}
+use Rattle.yd_fields.specs.Field.{FieldType, FieldValue, Fits, ReadsFit}
 use Rattle.yd_parts.specs.Plan.{give, read_by, repeated}
 use Rattle.yd_fields.specs.UpdatePlan.{RangesRead, clients_step, ranges_step}
 use Rattle.yd_parts.specs.declared.fault.Spot.{Spot}
@@ -39,6 +39,7 @@ pub clients_fit : (count : ℕ) → GivesOnly Fits (Each IsSpan) (repeated clien
 clients_fit count = gives_only_repeated Fits (Each IsSpan) clients_step count [] tt clients_step_fits
 
 -- what was read of so many clients is spans
-pub spans_read : {S : Type 0} (at : (t : FieldType) → S → Result (FieldValue t × S) Fault) (spot_of : S → Spot) (count : ℕ) (s : S) (spans : List Span) (left : S) →
-    ((t : FieldType) (now : S) (v : FieldValue t) (next : S) → at t now ≡ Ok (v, next) → Fits t v) → read_by at spot_of (repeated clients_step count []) s ≡ Ok (spans, left) → Each IsSpan spans
-spans_read at spot_of count s spans left fits read = given at spot_of Fits (Each IsSpan) (repeated clients_step count []) s spans left fits (clients_fit count) read
+pub spans_read : {S : Type 0} (at : (t : FieldType) → S → Result (FieldValue t × S) Fault) (spot_of : S → Spot) (IsSound : S → Type 0) (count : ℕ) (s : S) (spans : List Span) (left : S) →
+    ReadsFit at IsSound → IsSound s → read_by at spot_of (repeated clients_step count []) s ≡ Ok (spans, left) → Each IsSpan spans
+spans_read at spot_of IsSound count s spans left fits sound read =
+    given at spot_of Fits IsSound (Each IsSpan) (repeated clients_step count []) s spans left fits (clients_fit count) sound read

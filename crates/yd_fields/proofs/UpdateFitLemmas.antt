@@ -102,6 +102,6 @@ update_fits most = λ count spot is_count.
     deletes_fit (λ deletes maximal. record { blocks = blocks; deletes = maximal }))
 
 -- what reading an update gives is a valid update
-pub update_read_valid : {S : Type 0} (at : (t : FieldType) → S → Result (FieldValue t × S) Fault) (spot_of : S → Spot) (most : Option ℕ) (s : S) (u : ops.UpdateValue) (left : S) →
-    ReadsFit at → read_by at spot_of (update_plan most) s ≡ Ok (u, left) → IsValidUpdate u
-update_read_valid at spot_of most s u left fits read = given at spot_of Fits IsValidUpdate (update_plan most) s u left fits (update_fits most) read
+pub update_read_valid : {S : Type 0} (at : (t : FieldType) → S → Result (FieldValue t × S) Fault) (spot_of : S → Spot) (IsSound : S → Type 0) (most : Option ℕ) (s : S) (u : ops.UpdateValue) (left : S) →
+    ReadsFit at IsSound → IsSound s → read_by at spot_of (update_plan most) s ≡ Ok (u, left) → IsValidUpdate u
+update_read_valid at spot_of IsSound most s u left fits sound read = given at spot_of Fits IsSound IsValidUpdate (update_plan most) s u left fits (update_fits most) sound read

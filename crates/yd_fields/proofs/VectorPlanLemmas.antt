@@ -27,7 +27,7 @@ entries_step_fits found before = λ client spot is_client clock at is_clock.
     each-last IsEntry found (record { 0 = client }, clock) before (record { client = is_client; clock = is_clock })
 
 -- what was read of so many clients is entries
-pub entries_read : {S : Type 0} (at : (t : FieldType) → S → Result (FieldValue t × S) Fault) (spot_of : S → Spot) (count : ℕ) (s : S) (entries : List (Client × ℕ)) (left : S) →
-    ReadsFit at → read_by at spot_of (repeated entries_step count []) s ≡ Ok (entries, left) → Each IsEntry entries
-entries_read at spot_of count s entries left fits read =
-    given at spot_of Fits (Each IsEntry) (repeated entries_step count []) s entries left fits (gives_only_repeated Fits (Each IsEntry) entries_step count [] tt entries_step_fits) read
+pub entries_read : {S : Type 0} (at : (t : FieldType) → S → Result (FieldValue t × S) Fault) (spot_of : S → Spot) (IsSound : S → Type 0) (count : ℕ) (s : S) (entries : List (Client × ℕ)) (left : S) →
+    ReadsFit at IsSound → IsSound s → read_by at spot_of (repeated entries_step count []) s ≡ Ok (entries, left) → Each IsEntry entries
+entries_read at spot_of IsSound count s entries left fits sound read =
+    given at spot_of Fits IsSound (Each IsEntry) (repeated entries_step count []) s entries left fits (gives_only_repeated Fits (Each IsEntry) entries_step count [] tt entries_step_fits) sound read

@@ -66,6 +66,6 @@ Fits json t = IsTrue (is_valid_json t)
 Fits number v = v < 2 ^ 53
 Fits (range before) r = r.0 + r.1 < 2 ^ 53
 
--- what reading gives fits its type
-abbrev pub ReadsFit : {S : Type 0} → ((t : FieldType) → S → Result (FieldValue t × S) Fault) → Type 0
-ReadsFit {S} at = (t : FieldType) (now : S) (v : FieldValue t) (next : S) → at t now ≡ Ok (v, next) → Fits t v
+-- where the reader is sound, what reading gives fits its type, and the reader behind it is sound again
+abbrev pub ReadsFit : {S : Type 0} → ((t : FieldType) → S → Result (FieldValue t × S) Fault) → (S → Type 0) → Type 0
+ReadsFit {S} at IsSound = (t : FieldType) (now : S) (v : FieldValue t) (next : S) → IsSound now → at t now ≡ Ok (v, next) → Fits t v × IsSound next

@@ -25,7 +25,8 @@ pub fn read_deletes<'a, R: FieldReader<'a>>(
     alloc: Global,
     reader: &mut R,
 ) -> Result<IdSet, ReadError>
-    requires { ReadsFit R.field_at }
+    requires sound { R.is_sound reader.old }
+    requires fits { ReadsFit R.field_at R.is_sound }
     ensures { Gives (λ set. set) result reader.new
         (read_by R.field_at R.spot_of deletes_plan reader.old) }
 {
@@ -39,7 +40,6 @@ fn read_clients<'a, R: FieldReader<'a>>(
     reader: &mut R,
     count: u64,
 ) -> Result<Vec<Span>, ReadError>
-    requires { ReadsFit R.field_at }
     ensures { Gives (λ spans. spans.items) result reader.new
         (read_by R.field_at R.spot_of (repeated clients_step count []) reader.old) }
 {
@@ -58,7 +58,6 @@ fn read_client<'a, R: FieldReader<'a>>(
     reader: &mut R,
     read: &mut RangesRead,
 ) -> Result<(), ReadError>
-    requires { ReadsFit R.field_at }
     ensures taken { OnOk result (read_by R.field_at R.spot_of
         (clients_step read.old.spans.items) reader.old ≡ Ok (read.new.spans.items, reader.new)) }
     ensures fails { FailsAs result (read_by R.field_at R.spot_of
@@ -76,8 +75,7 @@ fn read_ranges<'a, R: FieldReader<'a>>(
     count: u64,
     read: &mut RangesRead,
 ) -> Result<(), ReadError>
-    requires fits { ReadsFit R.field_at }
-    requires in_range { read.old.end < 2 ^ 53 }
+    requires { read.old.end < 2 ^ 53 }
     ensures taken { OnOk result (read_by R.field_at R.spot_of
         (repeated (ranges_step client) count (ranges_value read.old)) reader.old
         ≡ Ok (ranges_value read.new, reader.new)) }
@@ -96,8 +94,7 @@ fn read_next_range<'a, R: FieldReader<'a>>(
     client: Client,
     read: &mut RangesRead,
 ) -> Result<(), ReadError>
-    requires fits { ReadsFit R.field_at }
-    requires in_range { read.old.end < 2 ^ 53 }
+    requires { read.old.end < 2 ^ 53 }
     ensures taken { OnOk result (read_by R.field_at R.spot_of
         (ranges_step client (ranges_value read.old)) reader.old
         ≡ Ok (ranges_value read.new, reader.new)) }

@@ -1,5 +1,6 @@
 //! Flags of parents and ranges of deletions, judged.
 
+ghost use Rattle.std.specs.Prelude.{◌+◌, ◌<◌, ◌^◌, IfOk};
 ghost use Rattle.yd_fields.specs.Judged.{flag_at, range_at};
 ghost use Rattle.yd_parts.specs.Fault.{Makes, TakesNoMemory};
 
@@ -23,6 +24,7 @@ pub fn flag_of(number: u64, spot: Spot) -> Result<u8, ReadError>
 /// A range by its clock, which stands at a spot, and its length.
 pub fn range_of(clock: u64, len: u64, spot: Spot) -> Result<(u64, u64), ReadError>
     ensures made { Makes (λ range. range) result (range_at spot clock len) }
+    ensures fits { IfOk result (λ range. range.0 + range.1 < 2 ^ 53) }
     ensures memory { TakesNoMemory result }
 {
     if !ends_at_clock(clock, len) {

@@ -1,6 +1,6 @@
 //! Readers of fields, whatever the format.
 
-ghost use Rattle.std.specs.Prelude.{◌≡◌, ◌<◌, ◌^◌, IfOk, IsTrue};
+ghost use Rattle.std.specs.Prelude.{◌≡◌, ◌+◌, ◌<◌, ◌^◌, IfOk, IsTrue};
 ghost use Rattle.yd_any.specs.AnyView.{any_tree};
 ghost use Rattle.yd_any.specs.JsonView.{json_tree};
 ghost use Rattle.yd_any.specs.Valid.{is_valid_any, is_valid_json};
@@ -31,6 +31,9 @@ pub trait FieldReader<'a> {
 
     /// How many structs may be declared, where there is a limit.
     ghost most_of: { Self → Option ℕ };
+
+    /// The readers that files lead to: the sound ones.
+    ghost is_sound: { Self → Type 0 };
 
     /// Reads an info byte.
     fn get_info(&mut self) -> Result<u8, ReadError>
@@ -100,17 +103,19 @@ pub trait FieldReader<'a> {
     fn get_range(&mut self, before: u64) -> Result<(u64, u64), ReadError>
         requires { before < 2 ^ 53 }
         ensures given { Gives (λ r. r) result self.new (field_at (field.range before) self.old) }
+        ensures fits { IfOk result (λ r. r.0 + r.1 < 2 ^ 53) }
         ensures memory { TakesNoMemory result };
 
     /// The spot of the field that was read last: of its first number, where it has two.
     fn spot(&self) -> Spot
         ensures { result ≡ spot_of self.now };
 
-    /// How many structs may be declared in all, where there is a limit. Whatever is read fits its
-    /// type.
+    /// How many structs may be declared in all, where there is a limit. A reader is always one that
+    /// a file leads to, and whatever such a reader reads fits its type.
     fn most_structs(&self) -> Option<u64>
         ensures most { result ≡ most_of self.now }
-        ensures fits { ReadsFit field_at };
+        ensures sound { is_sound self.now }
+        ensures fits { ReadsFit field_at is_sound };
 
     /// Judges what follows the last field.
     fn finish(self) -> Result<(), ReadError>

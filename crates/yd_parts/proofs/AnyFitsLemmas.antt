@@ -133,6 +133,6 @@ any_plan_fits (suc most) = λ b spot any. tagged_fits most (any_plan most) spot 
 -- a value that was read is valid
 pub any_read_valid : (most : ℕ) (s : Unread) (t : AnyTree) (left : Unread) → most ≤ 100 → read_by part_at last_spot (any_plan most) s ≡ Ok (t, left) → IsTrue (is_valid_any t)
 any_read_valid most s t left small read =
-    let here : IsWithin most t = given part_at last_spot Any_part (IsWithin most) (any_plan most) s t left (λ u now v next is. tt) (any_plan_fits most) read in
+    let here : IsWithin most t = given part_at last_spot Any_part (λ now. Unit {0}) (IsWithin most) (any_plan most) s t left (λ u now v next sound is. (tt, tt)) (any_plan_fits most) tt read in
     let shallow : nat_le (depth t) 100 ≡ true = grind (arith, nat_tests) in
     rw (shallow, here.1) refl

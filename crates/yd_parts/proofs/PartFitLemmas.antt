@@ -6,6 +6,7 @@ use Rattle.yd_num.proofs.ReadingLemmas.{ok_value}
 use Rattle.yd_num.specs.Number.{unsigned_at}
 use Rattle.yd_num.specs.Reading.{Cause as NumCause}
 use Rattle.yd_num.specs.Text.{text_at}
+use Rattle.yd_parts.proofs.GivenLemmas.{StaysSound}
 use Rattle.yd_parts.specs.Part.{Part, PartValue, Unread, behind, part_at, placed}
 use Rattle.yd_parts.specs.Part as part
 
@@ -31,3 +32,7 @@ part_fits part.signed left v next is = tt
 part_fits part.text left v next is = let read = placed_ok left (text_at left.bytes) v next is in (text_found left.bytes v read.0 read.1).is_front.is_utf8
 part_fits part.blob left v next is = tt
 part_fits (part.raw count) left v next is = tt
+
+-- what is read of parts fits them, whatever is left
+pub parts_fit : StaysSound part_at FitsPart (λ left. Unit {0})
+parts_fit t left v next sound is = (part_fits t left v next is, tt)

