@@ -1,6 +1,6 @@
 //! The runs of columns, each at the front of what is left.
 
-ghost use Rattle.std.specs.Prelude.{◌≡◌, ◌<◌, ◌^◌};
+ghost use Rattle.std.specs.Prelude.{◌≡◌, ◌<◌, ◌^◌, IfOk};
 ghost use Rattle.yd_cols.specs.Answer.{ReadsRun};
 ghost use Rattle.yd_cols.specs.Reading.{diff_run_at, half_of, more_at, uint_run_at};
 
@@ -13,7 +13,8 @@ const MOST: u64 = (1 << 53) - 1;
 /// A run of numbers.
 #[tactic(auto, unfolding(crate::specs::Reading::uint_run_at))]
 pub fn read_uint_run(cursor: &mut Cursor<'_>) -> Result<Run<u64>, NumFault>
-    ensures { ReadsRun cursor.old cursor.new result (uint_run_at cursor.old.unread) }
+    ensures read { ReadsRun cursor.old cursor.new result (uint_run_at cursor.old.unread) }
+    ensures in_range { IfOk result (λ run. run.value < 2 ^ 53) }
 {
     let number = cursor.signed()?;
     if number.size > MOST {

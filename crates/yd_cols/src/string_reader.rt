@@ -1,6 +1,6 @@
 //! Reading a column of strings.
 
-ghost use Rattle.std.specs.Prelude.{◌≡◌};
+ghost use Rattle.std.specs.Prelude.{◌≡◌, IsUtf8};
 ghost use Rattle.yd_cols.specs.Answer.{GivesNext};
 ghost use Rattle.yd_cols.specs.Reading.{end_of_strings, next_string, strings_in};
 
@@ -46,6 +46,13 @@ impl<'a> StringReader<'a> {
                 lengths: UintReader::behind(cursor),
             }),
         }
+    }
+
+    /// The text that is left is UTF-8: a fact for callers' proofs.
+    pub fn is_text(&self)
+        ensures { IsUtf8 self.now.text }
+    {
+        let _text: &str = self.text;
     }
 
     /// The place of the run that gave the length of the last string, in bytes from the column's

@@ -1,6 +1,6 @@
 //! Reading a column of numbers.
 
-ghost use Rattle.std.specs.Prelude.{◌≡◌};
+ghost use Rattle.std.specs.Prelude.{◌≡◌, ◌<◌, ◌^◌};
 ghost use Rattle.yd_cols.specs.Answer.{GivesNext};
 ghost use Rattle.yd_cols.specs.Reading.{end_of_uints, next_uint, runs_from, uints_in};
 
@@ -18,12 +18,14 @@ pub struct UintReader<'a> {
 }
 
 impl<'a> Model for UintReader<'a> {
-    ghost use Rattle.std.specs.Prelude.{ℕ};
+    ghost use Rattle.std.specs.Prelude.{ℕ, ◌<◌, ◌^◌};
     ghost use Rattle.yd_cols.specs.Reading.{RunsLeft};
 
     ghost Value = { RunsLeft ℕ };
 
     ghost view = { λ r. r.runs };
+
+    ghost invariant = { λ r. r.runs.value < 2 ^ 53 };
 }
 
 impl<'a> UintReader<'a> {
@@ -50,6 +52,13 @@ impl<'a> UintReader<'a> {
         UintReader {
             runs: self.runs.copy(),
         }
+    }
+
+    /// The number in hand, if there is one, is at most 2^53-1: a fact for callers' proofs.
+    pub fn in_range(&self)
+        ensures { self.now.value < 2 ^ 53 }
+    {
+        let _runs = &self.runs;
     }
 
     /// The place of the run that gave the last number, in bytes from the column's first.

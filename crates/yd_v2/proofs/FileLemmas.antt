@@ -1,5 +1,5 @@
 -- Whole files in V2 are read exactly, for any plan.
-use Rattle.std.proofs.Common.{◌≡◌, ◌∙◌, ℕ, List, Result, Ok, Err, inl, inr, refl, ap, subst, sym}
+use Rattle.std.proofs.Common.{◌≡◌, ◌∙◌, ℕ, List, Result, Ok, Err, inl, inr, refl, ap, subst}
 use Rattle.yd_fields.specs.Field.{FieldPlan}
 use Rattle.yd_fields.specs.Law.{FilesAreRead}
 use Rattle.yd_num.proofs.ReadingLemmas.{ok_value}

@@ -1,5 +1,5 @@
 -- Keys that are known, by their numbers.
-use Rattle.std.proofs.Common.{◌≡◌, ◌<◌, ◌≤◌, ℕ, zero, suc, List, [], ◌∷◌, ◌++◌, length, map, get_or, Option, Some, None, Bor, refl, ap, arith}
+use Rattle.std.proofs.Common.{◌≡◌, ◌<◌, ◌≤◌, ℕ, zero, suc, List, [], ◌∷◌, ◌++◌, length, get_or, Some, None, Bor, refl, ap, arith}
 use Rattle.yd_v2.specs.KnownView.{keys_of}
 use Rattle.yd_v2.specs.Plan.{key_of_number}
 

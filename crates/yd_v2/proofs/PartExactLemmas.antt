@@ -1,11 +1,11 @@
 -- The parts of V2 are read exactly.
-use Rattle.std.proofs.Common.{◌≡◌, ◌∙◌, ℕ, List, Result, Ok, Err, refl, ap, sym, subst}
+use Rattle.std.proofs.Common.{◌≡◌, ◌∙◌, ℕ, Result, Ok, Err, refl, ap, sym, subst}
 use Rattle.yd_cols.proofs.ByteTakenLemmas.{byte_exact}
 use Rattle.yd_cols.proofs.DiffLemmas.{diff_exact}
 use Rattle.yd_cols.proofs.StringColumnLemmas.{strings_exact}
 use Rattle.yd_cols.proofs.UintLemmas.{uint_exact}
 use Rattle.yd_cols.specs.Law.{IsExact}
-use Rattle.yd_cols.specs.Reading.{BytesLeft, DiffsLeft, RunsLeft, StringsLeft, next_byte, next_diff, next_string, next_uint}
+use Rattle.yd_cols.specs.Reading.{next_byte, next_diff, next_string, next_uint}
 use Rattle.yd_cols.specs.Taking.{LacksByte, LacksDiff, LacksString, LacksUint, TakesByte, TakesDiff, TakesString, TakesUint}
 use Rattle.yd_cols.specs.declared.fault.ColFault.{ColFault}
 use Rattle.yd_num.proofs.ReadingLemmas.{ok_value}
@@ -16,7 +16,6 @@ use Rattle.yd_parts.specs.Part.{Part, PartValue, Unread, here, last_spot, part_a
 use Rattle.yd_parts.specs.PartGrammar.{FailsPart, StandsPart}
 use Rattle.yd_parts.specs.declared.fault.Column.{Column}
 use Rattle.yd_parts.specs.declared.fault.Column.TheVariants.{Keys, Clients, Lefts, Rights, Infos, Strings, Parents, Kinds, Lengths}
-use Rattle.yd_parts.specs.declared.fault.Spot.{Spot}
 use Rattle.yd_v2.specs.Grammar.{FailsV2Part, LacksIn, StandsV2Part, TakesIn, TakesPart, TakesRest}
 use Rattle.yd_v2.specs.Left.{V2Left, with_clients, with_infos, with_keys, with_kinds, with_lefts, with_lengths, with_parents, with_rest, with_rights, with_strings}
 use Rattle.yd_v2.specs.Part.{V2Part, V2Turn, V2Value, client, fault_in, flag, info, key_number, kind, left_clock, len, mark, rest, rest_turned, right_clock, string, turned, v2_last, v2_part_at}

@@ -1,7 +1,6 @@
 -- The head of a file in V2, and the text that joins its strings, are read exactly.
 use Rattle.std.proofs.Common.{◌≡◌, ◌∙◌, ◌⊎◌, ◌+◌, ◌-◌, ℕ, inl, inr, List, length, Result, Ok, Err, refl, ap, subst, sym, arith}
 use Rattle.yd_cols.specs.Reading.{StringsLeft, of_number, runs_from, strings_in, strings_of}
-use Rattle.yd_cols.specs.declared.fault.ColFault.{ColFault}
 use Rattle.yd_num.proofs.ReadingLemmas.{ok_value}
 use Rattle.yd_num.specs.Reading.{Cause as NumCause, short_input, number_too_large, bad_utf8}
 use Rattle.yd_num.specs.Text.{text_at}
@@ -54,7 +53,7 @@ unfolding strings_in
 joined_read bytes strings joins =
     let text = joined_text bytes strings joins in
     let lengths : runs_from {V = ℕ} 0 (length bytes - length text.0) text.0 ≡ strings.lengths =
-        sym (joins.lengths ∙ ap (λ (left : Unread). runs_from {V = ℕ} 0 left.place left.bytes) text.2 ∙ ap (λ place. runs_from {V = ℕ} 0 place text.0) (no_place (length bytes) (length text.0))) in
+    sym (joins.lengths ∙ ap (λ (left : Unread). runs_from {V = ℕ} 0 left.place left.bytes) text.2 ∙ ap (λ place. runs_from {V = ℕ} 0 place text.0) (no_place (length bytes) (length text.0))) in
     ap (λ first. in_column Strings (strings_of bytes first)) text.1 ∙ ap (λ ls. Ok (record { text = strings.text; lengths = ls })) lengths
 
 -- the fault of a text that is not there

@@ -1,6 +1,6 @@
 -- Which files in V2 stand for an update, and what is first wrong with the others (Yjs 13, update format V2): the grammar, without reading.
-use Rattle.std.specs.Prelude.{◌≡◌, ◌⊎◌, ℕ, List, Some, Result, Ok, Err}
-use Rattle.yd_cols.specs.Reading.{BytesLeft, DiffsLeft, RunsLeft, StringsLeft, runs_from}
+use Rattle.std.specs.Prelude.{◌≡◌, ◌⊎◌, ℕ, List, Some, Ok, Err}
+use Rattle.yd_cols.specs.Reading.{StringsLeft, runs_from}
 use Rattle.yd_cols.specs.Taking.{LacksByte, LacksDiff, LacksString, LacksUint, TakesByte, TakesDiff, TakesString, TakesUint}
 use Rattle.yd_cols.specs.declared.fault.ColFault.{ColFault}
 use Rattle.yd_fields.specs.Field.{FieldPlan, FieldType, FieldValue}

@@ -1,5 +1,5 @@
 -- Update format V2: the parts of each field (Yjs 13, UpdateEncoderV2 and UpdateDecoderV2).
-use Rattle.std.specs.Prelude.{◌≡◌, ℕ, zero, suc, ◌+◌, ◌^◌, List, [], ◌∷◌, ◌++◌, Option, Some, None, Result, Ok, Err, Bool, true, false, if◌then◌else◌}
+use Rattle.std.specs.Prelude.{ℕ, zero, suc, ◌+◌, List, [], ◌∷◌, ◌++◌, Option, Some, None}
 use Rattle.yd_any.specs.Outcome.{carried}
 use Rattle.yd_any.specs.Tree.{AnyTree}
 use Rattle.yd_fields.specs.Field.{FieldType, FieldValue}

@@ -1,5 +1,5 @@
 -- Reading a file in V2: the columns at its head, then the fields, then the end of the rest and of each column (Yjs 13, UpdateDecoderV2).
-use Rattle.std.specs.Prelude.{ℕ, zero, suc, List, [], ◌∷◌, Option, Some, Result, Ok, Err}
+use Rattle.std.specs.Prelude.{ℕ, zero, suc, List, [], ◌∷◌, Some, Result, Ok, Err}
 use Rattle.yd_cols.specs.Reading.{StringsLeft, bytes_in, diffs_in, end_of_bytes, end_of_diffs, end_of_strings, end_of_uints, strings_in, uints_in}
 use Rattle.yd_fields.specs.Field.{FieldPlan, FieldType, FieldValue}
 use Rattle.yd_fields.specs.UpdatePlan.{update_plan}

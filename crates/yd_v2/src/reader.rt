@@ -3,6 +3,7 @@
 ghost use Rattle.std.specs.Prelude.{◌≡◌, Some};
 ghost use Rattle.yd_parts.specs.Fault.{Makes, TakesNoMemory};
 ghost use Rattle.yd_v2.specs.Reading.{most_structs, v2_at, v2_end, v2_spot, v2_start};
+ghost use Rattle.yd_v2.specs.Sound.{IsSoundV2};
 
 use crate::column::{byte_in, diff_in, end_in, refusal, string_in, uint_in};
 use crate::head::read_head;
@@ -39,6 +40,8 @@ pub struct V2Reader<'a> {
 }
 
 impl<'a> Model for V2Reader<'a> {
+    ghost use Rattle.std.specs.Prelude.{IsUtf8};
+    ghost use Rattle.yd_ids.specs.Each.{Each};
     ghost use Rattle.yd_v2.specs.KnownView.{keys_of};
     ghost use Rattle.yd_v2.specs.Reading.{V2Now};
 
@@ -60,6 +63,8 @@ impl<'a> Model for V2Reader<'a> {
       known = keys_of r.known.items;
       spot = r.spot;
     } };
+
+    ghost invariant = { λ r. Each IsUtf8 (keys_of r.known.items) };
 }
 
 impl<'a> V2Reader<'a> {
@@ -91,6 +96,16 @@ impl<'a> V2Reader<'a> {
             }),
         }
     }
+
+    // Files lead to this reader: a fact for proofs.
+    fn is_sound(&self)
+        ensures { IsSoundV2 self.now }
+    {
+        self.clients.in_range();
+        self.kinds.in_range();
+        self.lengths.in_range();
+        self.strings.is_text();
+    }
 }
 
 #[tactic(auto, unfolding(crate::specs::Reading::v2_at, yd_parts::specs::Plan::read_by))]
@@ -102,6 +117,8 @@ impl<'a> FieldReader<'a> for V2Reader<'a> {
     ghost end_at = { v2_end };
 
     ghost most_of = { λ _. Some most_structs };
+
+    ghost is_sound = { IsSoundV2 };
 
     fn get_info(&mut self) -> Result<u8, ReadError> {
         let (info, spot) = byte_in(Column::Infos, &mut self.infos)?;
@@ -148,7 +165,7 @@ impl<'a> FieldReader<'a> for V2Reader<'a> {
         Ok(string)
     }
 
-    #[tactic(auto, using(crate::proofs::FieldLemmas::key_at, crate::proofs::KnownLemmas::keys_with_last))]
+    #[tactic(auto, using(crate::proofs::FieldLemmas::key_at, crate::proofs::KnownLemmas::keys_with_last, crate::proofs::SoundLemmas::texts_with_last))]
     fn get_key(&mut self) -> Result<&'a str, ReadError> {
         let (number, spot) = diff_in(Column::Keys, &mut self.keys)?;
         self.spot = spot;
@@ -209,7 +226,9 @@ impl<'a> FieldReader<'a> for V2Reader<'a> {
         self.spot
     }
 
+    #[tactic(auto, using(crate::proofs::SoundLemmas::v2_fits))]
     fn most_structs(&self) -> Option<u64> {
+        self.is_sound();
         Some(MOST_STRUCTS)
     }
 
