@@ -1,0 +1,7 @@
+//! Each public call of columns once, and columns that are refused, each at its place.
+#![tactic(auto)]
+
+#[cfg(test)]
+mod reading;
+#[cfg(test)]
+mod writing;
