@@ -5,3 +5,6 @@ pub mod Left
 pub mod Part
 pub mod Plan
 pub mod Reading
+pub mod Spelled
+pub mod Standing
+pub mod Writing
