@@ -1,0 +1,7 @@
+pub mod AnyPartsLemmas
+pub mod FieldPartsLemmas
+pub mod HeadLemmas
+pub mod PutLemmas
+pub mod StandingLemmas
+pub mod WantLemmas
+pub mod WrittenLemmas
