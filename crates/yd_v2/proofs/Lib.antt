@@ -3,5 +3,6 @@ pub mod FieldPartsLemmas
 pub mod HeadLemmas
 pub mod PutLemmas
 pub mod StandingLemmas
+pub mod TakenLemmas
 pub mod WantLemmas
 pub mod WrittenLemmas
