@@ -1,5 +1,5 @@
 -- Any-values are read from the same parts, wherever these stand; and the bytes of one are parts that reading wants.
-use Rattle.std.proofs.Common.{◌≡◌, ◌∙◌, ◌++◌, ◌^◌, ◌≤◌, [], ◌∷◌, ℕ, zero, suc, List, Option, Some, None, append-nil, false, true, nat_lt, refl, sym, ap, subst}
+use Rattle.std.proofs.Common.{◌≡◌, ◌∙◌, ◌^◌, ◌≤◌, [], ◌∷◌, ℕ, zero, suc, List, Option, Some, None, append-nil, false, true, nat_lt, sym, ap, subst}
 use Rattle.std.specs.Int.{w64, cast_signed, from_be_bytes}
 use Rattle.yd_any.specs.Tree.{AnyTree, big, depth, flag, list, null, pairs, raw4, raw8, str, undefined, whole, with_last, with_last_field, blob as bytes, no_fields, no_trees}
 use Rattle.yd_parts.proofs.AlikeLemmas.{AreAlike, alike_bind, alike_give, alike_if, alike_refuse, alike_repeated, alike_want}
@@ -10,7 +10,7 @@ use Rattle.yd_parts.specs.AnyBytes.{IsWritable, bytes_of_any}
 use Rattle.yd_parts.specs.AnyPlan.{any_plan, field_step, list_plan, pairs_plan, tag_of_byte, tagged_plan, tree_step, whole_number, whole_plan}
 use Rattle.yd_parts.specs.Part.{PartPlan, PartValue, Unread, all_of, last_spot, part_at}
 use Rattle.yd_parts.specs.PartGrammar.{FailsPart, StandsPart}
-use Rattle.yd_parts.specs.Plan.{Expects, Found, StandInTurn, give, things_in}
+use Rattle.yd_parts.specs.Plan.{Expects, Found, StandInTurn, things_in}
 use Rattle.yd_parts.specs.declared.fault.Column.TheVariants.{Rest}
 use Rattle.yd_parts.specs.declared.fault.Spot.{Spot}
 use Rattle.yd_parts.specs.declared.tag.Tag.{Tag}

@@ -1,11 +1,11 @@
 -- Each field is written in the parts that reading it wants.
-use Rattle.std.proofs.Common.{◌≡◌, ◌∙◌, ◌+◌, ◌-◌, ◌^◌, ◌<◌, ◌≤◌, ◌++◌, [], ◌∷◌, ℕ, suc, List, None, Ok, append-nil, arith, length, length-append, map, refl, sym, ap}
+use Rattle.std.proofs.Common.{◌≡◌, ◌+◌, ◌-◌, ◌^◌, ◌<◌, [], ◌∷◌, ℕ, suc, List, None, append-nil, arith, length, length-append, map, refl, sym, ap}
 use Rattle.std.proofs.lemmas.Bool.{and_parts, leb-true, lt-ltb}
 use Rattle.std.specs.Prelude.{IsTrue, nat_le}
 use Rattle.yd_any.proofs.StayLemmas.{carried-valid}
 use Rattle.yd_any.specs.Outcome.{carried}
 use Rattle.yd_any.specs.Tree.{AnyTree, depth}
-use Rattle.yd_any.specs.Valid.{is_in_range, is_json, is_valid_any, is_valid_json}
+use Rattle.yd_any.specs.Valid.{is_in_range, is_json, is_valid_json}
 use Rattle.yd_fields.specs.Field.{Field, FieldType, FieldValue}
 use Rattle.yd_fields.specs.Field as field
 use Rattle.yd_fields.specs.JsonPlan.{made_at}
@@ -25,7 +25,7 @@ use Rattle.yd_v2.specs.Part.{client, flag, info, key_number, kind, left_clock, l
 use Rattle.yd_v2.specs.Plan.{FieldRead, any_field_plan, as_read, json_field_plan, key_of_number, key_plan, range_plan, v2_plan}
 use Rattle.yd_v2.specs.Spelled.{IsRangeBehind, V2Spells}
 use Rattle.yd_v2.specs.Standing.{RestThing, SpellParts, V2Thing}
-use Rattle.yd_v2.specs.Writing.{V2Written, bytes_of_range, more_rest, v2_put}
+use Rattle.yd_v2.specs.Writing.{V2Written, bytes_of_range, v2_put}
 
 -- the field is read, and so many keys are known then
 pub record IsField (t : FieldType) (v : FieldValue t) (known : ℕ) (read : FieldRead (FieldValue t)) : Type 0 where

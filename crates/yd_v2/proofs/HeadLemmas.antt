@@ -9,7 +9,7 @@ use Rattle.yd_parts.specs.Part.{Part, PartPlan, PartValue, Unread, all_of, last_
 use Rattle.yd_parts.specs.Plan.{and_then, give, read_by, want}
 use Rattle.yd_parts.specs.declared.fault.Column.TheVariants.{Head}
 use Rattle.yd_parts.specs.declared.fault.Spot.{Spot}
-use Rattle.yd_v2.specs.Reading.{Columns, columns_plan, flagged_plan, head_plan, v2_begin, v2_start}
+use Rattle.yd_v2.specs.Reading.{Columns, columns_plan, head_plan, v2_begin, v2_start}
 use Rattle.yd_v2.specs.Writing.{ColumnsFit, columns_bytes, file_bytes}
 
 -- the plan reads these bytes as the value, up to this rest

@@ -11,5 +11,6 @@ pub mod RestLemmas
 pub mod SoundLemmas
 pub mod StandingLemmas
 pub mod StartLemmas
+pub mod TakenLemmas
 pub mod WantLemmas
 pub mod WrittenLemmas

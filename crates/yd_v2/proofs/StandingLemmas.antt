@@ -1,23 +1,19 @@
 -- Parts that are left of a file are read, one after another, and what is read was left.
-use Rattle.std.proofs.Common.{◌≡◌, ◌∙◌, [], ◌∷◌, List, Result, Ok, Err, IsUtf8, refl, sym, ap, subst}
-use Rattle.std.proofs.lemmas.Str.{IsUtf8-nil}
+use Rattle.std.proofs.Common.{◌≡◌, [], ◌∷◌, List, Result, Ok, Err, refl, ap}
 use Rattle.yd_cols.proofs.ByteLemmas.{byte_whole}
 use Rattle.yd_cols.proofs.DiffLemmas.{diff_whole}
 use Rattle.yd_cols.proofs.StringColumnLemmas.{strings_whole}
 use Rattle.yd_cols.proofs.UintLemmas.{uint_whole}
 use Rattle.yd_cols.specs.Reading.{end_of_bytes, end_of_diffs, end_of_strings, end_of_uints}
-use Rattle.yd_num.proofs.ReadingLemmas.{ok_value}
 use Rattle.yd_parts.proofs.PartExactLemmas.{parts_exact}
 use Rattle.yd_parts.specs.Fault.{Fault}
-use Rattle.yd_parts.specs.Part.{Part, PartValue, Unread, behind, here, last_spot, part_at}
+use Rattle.yd_parts.specs.Part.{Part, PartValue, behind, here, last_spot}
 use Rattle.yd_parts.specs.PartGrammar.{StandsPart}
-use Rattle.yd_parts.specs.declared.fault.Column.{Column}
 use Rattle.yd_parts.specs.declared.fault.Column.TheVariants.{Keys, Clients, Lefts, Rights, Infos, Strings, Parents, Kinds, Lengths}
-use Rattle.yd_parts.specs.declared.fault.Spot.{Spot}
-use Rattle.yd_v2.specs.Left.{V2Left, with_clients, with_infos, with_keys, with_kinds, with_lefts, with_lengths, with_parents, with_rest, with_rights, with_strings}
-use Rattle.yd_v2.specs.Part.{V2Part, V2Turn, V2Value, client, fault_in, flag, in_column, info, key_number, kind, left_clock, len, mark, rest, rest_turned, right_clock, string, turned, v2_part_at}
+use Rattle.yd_v2.specs.Left.{with_clients, with_infos, with_keys, with_kinds, with_lefts, with_lengths, with_parents, with_rest, with_rights, with_strings}
+use Rattle.yd_v2.specs.Part.{V2Part, V2Turn, V2Value, client, flag, in_column, info, key_number, kind, left_clock, len, mark, rest, rest_turned, right_clock, string, turned, v2_part_at}
 use Rattle.yd_v2.specs.Reading.{V2Now, rest_done, v2_end, ◌>>◌}
-use Rattle.yd_v2.specs.Standing.{PartsStand, SpellParts, V2Thing, among, clients_of, infos_of, keys_of, kinds_of, lefts_of, lengths_of, parents_of, rest_of, rights_of, strings_of}
+use Rattle.yd_v2.specs.Standing.{PartsStand, V2Thing, among, clients_of, infos_of, keys_of, kinds_of, lefts_of, lengths_of, parents_of, rights_of, strings_of}
 
 -- ---- the next part
 

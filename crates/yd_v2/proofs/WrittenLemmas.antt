@@ -1,5 +1,5 @@
 -- What is written in V2 is read again: a plan that expects fields reads them from their file.
-use Rattle.std.proofs.Common.{◌≡◌, ◌∙◌, ◌++◌, ◌+◌, ◌^◌, ◌<◌, ◌≤◌, [], ◌∷◌, ℕ, List, Result, Ok, IsUtf8, append-nil, append_assoc, arith, length, refl, sym, ap, subst}
+use Rattle.std.proofs.Common.{◌≡◌, ◌∙◌, ◌++◌, ◌+◌, ◌^◌, ◌<◌, ◌≤◌, [], ◌∷◌, ℕ, List, Ok, IsUtf8, append-nil, append_assoc, arith, length, refl, sym, ap, subst}
 use Rattle.std.specs.List.{AllByRecursion, concat}
 use Rattle.yd_cols.proofs.BackLemmas.{bytes_back, diffs_back, strings_back, uints_back}
 use Rattle.yd_cols.proofs.StartLemmas.{bytes_start, diffs_start, uints_start}
@@ -12,18 +12,18 @@ use Rattle.yd_fields.specs.Field.{Field, FieldPlan, FieldType, FieldValue}
 use Rattle.yd_fields.specs.Field as field
 use Rattle.yd_fields.specs.Writes.{with_fields}
 use Rattle.yd_ids.specs.Each.{Each}
-use Rattle.yd_parts.specs.Plan.{Expects, and_then, give, read_by, refuse, want}
+use Rattle.yd_parts.specs.Plan.{Expects, give, read_by, refuse, want}
 use Rattle.yd_parts.specs.declared.fault.Spot.{Spot}
 use Rattle.yd_v2.proofs.FieldPartsLemmas.{FieldParts, IsField, WantsField, field_parts}
 use Rattle.yd_v2.proofs.HeadLemmas.{file_begins}
 use Rattle.yd_v2.proofs.PutLemmas.{PartsFit, PartsPut, fit_then, none_fit, none_put, put_then}
 use Rattle.yd_v2.proofs.StandingLemmas.{nothing_ends}
-use Rattle.yd_v2.proofs.WantLemmas.{ReadsParts, wants_read}
-use Rattle.yd_v2.specs.Plan.{FieldRead, v2_plan}
-use Rattle.yd_v2.specs.Reading.{V2Now, turn_of, v2_at, v2_begin, v2_end, v2_spot, v2_whole}
+use Rattle.yd_v2.proofs.WantLemmas.{wants_read}
+use Rattle.yd_v2.specs.Plan.{v2_plan}
+use Rattle.yd_v2.specs.Reading.{V2Now, turn_of, v2_at, v2_begin, v2_spot, v2_whole}
 use Rattle.yd_v2.specs.Spelled.{V2Spells}
 use Rattle.yd_v2.specs.Standing.{PartsStand, V2Thing, SpellParts, among, clients_of, infos_of, keys_of, kinds_of, lefts_of, lengths_of, parents_of, rest_of, rights_of, strings_of}
-use Rattle.yd_v2.specs.Writing.{FitsFile, V2Written, columns_written, no_fields, v2_bytes, v2_bytes_of_all, v2_put}
+use Rattle.yd_v2.specs.Writing.{FitsFile, V2Written, columns_written, no_fields, v2_bytes_of_all, v2_put}
 
 -- ---- columns
 
