@@ -21,7 +21,7 @@ use Rattle.yd_parts.specs.Plan.{of_made, ◌>>=◌}
 use Rattle.yd_v2.proofs.AnyPartsLemmas.{AnyParts, any_parts}
 use Rattle.yd_v2.proofs.PutLemmas.{PartsFit, PartsPut, put_then, fit_then, rest_fit, rest_put}
 use Rattle.yd_v2.proofs.WantLemmas.{Wants, in_file, made_wants, rest_wants}
-use Rattle.yd_v2.specs.Part.{client, flag, info, key_number, kind, left_clock, len, mark, rest, right_clock, string}
+use Rattle.yd_v2.specs.Part.{client, flag, info, key_number, kind, left_clock, len, mark, right_clock, string}
 use Rattle.yd_v2.specs.Plan.{FieldRead, any_field_plan, as_read, json_field_plan, key_of_number, key_plan, range_plan, v2_plan}
 use Rattle.yd_v2.specs.Spelled.{IsRangeBehind, V2Spells}
 use Rattle.yd_v2.specs.Standing.{RestThing, SpellParts, V2Thing}

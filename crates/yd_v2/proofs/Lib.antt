@@ -1,11 +1,14 @@
 pub mod AnyPartsLemmas
+pub mod ColumnLemmas
 pub mod FieldExactLemmas
 pub mod FieldLemmas
 pub mod FieldPartsLemmas
+pub mod FileColumnLemmas
 pub mod FileLemmas
 pub mod HeadLemmas
 pub mod KnownLemmas
 pub mod PartExactLemmas
+pub mod PlacelessLemmas
 pub mod PutLemmas
 pub mod RestLemmas
 pub mod SoundLemmas

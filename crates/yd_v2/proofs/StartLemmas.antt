@@ -1,5 +1,6 @@
 -- The head of a file in V2, and the text that joins its strings, are read exactly.
 use Rattle.std.proofs.Common.{◌≡◌, ◌∙◌, ◌⊎◌, ◌+◌, ◌-◌, ℕ, inl, inr, List, length, Result, Ok, Err, refl, ap, subst, sym, arith}
+use Rattle.yd_cols.specs.declared.fault.ColFault.{ColFault}
 use Rattle.yd_cols.specs.Reading.{StringsLeft, of_number, runs_from, strings_in, strings_of}
 use Rattle.yd_num.proofs.ReadingLemmas.{ok_value}
 use Rattle.yd_num.specs.Reading.{Cause as NumCause, short_input, number_too_large, bad_utf8}
@@ -48,13 +49,21 @@ joined_text bytes strings joins = by_text (text_at bytes) refl (parts_exact.only
         (got.1, is ∙ ap (λ text. Ok (text, got.1)) (ap (λ pair. pair.0) same), sym (ap (λ pair. pair.1) same))
     by_text (Err cause) is e = absurd cc
 
-joined_read : (bytes : List ℕ) (strings : StringsLeft) → JoinsStrings bytes strings → in_column Strings (strings_in bytes) ≡ Ok strings
+pub joined_read : (bytes : List ℕ) (strings : StringsLeft) → JoinsStrings bytes strings → in_column Strings (strings_in bytes) ≡ Ok strings
 unfolding strings_in
 joined_read bytes strings joins =
     let text = joined_text bytes strings joins in
     let lengths : runs_from {V = ℕ} 0 (length bytes - length text.0) text.0 ≡ strings.lengths =
     sym (joins.lengths ∙ ap (λ (left : Unread). runs_from {V = ℕ} 0 left.place left.bytes) text.2 ∙ ap (λ place. runs_from {V = ℕ} 0 place text.0) (no_place (length bytes) (length text.0))) in
     ap (λ first. in_column Strings (strings_of bytes first)) text.1 ∙ ap (λ ls. Ok (record { text = strings.text; lengths = ls })) lengths
+
+-- the same, in the column's own words
+pub strings_read : (bytes : List ℕ) (strings : StringsLeft) → JoinsStrings bytes strings → strings_in bytes ≡ Ok strings
+strings_read bytes strings joins = by_strings (strings_in bytes) (joined_read bytes strings joins)
+  where
+    by_strings : (first : Result StringsLeft ColFault) → in_column Strings first ≡ Ok strings → first ≡ Ok strings
+    by_strings (Ok found) e = ap Ok (ok_value {E = Fault} found strings e)
+    by_strings (Err fault) e = absurd cc
 
 -- the fault of a text that is not there
 abbrev text_fault : NumCause → Fault

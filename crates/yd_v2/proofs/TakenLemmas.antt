@@ -10,7 +10,7 @@ use Rattle.yd_cols.specs.declared.fault.ColFault.{ColFault}
 use Rattle.yd_num.proofs.ReadingLemmas.{ok_value}
 use Rattle.yd_parts.proofs.PartExactLemmas.{parts_exact}
 use Rattle.yd_parts.specs.Fault.{Fault}
-use Rattle.yd_parts.specs.Part.{Part, PartValue, Unread, behind, here, last_spot, part_at}
+use Rattle.yd_parts.specs.Part.{Part, PartValue, Unread, here, last_spot, part_at}
 use Rattle.yd_parts.specs.declared.fault.Column.{Column}
 use Rattle.yd_parts.specs.declared.fault.Column.TheVariants.{Keys, Clients, Lefts, Rights, Infos, Strings, Parents, Kinds, Lengths}
 use Rattle.yd_parts.specs.declared.fault.Spot.{Spot}

@@ -1,4 +1,5 @@
 pub mod Answer
+pub mod Columns
 pub mod Grammar
 pub mod HeadView
 pub mod KnownView

@@ -1,6 +1,7 @@
 //! The laws of V2, each the contract of an empty function.
 
 ghost use Rattle.yd_fields.specs.Law.{FilesAreOne, FilesAreRead};
+ghost use Rattle.yd_v2.specs.Columns.{FilesAreColumns};
 ghost use Rattle.yd_v2.specs.Grammar.{HasFirstFaultV2, StandsForV2};
 ghost use Rattle.yd_v2.specs.Law.{FieldsAreRead};
 ghost use Rattle.yd_v2.specs.Reading.{v2_reading};
@@ -18,4 +19,10 @@ pub fn files_are_read()
 /// A file in V2 stands for one update, or has one first fault, and never both.
 pub fn files_are_one()
     ensures { FilesAreOne StandsForV2 HasFirstFaultV2 }
+{}
+
+/// A file in V2 stands for an update just where its columns and its rest spell fields that make it,
+/// each column the values that go there.
+pub fn files_are_columns()
+    ensures { FilesAreColumns }
 {}

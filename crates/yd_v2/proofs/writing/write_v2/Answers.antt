@@ -1,4 +1,4 @@
-use Rattle.std.proofs.Common.{◌≡◌, ◌∙◌, Some, ap, subst}
+use Rattle.std.proofs.Common.{◌≡◌, ◌∙◌, Some, ap, subst, sym}
 use Rattle.yd_fields.proofs.UpdateExpectLemmas.{update_expects_within}
 use Rattle.yd_fields.specs.UpdateFields.{fields_of_update}
 use Rattle.yd_fields.specs.UpdatePlan.{update_plan}
