@@ -8,4 +8,6 @@ mod ops;
 #[cfg(test)]
 mod reading;
 #[cfg(test)]
+mod v2;
+#[cfg(test)]
 mod writing;
