@@ -70,7 +70,8 @@ impl ByteWriter {
 /// The run that is in hand behind a byte more; the one before is written, if it does not take it.
 fn put(bytes: &mut Bytes, hand: Option<Run<u8>>, v: u8) -> Result<Run<u8>, NoMemory>
     requires { HandFits FitsByte hand }
-    ensures put { IfOk result (λ run. written bytes.new (Some run) ≡ put_byte v (written bytes.old hand)) }
+    ensures put { IfOk result (λ run. written bytes.new (Some run)
+        ≡ put_byte v (written bytes.old hand)) }
     ensures fits { IfOk result (λ run. FitsByte run) }
     ensures unchanged { OnErr result (bytes.new ≡ bytes.old) }
 {

@@ -27,7 +27,10 @@ impl Model for IntDiffWriter {
 
     ghost Value = { DiffsWritten };
 
-    ghost view = { λ w. record { last = w.last; runs = record { bytes = w.bytes; hand = w.hand } } };
+    ghost view = { λ w. record {
+      last = w.last;
+      runs = record { bytes = w.bytes; hand = w.hand };
+    } };
 
     ghost invariant = { λ w. (w.last < 2 ^ 53) × HandFits FitsDiff w.hand };
 }
@@ -74,7 +77,8 @@ impl IntDiffWriter {
 fn put(bytes: &mut Bytes, hand: Option<Run<i64>>, step: i64) -> Result<Run<i64>, NoMemory>
     requires step { IsStep step }
     requires hand { HandFits FitsDiff hand }
-    ensures put { IfOk result (λ run. written bytes.new (Some run) ≡ put_step step (written bytes.old hand)) }
+    ensures put { IfOk result (λ run. written bytes.new (Some run)
+        ≡ put_step step (written bytes.old hand)) }
     ensures fits { IfOk result (λ run. FitsDiff run) }
     ensures unchanged { OnErr result (bytes.new ≡ bytes.old) }
 {

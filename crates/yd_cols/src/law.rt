@@ -7,8 +7,8 @@ pub fn values_are_read()
     ensures { ValuesAreRead }
 {}
 
-/// A column is read as the values that its bytes stand for, in any cutting into runs, and reading may
-/// end just where nothing is left.
+/// A column is read as the values that its bytes stand for, in any cutting into runs, and reading
+/// may end just where nothing is left.
 pub fn columns_are_read()
     ensures { ColumnsAreRead }
 {}

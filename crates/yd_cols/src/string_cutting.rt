@@ -8,7 +8,8 @@ use crate::fault::ColCause;
 /// The string at the front of the text that has so many units, and the text behind it. It takes
 /// time by the bytes of that string alone (lib0, StringDecoder; that no pair is parted is own).
 pub fn string_of(text: &str, units: u64) -> Result<(&str, &str), ColCause>
-    ensures cut { IfOk result (λ parts. string_at units text.now ≡ Ok (parts.0.now, parts.1.now)) }
+    ensures cut { IfOk result (λ parts. string_at units text.now
+        ≡ Ok (parts.0.now, parts.1.now)) }
     ensures refused { IfErr result (λ cause. string_at units text.now ≡ Err cause) }
 {
     let len = len_of(text, units)?;
@@ -18,7 +19,8 @@ pub fn string_of(text: &str, units: u64) -> Result<(&str, &str), ColCause>
 
 /// How many bytes the characters at the front have that have so many units.
 fn len_of(text: &str, units: u64) -> Result<usize, ColCause>
-    ensures cut { IfOk result (λ len. string_at units text.now ≡ Ok (take len text.now, drop len text.now)) }
+    ensures cut { IfOk result (λ len. string_at units text.now
+        ≡ Ok (take len text.now, drop len text.now)) }
     ensures between { IfOk result (λ len. IsCharBoundary text.now len) }
     ensures refused { IfErr result (λ cause. string_at units text.now ≡ Err cause) }
 {

@@ -69,7 +69,8 @@ impl UintWriter {
 fn put(bytes: &mut Bytes, hand: Option<Run<u64>>, v: u64) -> Result<Run<u64>, NoMemory>
     requires value { v < 2 ^ 53 }
     requires hand { HandFits FitsUint hand }
-    ensures put { IfOk result (λ run. written bytes.new (Some run) ≡ put_uint v (written bytes.old hand)) }
+    ensures put { IfOk result (λ run. written bytes.new (Some run)
+        ≡ put_uint v (written bytes.old hand)) }
     ensures fits { IfOk result (λ run. FitsUint run) }
     ensures unchanged { OnErr result (bytes.new ≡ bytes.old) }
 {

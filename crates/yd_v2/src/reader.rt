@@ -68,8 +68,8 @@ impl<'a> Model for V2Reader<'a> {
 }
 
 impl<'a> V2Reader<'a> {
-    /// A reader before the first field of a file, of which the flag, the columns and the text of the
-    /// strings are read. It takes no memory.
+    /// A reader before the first field of a file, of which the flag, the columns and the text of
+    /// the strings are read. It takes no memory.
     #[tactic(auto, unfolding(crate::specs::Reading::v2_start))]
     pub fn new(alloc: Global, bytes: &'a [u8]) -> Result<V2Reader<'a>, ReadError>
         ensures made { Makes (λ r. r) result (v2_start bytes.now) }

@@ -201,7 +201,8 @@ impl FieldWriter for V2Writer {
 
 /// The flag, the columns and the rest, one behind the other.
 fn file_of(alloc: Global, head: Head<'_>, rest: &[u8]) -> Result<Vec<u8>, NoMemory>
-    ensures written { IfOk result (λ bytes. bytes.items ≡ file_bytes (columns_of head.entry) rest.now) }
+    ensures written { IfOk result (λ bytes. bytes.items
+        ≡ file_bytes (columns_of head.entry) rest.now) }
     ensures fits { OnOk result (ColumnsFit (columns_of head.entry)) }
 {
     let mut file = Bytes::new(alloc);
