@@ -1,6 +1,7 @@
 pub mod AnyPartsLemmas
 pub mod FieldPartsLemmas
 pub mod HeadLemmas
+pub mod PushLemmas
 pub mod PutLemmas
 pub mod StandingLemmas
 pub mod TakenLemmas
