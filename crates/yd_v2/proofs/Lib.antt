@@ -9,6 +9,7 @@ pub mod HeadLemmas
 pub mod KnownLemmas
 pub mod PartExactLemmas
 pub mod PlacelessLemmas
+pub mod PushLemmas
 pub mod PutLemmas
 pub mod RestLemmas
 pub mod SoundLemmas

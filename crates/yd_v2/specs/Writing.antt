@@ -1,5 +1,5 @@
 -- Writing fields in V2: what is written so far, and the bytes that it is in the end (Yjs 13, UpdateEncoderV2).
-use Rattle.std.specs.Prelude.{ℕ, suc, ◌-◌, ◌^◌, ◌<◌, List, [], ◌++◌, length}
+use Rattle.std.specs.Prelude.{◌≡◌, ℕ, suc, ◌-◌, ◌^◌, ◌<◌, List, [], ◌++◌, length}
 use Rattle.yd_cols.specs.Writing.{DiffsWritten, RunsWritten, StringsWritten, byte_column, diff_column, no_diffs, no_runs, no_strings, put_byte, put_diff, put_string, put_uint, string_column, uint_column}
 use Rattle.yd_fields.specs.Field.{Field, FieldType, FieldValue}
 use Rattle.yd_fields.specs.Field as field
@@ -147,6 +147,18 @@ pub record ColumnsFit (columns : Columns) : Type 0 where
   pub parents : length columns.parents < 2 ^ 53
   pub kinds : length columns.kinds < 2 ^ 53
   pub lengths : length columns.lengths < 2 ^ 53
+
+-- the bytes have one more column, which can be read again
+pub record PushesColumn (old new column : List ℕ) : Type 0 where
+  pub bytes : new ≡ old ++ shortest_blob column
+  pub fits : length column < 2 ^ 53
+
+-- the bytes have three more columns, which can be read again
+pub record PushesThree (old new first second third : List ℕ) : Type 0 where
+  pub bytes : new ≡ old ++ (shortest_blob first ++ (shortest_blob second ++ shortest_blob third))
+  pub first_fits : length first < 2 ^ 53
+  pub second_fits : length second < 2 ^ 53
+  pub third_fits : length third < 2 ^ 53
 
 -- columns, the text that joins the strings, and the numbers of keys can be read again
 pub record FitsFile (w : V2Written) : Type 0 where

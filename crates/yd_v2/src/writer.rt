@@ -1,10 +1,9 @@
 //! Fields, written in V2.
 
-ghost use Rattle.std.specs.Prelude.{◌≡◌, ◌^◌, ◌<◌, IfOk, OnOk};
-ghost use Rattle.yd_v2.specs.HeadView.{columns_of};
-ghost use Rattle.yd_v2.specs.Writing.{ColumnsFit, FitsFile, columns_bytes, file_bytes, no_fields};
+ghost use Rattle.std.specs.Prelude.{◌≡◌, ◌^◌, ◌<◌, length, IfOk, OnOk};
+ghost use Rattle.yd_cols.specs.Writing.{byte_column, diff_column, string_column, uint_column};
+ghost use Rattle.yd_v2.specs.Writing.{FitsFile, PushesColumn, PushesThree, no_fields};
 
-use crate::head::Head;
 use std::alloc::Global;
 use std::marker::Model;
 use yd_any::{Any, Json, any_of_json};
@@ -174,48 +173,94 @@ impl FieldWriter for V2Writer {
         ensures written { IfOk result (λ bytes. bytes.items ≡ v2_bytes self) }
         ensures fits { OnOk result (FitsFile self) }
     {
-        let keys = self.keys.finish()?;
-        let clients = self.clients.finish()?;
-        let lefts = self.lefts.finish()?;
-        let rights = self.rights.finish()?;
-        let infos = self.infos.finish()?;
-        let strings = self.strings.finish()?;
-        let parents = self.parents.finish()?;
-        let kinds = self.kinds.finish()?;
-        let lengths = self.lengths.finish()?;
-        let head = Head {
-            keys: &keys,
-            clients: &clients,
-            lefts: &lefts,
-            rights: &rights,
-            infos: &infos,
-            strings: &strings,
-            parents: &parents,
-            kinds: &kinds,
-            lengths: &lengths,
-        };
-        let file = file_of(self.alloc, head, self.rest.as_slice())?;
-        Ok(file)
+        let mut file = Bytes::new(self.alloc);
+        file.push_unsigned(0)?;
+        push_names(&mut file, self.keys, self.clients, self.lefts)?;
+        push_items(&mut file, self.rights, self.infos, self.strings)?;
+        push_counts(&mut file, self.parents, self.kinds, self.lengths)?;
+        file.push_all(self.rest.as_slice())?;
+        Ok(file.into_vec())
     }
 }
 
-/// The flag, the columns and the rest, one behind the other.
-fn file_of(alloc: Global, head: Head<'_>, rest: &[u8]) -> Result<Vec<u8>, NoMemory>
-    ensures written { IfOk result (λ bytes. bytes.items
-        ≡ file_bytes (columns_of head.entry) rest.now) }
-    ensures fits { OnOk result (ColumnsFit (columns_of head.entry)) }
+/// The numbers of keys, the clients and the clocks of left origins.
+fn push_names(
+    file: &mut Bytes,
+    keys: IntDiffWriter,
+    clients: UintWriter,
+    lefts: IntDiffWriter,
+) -> Result<(), NoMemory>
+    ensures { OnOk result (PushesThree file.old file.new
+        (diff_column keys) (uint_column clients) (diff_column lefts)) }
 {
-    let mut file = Bytes::new(alloc);
-    file.push_unsigned(0)?;
-    file.push_blob(head.keys)?;
-    file.push_blob(head.clients)?;
-    file.push_blob(head.lefts)?;
-    file.push_blob(head.rights)?;
-    file.push_blob(head.infos)?;
-    file.push_blob(head.strings)?;
-    file.push_blob(head.parents)?;
-    file.push_blob(head.kinds)?;
-    file.push_blob(head.lengths)?;
-    file.push_all(rest)?;
-    Ok(file.into_vec())
+    push_diffs(file, keys)?;
+    push_uints(file, clients)?;
+    push_diffs(file, lefts)?;
+    Ok(())
+}
+
+/// The clocks of right origins, the info bytes and the strings.
+fn push_items(
+    file: &mut Bytes,
+    rights: IntDiffWriter,
+    infos: ByteWriter,
+    strings: StringWriter,
+) -> Result<(), NoMemory>
+    ensures pushed { OnOk result (PushesThree file.old file.new
+        (diff_column rights) (byte_column infos) (string_column strings)) }
+    ensures fits { OnOk result (length strings.text < 2 ^ 53) }
+{
+    push_diffs(file, rights)?;
+    push_bytes(file, infos)?;
+    push_strings(file, strings)?;
+    Ok(())
+}
+
+/// The flags of parents, the numbers of types and the lengths.
+fn push_counts(
+    file: &mut Bytes,
+    parents: ByteWriter,
+    kinds: UintWriter,
+    lengths: UintWriter,
+) -> Result<(), NoMemory>
+    ensures { OnOk result (PushesThree file.old file.new
+        (byte_column parents) (uint_column kinds) (uint_column lengths)) }
+{
+    push_bytes(file, parents)?;
+    push_uints(file, kinds)?;
+    push_uints(file, lengths)?;
+    Ok(())
+}
+
+fn push_diffs(file: &mut Bytes, column: IntDiffWriter) -> Result<(), NoMemory>
+    ensures { OnOk result (PushesColumn file.old file.new (diff_column column)) }
+{
+    let bytes = column.finish()?;
+    file.push_blob(&bytes)?;
+    Ok(())
+}
+
+fn push_uints(file: &mut Bytes, column: UintWriter) -> Result<(), NoMemory>
+    ensures { OnOk result (PushesColumn file.old file.new (uint_column column)) }
+{
+    let bytes = column.finish()?;
+    file.push_blob(&bytes)?;
+    Ok(())
+}
+
+fn push_bytes(file: &mut Bytes, column: ByteWriter) -> Result<(), NoMemory>
+    ensures { OnOk result (PushesColumn file.old file.new (byte_column column)) }
+{
+    let bytes = column.finish()?;
+    file.push_blob(&bytes)?;
+    Ok(())
+}
+
+fn push_strings(file: &mut Bytes, column: StringWriter) -> Result<(), NoMemory>
+    ensures pushed { OnOk result (PushesColumn file.old file.new (string_column column)) }
+    ensures fits { OnOk result (length column.text < 2 ^ 53) }
+{
+    let bytes = column.finish()?;
+    file.push_blob(&bytes)?;
+    Ok(())
 }

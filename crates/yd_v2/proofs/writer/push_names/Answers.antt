@@ -1,0 +1,5 @@
+use Rattle.yd_v2.proofs.PushLemmas.{three_pushed}
+use Rattle.yd_v2.proofs.writer.push_names.Goals as goal
+
+pub returns : goal.returns
+returns c = three_pushed c.in_ok-push_diffs.ensures c.in_ok-push_uints.ensures c.in_ok-push_diffs-2.ensures
