@@ -1,8 +1,15 @@
+pub mod AnyPartsLemmas
 pub mod FieldExactLemmas
 pub mod FieldLemmas
+pub mod FieldPartsLemmas
 pub mod FileLemmas
+pub mod HeadLemmas
 pub mod KnownLemmas
 pub mod PartExactLemmas
+pub mod PutLemmas
 pub mod RestLemmas
 pub mod SoundLemmas
+pub mod StandingLemmas
 pub mod StartLemmas
+pub mod WantLemmas
+pub mod WrittenLemmas

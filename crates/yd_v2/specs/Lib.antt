@@ -8,3 +8,6 @@ pub mod Part
 pub mod Plan
 pub mod Reading
 pub mod Sound
+pub mod Spelled
+pub mod Standing
+pub mod Writing
