@@ -1,6 +1,7 @@
 pub mod CarryingLemmas
 pub mod FirstFormLemmas
 pub mod FormLemmas
+pub mod FormatLemmas
 pub mod LoadingLemmas
 pub mod RunLemmas
 pub mod VerdictLemmas

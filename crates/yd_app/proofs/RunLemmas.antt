@@ -8,7 +8,7 @@ use Rattle.yd_app.specs.Loading.{Loads}
 use Rattle.yd_app.specs.Run.{IsOneOf, Count, HasReason, Comes, Follows, RoseIn, TellsFront, TellsLine, TellsNoMemory}
 use Rattle.yd_app.specs.Seen.{reason_of, refusal_line}
 use Rattle.yd_app.specs.Verdict.{IsAccepted, IsRefused, IsTooLarge, HasBytes, Keeps, LacksName, WhereTold, AsksWhere}
-use Rattle.yd_app.specs.Words.{Asks, Command, show_text, convert_v1}
+use Rattle.yd_app.specs.Words.{Asks, Command, Format, convert, prefix_of, show_text, v1, v2}
 use Rattle.yd_app.specs.Writing.{TakesAll, TakesFront}
 use Rattle.yd_app.specs.declared.ending.Ending.{Ending}
 use Rattle.yd_app.specs.declared.ending.Ending.TheVariants.{Done, Refused, Usage, ReadFault, WriteFault, NoMemory, TooLarge}
@@ -27,24 +27,24 @@ told_none None name Holds lacks w = lacks
 told_none (Some shelf) name Holds lacks w = cc (w.1, lacks)
 
 -- what is asked for and told holds of the bytes that are there
-asked_bytes : (words : List (List ℕ)) (told : Option Shelf) (Holds : Command → List ℕ → Type 0) (command : Command) (file bytes : List ℕ) → Asks words command file → HasBytes told file bytes → AsksWhere words told Holds → Holds command bytes
-asked_bytes words told Holds command file bytes asks has w =
-    let same = asks_same words w.command command w.file file w.asks asks in
-    told_bytes told file bytes (Holds command) has (subst (λ (f : List ℕ). WhereTold told f (Holds command)) same.1 (subst (λ (c : Command). WhereTold told w.file (Holds c)) same.0 w.holds))
+asked_bytes : (words : List (List ℕ)) (told : Option Shelf) (Holds : Command → Format → List ℕ → Type 0) (command : Command) (format : Format) (file bytes : List ℕ) → Asks words command format file → HasBytes told file bytes → AsksWhere words told Holds → Holds command format bytes
+asked_bytes words told Holds command format file bytes asks has w =
+    let same = asks_same words w.command command w.format format w.file file w.asks asks in
+    told_bytes told file bytes (Holds command format) has (subst (λ (f : List ℕ). WhereTold told f (Holds command format)) same.2 (subst (λ (f : Format). WhereTold told w.file (Holds command f)) same.1 (subst (λ (c : Command). WhereTold told w.file (Holds c w.format)) same.0 w.holds)))
 
-asked_none : (words : List (List ℕ)) (told : Option Shelf) (Holds : Command → List ℕ → Type 0) (command : Command) (file : List ℕ) → Asks words command file → LacksName told file → AsksWhere words told Holds → ⊥
-asked_none words told Holds command file asks lacks w =
-    let same = asks_same words w.command command w.file file w.asks asks in
-    told_none told file (Holds w.command) lacks (subst (λ (f : List ℕ). WhereTold told f (Holds w.command)) same.1 w.holds)
+asked_none : (words : List (List ℕ)) (told : Option Shelf) (Holds : Command → Format → List ℕ → Type 0) (command : Command) (format : Format) (file : List ℕ) → Asks words command format file → LacksName told file → AsksWhere words told Holds → ⊥
+asked_none words told Holds command format file asks lacks w =
+    let same = asks_same words w.command command w.format format w.file file w.asks asks in
+    told_none told file (Holds w.command w.format) lacks (subst (λ (f : List ℕ). WhereTold told f (Holds w.command w.format)) same.2 w.holds)
 
 -- ---- lemmas for callers
 
 -- the name that the words ask for is on the shelf
-pub has_name : (words : List (List ℕ)) (told : Option Shelf) (command other : Command) (name file bytes : List ℕ) → Asks words command name → Asks words other file → HasBytes told file bytes → HasName told name
-has_name words None command other name file bytes a b has = absurd has
-has_name words (Some shelf) command other name file bytes a b has =
-    let same = asks_same words command other name file a b in
-    (bytes, ap shelf.bytes_under same.1 ∙ has)
+pub has_name : (words : List (List ℕ)) (told : Option Shelf) (command other : Command) (format form : Format) (name file bytes : List ℕ) → Asks words command format name → Asks words other form file → HasBytes told file bytes → HasName told name
+has_name words None command other format form name file bytes a b has = absurd has
+has_name words (Some shelf) command other format form name file bytes a b has =
+    let same = asks_same words command other format form name file a b in
+    (bytes, ap shelf.bytes_under same.2 ∙ has)
 
 -- a file that was too large to load has too many bytes
 pub loads_too_large : (told now : Option Shelf) (name : List ℕ) → Loads told now name (Err faults.TooLarge) → WhereTold told name IsTooLarge
@@ -81,7 +81,7 @@ reason_two words told reads writes taken now h = record {
 -- an ending gives its status a reason
 pub ends_reason : (words : List (List ℕ)) (told : Option Shelf) (reads writes : Count) (taken now : Option (List ℕ)) (e : Ending) → Ends words told reads writes taken now e → HasReason words told reads writes (status_of e)
 ends_reason words told reads writes taken now Done h = record {
-  done = λ _. record { command = h.command; file = h.file; asks = h.asks; holds = where_weaker told h.file (λ bytes. (output : List ℕ) × IsAccepted h.command bytes output × Keeps h.command bytes output × TakesAll taken now output) (λ bytes. (output : List ℕ) × IsAccepted h.command bytes output) (λ bytes x. (x.0, x.1)) h.holds };
+  done = λ _. record { command = h.command; format = h.format; file = h.file; asks = h.asks; holds = where_weaker told h.file (λ bytes. (output : List ℕ) × IsAccepted h.command h.format bytes output × Keeps h.command h.format bytes output × TakesAll taken now output) (λ bytes. (output : List ℕ) × IsAccepted h.command h.format bytes output) (λ bytes x. (x.0, x.1)) h.holds };
   refused = λ n. absurd (omega arith);
   usage = λ n. absurd (omega arith);
   read_fault = λ n. absurd (omega arith);
@@ -90,7 +90,7 @@ ends_reason words told reads writes taken now Done h = record {
 }
 ends_reason words told reads writes taken now (Refused file why) h = record {
   done = λ n. absurd (omega arith);
-  refused = λ _. record { command = h.0; file = h.1; asks = h.2; holds = where_weaker told h.1 (λ bytes. IsRefused h.0 bytes (reason_of why)) (λ bytes. (why : List ℕ) × IsRefused h.0 bytes why) (λ bytes x. (reason_of why, x)) h.4 };
+  refused = λ _. record { command = h.0; format = h.1; file = h.2; asks = h.3; holds = where_weaker told h.2 (λ bytes. IsRefused h.0 h.1 bytes (reason_of why)) (λ bytes. (why : List ℕ) × IsRefused h.0 h.1 bytes why) (λ bytes x. (reason_of why, x)) h.5 };
   usage = λ n. absurd (omega arith);
   read_fault = λ n. absurd (omega arith);
   write_fault = λ n. absurd (omega arith);
@@ -101,7 +101,7 @@ ends_reason words told reads writes taken now (ReadFault name) h = record {
   done = λ n. absurd (omega arith);
   refused = λ n. absurd (omega arith);
   usage = λ n. absurd (omega arith);
-  read_fault = λ _. h.2;
+  read_fault = λ _. h.3;
   write_fault = λ n. absurd (omega arith);
   too_large = λ n. absurd (omega arith);
 }
@@ -120,7 +120,7 @@ ends_reason words told reads writes taken now (TooLarge name) h = record {
   usage = λ n. absurd (omega arith);
   read_fault = λ n. absurd (omega arith);
   write_fault = λ n. absurd (omega arith);
-  too_large = λ _. record { command = h.0; file = name.now; asks = h.1; holds = h.2 };
+  too_large = λ _. record { command = h.0; format = h.1; file = name.now; asks = h.2; holds = h.3 };
 }
 
 -- all statuses that are named come with want of memory
@@ -128,102 +128,104 @@ pub comes_five : (words : List (List ℕ)) (told : Option Shelf) → Comes words
 comes_five words told = record {
   is_status = inr (inr (inr (inr (inr (inl refl)))));
   no_form = λ _. inr (inl refl);
-  accepted = λ command file bytes output asks has accepted. inr (inr (inr (inl refl)));
-  refused = λ command file bytes why asks has refused. inr (inr (inl refl));
-  too_large = λ command file bytes asks has large. inr (inl refl);
-  missing = λ command file asks lacks. inr (inl refl);
+  accepted = λ command format file bytes output asks has accepted. inr (inr (inr (inl refl)));
+  refused = λ command format file bytes why asks has refused. inr (inr (inl refl));
+  too_large = λ command format file bytes asks has large. inr (inl refl);
+  missing = λ command format file asks lacks. inr (inl refl);
 }
 
 -- what can come where a file is refused
-refused_comes : (words : List (List ℕ)) (told : Option Shelf) (reason : List ℕ) → AsksWhere words told (λ command bytes. IsRefused command bytes reason) → Comes words told 1
+refused_comes : (words : List (List ℕ)) (told : Option Shelf) (reason : List ℕ) → AsksWhere words told (λ command format bytes. IsRefused command format bytes reason) → Comes words told 1
 refused_comes words told reason w =
-    let Holds : Command → List ℕ → Type 0 = λ command bytes. IsRefused command bytes reason in
+    let Holds : Command → Format → List ℕ → Type 0 = λ command format bytes. IsRefused command format bytes reason in
     record {
       is_status = inr (inl refl);
-      no_form = λ never. absurd (never w.command w.file w.asks);
-      accepted = λ command file bytes output asks has accepted. absurd (accepted_apart command bytes output reason accepted (asked_bytes words told Holds command file bytes asks has w));
-      refused = λ command file bytes why asks has refused. inl refl;
-      too_large = λ command file bytes asks has large. let a = asked_bytes words told Holds command file bytes asks has w in absurd (omega (arith, a.within));
-      missing = λ command file asks lacks. absurd (asked_none words told Holds command file asks lacks w);
+      no_form = λ never. absurd (never w.command w.format w.file w.asks);
+      accepted = λ command format file bytes output asks has accepted. absurd (accepted_apart command format bytes output reason accepted (asked_bytes words told Holds command format file bytes asks has w));
+      refused = λ command format file bytes why asks has refused. inl refl;
+      too_large = λ command format file bytes asks has large. let a = asked_bytes words told Holds command format file bytes asks has w in absurd (omega (arith, a.within));
+      missing = λ command format file asks lacks. absurd (asked_none words told Holds command format file asks lacks w);
     }
 
 -- what can come where a file is too large
-too_large_comes : (words : List (List ℕ)) (told : Option Shelf) → AsksWhere words told (λ command bytes. IsTooLarge bytes) → Comes words told 7
+too_large_comes : (words : List (List ℕ)) (told : Option Shelf) → AsksWhere words told (λ command format bytes. IsTooLarge bytes) → Comes words told 7
 too_large_comes words told w =
-    let Holds : Command → List ℕ → Type 0 = λ command bytes. IsTooLarge bytes in
+    let Holds : Command → Format → List ℕ → Type 0 = λ command format bytes. IsTooLarge bytes in
     record {
       is_status = inr (inr (inr (inr (inr (inr (inl refl))))));
-      no_form = λ never. absurd (never w.command w.file w.asks);
-      accepted = λ command file bytes output asks has accepted. let a = asked_bytes words told Holds command file bytes asks has w in absurd (omega (arith, accepted.within));
-      refused = λ command file bytes why asks has refused. let a = asked_bytes words told Holds command file bytes asks has w in absurd (omega (arith, refused.within));
-      too_large = λ command file bytes asks has large. inr (inr (inl refl));
-      missing = λ command file asks lacks. absurd (asked_none words told Holds command file asks lacks w);
+      no_form = λ never. absurd (never w.command w.format w.file w.asks);
+      accepted = λ command format file bytes output asks has accepted. let a = asked_bytes words told Holds command format file bytes asks has w in absurd (omega (arith, accepted.within));
+      refused = λ command format file bytes why asks has refused. let a = asked_bytes words told Holds command format file bytes asks has w in absurd (omega (arith, refused.within));
+      too_large = λ command format file bytes asks has large. inr (inr (inl refl));
+      missing = λ command format file asks lacks. absurd (asked_none words told Holds command format file asks lacks w);
     }
 
 -- what can come where a file is accepted, and its output written or begun
-accepted_comes : (words : List (List ℕ)) (told : Option Shelf) (Taken : Command → List ℕ → List ℕ → Type 0) (status : ℕ) → (status ≡ 0) ⊎ (status ≡ 4) → AsksWhere words told (λ command bytes. (output : List ℕ) × IsAccepted command bytes output × Taken command bytes output) → Comes words told status
+accepted_comes : (words : List (List ℕ)) (told : Option Shelf) (Taken : Command → Format → List ℕ → List ℕ → Type 0) (status : ℕ) → (status ≡ 0) ⊎ (status ≡ 4) → AsksWhere words told (λ command format bytes. (output : List ℕ) × IsAccepted command format bytes output × Taken command format bytes output) → Comes words told status
 accepted_comes words told Taken status is w =
-    let Holds : Command → List ℕ → Type 0 = λ command bytes. (output : List ℕ) × IsAccepted command bytes output × Taken command bytes output in
+    let Holds : Command → Format → List ℕ → Type 0 = λ command format bytes. (output : List ℕ) × IsAccepted command format bytes output × Taken command format bytes output in
     record {
       is_status = elim is [ inl e ↦ inl e | inr e ↦ inr (inr (inr (inr (inl e)))) ];
-      no_form = λ never. absurd (never w.command w.file w.asks);
-      accepted = λ command file bytes output asks has accepted. elim is [ inl e ↦ inl e | inr e ↦ inr (inr (inl e)) ];
-      refused = λ command file bytes why asks has refused. let a = asked_bytes words told Holds command file bytes asks has w in absurd (accepted_apart command bytes a.0 why a.1 refused);
-      too_large = λ command file bytes asks has large. let a = asked_bytes words told Holds command file bytes asks has w in absurd (omega (arith, a.1.within));
-      missing = λ command file asks lacks. absurd (asked_none words told Holds command file asks lacks w);
+      no_form = λ never. absurd (never w.command w.format w.file w.asks);
+      accepted = λ command format file bytes output asks has accepted. elim is [ inl e ↦ inl e | inr e ↦ inr (inr (inl e)) ];
+      refused = λ command format file bytes why asks has refused. let a = asked_bytes words told Holds command format file bytes asks has w in absurd (accepted_apart command format bytes a.0 why a.1 refused);
+      too_large = λ command format file bytes asks has large. let a = asked_bytes words told Holds command format file bytes asks has w in absurd (omega (arith, a.1.within));
+      missing = λ command format file asks lacks. absurd (asked_none words told Holds command format file asks lacks w);
     }
 
 -- which endings can come
 pub ends_comes : (words : List (List ℕ)) (told : Option Shelf) (reads writes : Count) (taken now : Option (List ℕ)) (e : Ending) → Ends words told reads writes taken now e → Comes words told (status_of e)
-ends_comes words told reads writes taken now Done h = accepted_comes words told (λ command bytes output. TakesAll taken now output) 0 (inl refl) (record { command = h.command; file = h.file; asks = h.asks; holds = where_weaker told h.file (λ bytes. (output : List ℕ) × IsAccepted h.command bytes output × Keeps h.command bytes output × TakesAll taken now output) (λ bytes. (output : List ℕ) × IsAccepted h.command bytes output × TakesAll taken now output) (λ bytes x. (x.0, x.1, x.3)) h.holds })
-ends_comes words told reads writes taken now (Refused word why) h = refused_comes words told (reason_of why) (record { command = h.0; file = h.1; asks = h.2; holds = h.4 })
+ends_comes words told reads writes taken now Done h = accepted_comes words told (λ command format bytes output. TakesAll taken now output) 0 (inl refl) (record { command = h.command; format = h.format; file = h.file; asks = h.asks; holds = where_weaker told h.file (λ bytes. (output : List ℕ) × IsAccepted h.command h.format bytes output × Keeps h.command h.format bytes output × TakesAll taken now output) (λ bytes. (output : List ℕ) × IsAccepted h.command h.format bytes output × TakesAll taken now output) (λ bytes x. (x.0, x.1, x.3)) h.holds })
+ends_comes words told reads writes taken now (Refused word why) h = refused_comes words told (reason_of why) (record { command = h.0; format = h.1; file = h.2; asks = h.3; holds = h.5 })
 ends_comes words told reads writes taken now Usage h = record {
   is_status = inr (inr (inl refl));
   no_form = λ _. inl refl;
-  accepted = λ command file bytes output asks has accepted. absurd (h command file asks);
-  refused = λ command file bytes why asks has refused. absurd (h command file asks);
-  too_large = λ command file bytes asks has large. absurd (h command file asks);
-  missing = λ command file asks lacks. absurd (h command file asks);
+  accepted = λ command format file bytes output asks has accepted. absurd (h command format file asks);
+  refused = λ command format file bytes why asks has refused. absurd (h command format file asks);
+  too_large = λ command format file bytes asks has large. absurd (h command format file asks);
+  missing = λ command format file asks lacks. absurd (h command format file asks);
 }
 ends_comes words told reads writes taken now (ReadFault name) h = record {
   is_status = inr (inr (inr (inl refl)));
-  no_form = λ never. absurd (never h.0 name.now h.1);
-  accepted = λ command file bytes output asks has accepted. inr (inl refl);
-  refused = λ command file bytes why asks has refused. inr (inl refl);
-  too_large = λ command file bytes asks has large. inl refl;
-  missing = λ command file asks lacks. inl refl;
+  no_form = λ never. absurd (never h.0 h.1 name.now h.2);
+  accepted = λ command format file bytes output asks has accepted. inr (inl refl);
+  refused = λ command format file bytes why asks has refused. inr (inl refl);
+  too_large = λ command format file bytes asks has large. inl refl;
+  missing = λ command format file asks lacks. inl refl;
 }
-ends_comes words told reads writes taken now WriteFault h = accepted_comes words told (λ command bytes output. TakesFront taken now output) 4 (inr refl) h.0
+ends_comes words told reads writes taken now WriteFault h = accepted_comes words told (λ command format bytes output. TakesFront taken now output) 4 (inr refl) h.0
 ends_comes words told reads writes taken now NoMemory h = comes_five words told
-ends_comes words told reads writes taken now (TooLarge name) h = too_large_comes words told (record { command = h.0; file = name.now; asks = h.1; holds = h.2 })
+ends_comes words told reads writes taken now (TooLarge name) h = too_large_comes words told (record { command = h.0; format = h.1; file = name.now; asks = h.2; holds = h.3 })
 
 -- a line that gives no reason
 plain_line : (words : List (List ℕ)) (told : Option Shelf) (status : ℕ) (line : List ℕ) → status ≢ 1 → line ≡ line_of_status words [] status → IsLine words told status line
 plain_line words told status line other is = record { why = []; line_is = is; refused = λ one. absurd (other one) }
 
 -- the line of a file that is refused
-refused_line : (words : List (List ℕ)) (told : Option Shelf) (command : Command) (word name : List ℕ) (why : Refusal) → Asks words command name → word ≡ codes "v1:" ++ name → refusal_line word why ≡ line_of_status words (reason_of why) 1
-refused_line words told (show_text root) word name why asks is = rw (asks.words_are, is) refl
-refused_line words told convert_v1 word name why asks is = rw (asks.words_are, is) refl
+refused_line : (words : List (List ℕ)) (told : Option Shelf) (command : Command) (format : Format) (word name : List ℕ) (why : Refusal) → Asks words command format name → word ≡ prefix_of format ++ name → refusal_line word why ≡ line_of_status words (reason_of why) 1
+refused_line words told (show_text root) format word name why asks is = rw (asks.words_are, is) refl
+refused_line words told (convert form) format word name why asks is = rw (asks.words_are, is) refl
 
 -- the name behind the format
-asked_name : (words : List (List ℕ)) (command : Command) (name : List ℕ) → Asks words command name → file_name words ≡ name
-asked_name words (show_text root) name asks = rw asks.words_are refl
-asked_name words convert_v1 name asks = rw asks.words_are refl
+asked_name : (words : List (List ℕ)) (command : Command) (format : Format) (name : List ℕ) → Asks words command format name → file_name words ≡ name
+asked_name words (show_text root) v1 name asks = rw asks.words_are refl
+asked_name words (show_text root) v2 name asks = rw asks.words_are refl
+asked_name words (convert form) v1 name asks = rw asks.words_are refl
+asked_name words (convert form) v2 name asks = rw asks.words_are refl
 
 -- the line of an ending is that of its status
 pub ends_line : (words : List (List ℕ)) (told : Option Shelf) (reads writes : Count) (taken now : Option (List ℕ)) (e : Ending) → Ends words told reads writes taken now e → status_of e ≢ 0 → IsLine words told (status_of e) (line_of e)
 ends_line words told reads writes taken now Done h n = absurd (n refl)
 ends_line words told reads writes taken now (Refused word why) h n = record {
   why = reason_of why;
-  line_is = refused_line words told h.0 word.now h.1 why h.2 h.3;
-  refused = λ _. record { command = h.0; file = h.1; asks = h.2; holds = h.4 };
+  line_is = refused_line words told h.0 h.1 word.now h.2 why h.3 h.4;
+  refused = λ _. record { command = h.0; format = h.1; file = h.2; asks = h.3; holds = h.5 };
 }
 ends_line words told reads writes taken now Usage h n = plain_line words told 2 _ (λ e. omega arith) refl
-ends_line words told reads writes taken now (ReadFault name) h n = plain_line words told 3 _ (λ e. omega arith) (ap (λ (l : List ℕ). codes "read fault " ++ l ++ codes "\n") (sym (asked_name words h.0 name.now h.1)))
+ends_line words told reads writes taken now (ReadFault name) h n = plain_line words told 3 _ (λ e. omega arith) (ap (λ (l : List ℕ). codes "read fault " ++ l ++ codes "\n") (sym (asked_name words h.0 h.1 name.now h.2)))
 ends_line words told reads writes taken now WriteFault h n = plain_line words told 4 _ (λ e. omega arith) refl
 ends_line words told reads writes taken now NoMemory h n = plain_line words told 5 _ (λ e. omega arith) refl
-ends_line words told reads writes taken now (TooLarge name) h n = plain_line words told 7 _ (λ e. omega arith) (ap (λ (l : List ℕ). codes "limit " ++ l ++ codes " TooLarge\n") (sym (asked_name words h.0 name.now h.1)))
+ends_line words told reads writes taken now (TooLarge name) h n = plain_line words told 7 _ (λ e. omega arith) (ap (λ (l : List ℕ). codes "limit " ++ l ++ codes " TooLarge\n") (sym (asked_name words h.0 h.1 name.now h.2)))
 
 -- what holds of the ending's status and of 5 holds of what is reported
 pub reported : (P : ℕ → Type 0) (status due : ℕ) → (status ≡ due) ⊎ ((status ≡ 5) × (due ≢ 0)) → P due → P 5 → P status
@@ -235,27 +237,27 @@ strike (inl p) never = absurd (never p)
 strike (inr q) never = q
 
 -- a status that no fault gave follows from the file
-pub follows : (words : List (List ℕ)) (told : Option Shelf) (status : ℕ) → Comes words told status → ((command : Command) (file bytes : List ℕ) → Asks words command file → HasBytes told file bytes → status ≢ 3) → status ≢ 4 → Follows words told status
+pub follows : (words : List (List ℕ)) (told : Option Shelf) (status : ℕ) → Comes words told status → ((command : Command) (format : Format) (file bytes : List ℕ) → Asks words command format file → HasBytes told file bytes → status ≢ 3) → status ≢ 4 → Follows words told status
 follows words told status comes read written = record {
-  accepted = λ command file bytes output asks has accepted.
-      elim (comes.accepted command file bytes output asks has accepted) [
+  accepted = λ command format file bytes output asks has accepted.
+      elim (comes.accepted command format file bytes output asks has accepted) [
         | inl e ↦ inl e
-        | inr others ↦ inr (strike (strike others (read command file bytes asks has)) written)
+        | inr others ↦ inr (strike (strike others (read command format file bytes asks has)) written)
       ];
-  refused = λ command file bytes why asks has refused.
-      elim (comes.refused command file bytes why asks has refused) [
+  refused = λ command format file bytes why asks has refused.
+      elim (comes.refused command format file bytes why asks has refused) [
         | inl e ↦ inl e
-        | inr others ↦ inr (strike others (read command file bytes asks has))
+        | inr others ↦ inr (strike others (read command format file bytes asks has))
       ];
-  too_large = λ command file bytes asks has large. strike (comes.too_large command file bytes asks has large) (read command file bytes asks has);
+  too_large = λ command format file bytes asks has large. strike (comes.too_large command format file bytes asks has large) (read command format file bytes asks has);
 }
 
 -- and so does want of memory
 pub follows_five : (words : List (List ℕ)) (told : Option Shelf) → Follows words told 5
 follows_five words told = record {
-  accepted = λ command file bytes output asks has accepted. inr (inl refl);
-  refused = λ command file bytes why asks has refused. inr (inl refl);
-  too_large = λ command file bytes asks has large. inl refl;
+  accepted = λ command format file bytes output asks has accepted. inr (inl refl);
+  refused = λ command format file bytes why asks has refused. inr (inl refl);
+  too_large = λ command format file bytes asks has large. inl refl;
 }
 
 -- the status that has a line of its own is the ending's

@@ -1,4 +1,4 @@
--- What a command does with the bytes of a file.
+-- What a command does with the bytes of a file in a format.
 use Rattle.std.specs.Prelude.{◌≡◌, ◌⊎◌, ℕ, List, Option, Result, Ok, Err}
 use Rattle.yd_parts.specs.declared.fault.ReadError.{ReadError}
 use Rattle.yd_parts.specs.declared.fault.ReadError.TheVariants as errors
@@ -7,22 +7,22 @@ use Rattle.yd_world.specs.declared.fault.Outage.{Outage}
 use Rattle.yd_world.specs.declared.fault.Outage.TheVariants as outages
 use Rattle.yd_app.specs.Seen.{reason_of}
 use Rattle.yd_app.specs.Verdict.{Accepts, Keeps, Refuses}
-use Rattle.yd_app.specs.Words.{Command}
+use Rattle.yd_app.specs.Words.{Command, Format}
 use Rattle.yd_app.specs.Writing.{TakesAll, TakesFront}
 use Rattle.yd_app.specs.declared.refusal.Refusal.TheVariants as refusals
 use Rattle.yd_app.specs.declared.stop.Stop.{Stop}
 use Rattle.yd_app.specs.declared.stop.Stop.TheVariants.{Refused, NoMemory, WriteFault}
 
 -- a front of what the command writes of the file was taken
-abbrev pub TakesFrontOf : Command → List ℕ → Option (List ℕ) → Option (List ℕ) → Type 0
-TakesFrontOf command bytes taken now = (output : List ℕ) × Accepts command bytes output × TakesFront taken now output
+abbrev pub TakesFrontOf : Command → Format → List ℕ → Option (List ℕ) → Option (List ℕ) → Type 0
+TakesFrontOf command format bytes taken now = (output : List ℕ) × Accepts command format bytes output × TakesFront taken now output
 
 -- what is written, or why the command stopped and what stands on out then
-abbrev pub Carries : Command → List ℕ → Option (List ℕ) → Option (List ℕ) → Result (Unit {0}) Stop → Type 0
-Carries command bytes taken now (Ok done) = (output : List ℕ) × Accepts command bytes output × Keeps command bytes output × TakesAll taken now output
-Carries command bytes taken now (Err (Refused why)) = Refuses command bytes (reason_of why)
-Carries command bytes taken now (Err NoMemory) = (now ≡ taken) ⊎ TakesFrontOf command bytes taken now
-Carries command bytes taken now (Err WriteFault) = TakesFrontOf command bytes taken now
+abbrev pub Carries : Command → Format → List ℕ → Option (List ℕ) → Option (List ℕ) → Result (Unit {0}) Stop → Type 0
+Carries command format bytes taken now (Ok done) = (output : List ℕ) × Accepts command format bytes output × Keeps command format bytes output × TakesAll taken now output
+Carries command format bytes taken now (Err (Refused why)) = Refuses command format bytes (reason_of why)
+Carries command format bytes taken now (Err NoMemory) = (now ≡ taken) ⊎ TakesFrontOf command format bytes taken now
+Carries command format bytes taken now (Err WriteFault) = TakesFrontOf command format bytes taken now
 
 -- the count of faults rose where writing failed, and else it is as it was
 abbrev pub CountsStop : ℕ → ℕ → Result (Unit {0}) Stop → Type 0

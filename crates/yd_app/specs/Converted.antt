@@ -1,9 +1,21 @@
--- What `convert v1` writes of an update (own).
-use Rattle.std.specs.Prelude.{ℕ, List}
+-- What `convert` writes of an update (own).
+use Rattle.std.specs.Prelude.{ℕ, ◌≤◌, List}
+use Rattle.yd_fields.specs.UpdateFields.{fields_of_update}
+use Rattle.yd_fields.specs.UpdatePlan.{structs_in}
 use Rattle.yd_ops.specs.Value.{UpdateValue}
 use Rattle.yd_v1.specs.Bytes.{v1_bytes_of_all}
-use Rattle.yd_fields.specs.UpdateFields.{fields_of_update}
+use Rattle.yd_v1.specs.Grammar.{StandsForV1}
+use Rattle.yd_v2.specs.Grammar.{StandsForV2}
+use Rattle.yd_v2.specs.Reading.{most_structs}
+use Rattle.yd_v2.specs.Writing.{v2_file}
+use Rattle.yd_app.specs.Words.{Format, v1, v2}
 
--- the update's spelling in V1: each of its fields, one behind the other
-abbrev pub converted_bytes : UpdateValue → List ℕ
-converted_bytes u = v1_bytes_of_all (fields_of_update u)
+-- the update's spelling in a format: its fields one behind the other, or in their columns
+abbrev pub converted_bytes : Format → UpdateValue → List ℕ
+converted_bytes v1 u = v1_bytes_of_all (fields_of_update u)
+converted_bytes v2 u = v2_file u
+
+-- the bytes stand for the update again: in V2, where it has no more structs than a file may declare there
+abbrev pub StandsAgain : Format → List ℕ → UpdateValue → Type 0
+StandsAgain v1 bytes u = StandsForV1 bytes u
+StandsAgain v2 bytes u = structs_in u.blocks ≤ most_structs → StandsForV2 bytes u

@@ -4,7 +4,7 @@ use Rattle.yd_world.specs.Shelf.{Shelf}
 use Rattle.yd_app.specs.Run.{Count, RoseIn, Writes, WritesFront}
 use Rattle.yd_app.specs.Seen.{reason_of, refusal_line}
 use Rattle.yd_app.specs.Verdict.{IsRefused, IsTooLarge, HasBytes, WhereTold}
-use Rattle.yd_app.specs.Words.{Command, Asks, AreOfNoForm}
+use Rattle.yd_app.specs.Words.{AreOfNoForm, Asks, Command, Format, prefix_of}
 use Rattle.yd_app.specs.declared.ending.Ending.{Ending}
 use Rattle.yd_app.specs.declared.ending.Ending.TheVariants.{Done, Refused, Usage, ReadFault, WriteFault, NoMemory, TooLarge}
 
@@ -32,13 +32,13 @@ line_of (TooLarge name) = codes "limit " ++ name.now ++ codes " TooLarge\n"
 abbrev pub Ends : List (List ℕ) → Option Shelf → Count → Count → Option (List ℕ) → Option (List ℕ) → Ending → Type 0
 Ends words told reads writes taken taken_now Done = Writes words told taken taken_now
 Ends words told reads writes taken taken_now (Refused file why) =
-    (command : Command) × (name : List ℕ) × Asks words command name × (file.now ≡ codes "v1:" ++ name) × WhereTold told name (λ bytes. IsRefused command bytes (reason_of why))
+    (command : Command) × (format : Format) × (name : List ℕ) × Asks words command format name × (file.now ≡ prefix_of format ++ name) × WhereTold told name (λ bytes. IsRefused command format bytes (reason_of why))
 Ends words told reads writes taken taken_now Usage = AreOfNoForm words
-Ends words told reads writes taken taken_now (ReadFault name) = (command : Command) × Asks words command name.now × RoseIn reads
+Ends words told reads writes taken taken_now (ReadFault name) = (command : Command) × (format : Format) × Asks words command format name.now × RoseIn reads
 Ends words told reads writes taken taken_now WriteFault = WritesFront words told taken taken_now × RoseIn writes
 Ends words told reads writes taken taken_now NoMemory = (taken_now ≡ taken) ⊎ WritesFront words told taken taken_now
-Ends words told reads writes taken taken_now (TooLarge name) = (command : Command) × Asks words command name.now × WhereTold told name.now IsTooLarge
+Ends words told reads writes taken taken_now (TooLarge name) = (command : Command) × (format : Format) × Asks words command format name.now × WhereTold told name.now IsTooLarge
 
 -- a file that is there is read, and no fault is counted
 abbrev pub ReadsFile : List (List ℕ) → Option Shelf → Count → ℕ → Type 0
-ReadsFile words told reads status = (command : Command) (file bytes : List ℕ) → Asks words command file → HasBytes told file bytes → (status ≢ 3) × (reads.now ≡ reads.before)
+ReadsFile words told reads status = (command : Command) (format : Format) (file bytes : List ℕ) → Asks words command format file → HasBytes told file bytes → (status ≢ 3) × (reads.now ≡ reads.before)

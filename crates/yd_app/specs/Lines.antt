@@ -25,4 +25,4 @@ line_of_status words why status =
 pub record IsLine (words : List (List ℕ)) (told : Option Shelf) (status : ℕ) (line : List ℕ) : Type 0 where
   pub why : List ℕ
   pub line_is : line ≡ line_of_status words why status
-  pub refused : status ≡ 1 → AsksWhere words told (λ command bytes. IsRefused command bytes why)
+  pub refused : status ≡ 1 → AsksWhere words told (λ command format bytes. IsRefused command format bytes why)

@@ -5,13 +5,15 @@ use Rattle.yd_parts.specs.declared.fault.Spot.{Spot}
 use Rattle.yd_app.specs.FormReading.{unbuilt}
 use Rattle.yd_app.specs.OneText.{OneText}
 use Rattle.yd_app.specs.Reason.{cause_name, place_text}
-use Rattle.yd_app.specs.Words.{Command, show_text, convert_v1}
+use Rattle.yd_app.specs.Words.{Command, Format, convert, show_text, v1, v2}
+use Rattle.yd_app.specs.declared.format.Format.{Format as FileFormat}
+use Rattle.yd_app.specs.declared.format.Format.TheVariants.{V1, V2}
 use Rattle.yd_app.specs.declared.one_text.StringUpdate.{StringUpdate}
 use Rattle.yd_app.specs.declared.one_text.Unbuilt.{Unbuilt as UnbuiltForm}
 use Rattle.yd_app.specs.declared.refusal.Refusal.{Refusal}
 use Rattle.yd_app.specs.declared.refusal.Refusal.TheVariants.{Unbuilt, Fault}
 use Rattle.yd_app.specs.declared.request.Command.{Command as AskedCommand}
-use Rattle.yd_app.specs.declared.request.Command.TheVariants.{ShowText, ConvertV1}
+use Rattle.yd_app.specs.declared.request.Command.TheVariants.{ShowText, Convert}
 
 -- the update that was read
 abbrev pub seen : StringUpdate → OneText
@@ -22,10 +24,15 @@ abbrev pub GivesUpdate : Result StringUpdate UnbuiltForm → Result OneText Unbu
 GivesUpdate (Ok update) reading = reading ≡ Ok (seen update)
 GivesUpdate (Err fault) reading = reading ≡ Err unbuilt
 
+-- the format
+abbrev pub format_of : FileFormat → Format
+format_of V1 = v1
+format_of V2 = v2
+
 -- the command
 abbrev pub command_of : AskedCommand → Command
 command_of (ShowText root) = show_text root.now
-command_of ConvertV1 = convert_v1
+command_of (Convert form) = convert (format_of form)
 
 -- the name of what is wrong
 abbrev pub name_of : Refusal → List ℕ

@@ -22,12 +22,13 @@ pub fn form_is_in_grammar()
     ensures { FormIsInGrammar }
 {}
 
-/// Words ask for one command of one file at most.
+/// Words ask for one command of one file in one format at most.
 pub fn words_ask_for_one()
     ensures { AskForOne }
 {}
 
-/// Every file is accepted, refused or too large, with one output or one reason, and never both.
+/// Every file, in either format, is accepted, refused or too large, with one output or one reason,
+/// and never both.
 pub fn files_are_judged()
     ensures { FilesAreJudged }
 {}

@@ -14,6 +14,7 @@ mod carrying;
 mod converting;
 mod ending;
 mod fault;
+mod format;
 pub mod law;
 mod loading;
 mod one_text;

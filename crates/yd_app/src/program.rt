@@ -15,9 +15,9 @@ use std::alloc::Global;
 use yd_world::{Library, Sink, Switchboard};
 
 /// Does what the words ask for, and answers the status. The words that run are
-/// `show --text NAME v1:FILE` and `convert v1 v1:FILE`. A file outside the grammar of V1 is refused
-/// by its first fault, and `show` refuses as `Unbuilt 0` bytes that do not spell one string in a
-/// root.
+/// `show --text NAME v1:FILE`, and `convert FORM FILE` where FORM is `v1` or `v2` and FILE is
+/// `v1:NAME` or `v2:NAME`. A file outside the grammar of its format is refused by its first fault,
+/// and `show` refuses as `Unbuilt 0` bytes that do not spell one string in a root.
 pub fn run<L: Library, S: Sink, B: Switchboard>(
     alloc: Global,
     words: &[Word],
@@ -81,7 +81,7 @@ fn answer<'a, L: Library, S: Sink>(
         Err(LoadFault::ReadFault) => return Ending::ReadFault(request.name),
         Err(LoadFault::TooLarge) => return Ending::TooLarge(request.name),
     };
-    match carry_out(alloc, request.command, &bytes, out) {
+    match carry_out(alloc, request.command, request.format, &bytes, out) {
         Ok(()) => Ending::Done,
         Err(Stop::Refused(why)) => Ending::Refused {
             file: request.file,

@@ -4,6 +4,8 @@
 #[cfg(test)]
 mod convert;
 #[cfg(test)]
+mod convert_v2;
+#[cfg(test)]
 mod show;
 #[cfg(test)]
 mod stage;

@@ -28,10 +28,10 @@ returns-clause-completes g c =
     let reason = ends_reason words told (count_of (g.L.Library.faults c.args.library.now) (g.L.Library.faults c.answer-ending.new.library)) (count_of (g.S.Sink.faults c.args.out.now) (g.S.Sink.faults c.answer-ending.new.out)) _ _ c.answer-ending.result answer.ends in
     record {
       calm = λ calm_library calm_out. (
-        reported (Follows words told) c.report.result due c.report.ensures.status (follows words told due comes (λ command file bytes asks has. (answer.reads calm_library command file bytes asks has).0) (answer.writes calm_out)) (follows_five words told),
-        λ command file bytes asks has. ((answer.reads calm_library command file bytes asks has).1, answer.written (answer.writes calm_out)),
+        reported (Follows words told) c.report.result due c.report.ensures.status (follows words told due comes (λ command format file bytes asks has. (answer.reads calm_library command format file bytes asks has).0) (answer.writes calm_out)) (follows_five words told),
+        λ command format file bytes asks has. ((answer.reads calm_library command format file bytes asks has).1, answer.written (answer.writes calm_out)),
       );
-      counted = λ read written. reported (Follows words told) c.report.result due c.report.ensures.status (follows words told due comes (λ command file bytes asks has e. read (reason.read_fault e)) (λ e. written (reason.write_fault e))) (follows_five words told);
+      counted = λ read written. reported (Follows words told) c.report.result due c.report.ensures.status (follows words told due comes (λ command format file bytes asks has e. read (reason.read_fault e)) (λ e. written (reason.write_fault e))) (follows_five words told);
     }
 
 pub returns-clause-err : goal.returns-clause-err
