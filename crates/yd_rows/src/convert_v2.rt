@@ -136,7 +136,7 @@ fn equal_lengths_are_written_as_one_run(rt: HostRuntime) -> Result<(), Fail> {
 }
 
 #[test]
-fn the_greatest_client_is_read_and_the_next_is_not(rt: HostRuntime) -> Result<(), Fail> {
+fn the_greatest_client_is_read(rt: HostRuntime) -> Result<(), Fail> {
     // Six low bits stand in the first byte of a number with a sign, and seven in each other one.
     let greatest = [8, 0xbf, 0xff, 0xff, 0xff, 0xff, 0xff, 0xff, 0x1f];
     let bytes = joined(rt.alloc(), (&ABC_V2[..2], &greatest, &ABC_V2[4..]))?;
@@ -144,13 +144,7 @@ fn the_greatest_client_is_read_and_the_next_is_not(rt: HostRuntime) -> Result<()
         1, 1, 0xff, 0xff, 0xff, 0xff, 0xff, 0xff, 0xff, 0x0f, 0, 4, 1, 1, 0x74, 3, 0x61, 0x62,
         0x63, 0,
     ];
-    are_one(&rt, &v1, &bytes)?;
-    let next = [8, 0x80, 0x80, 0x80, 0x80, 0x80, 0x80, 0x80, 0x20];
-    refuses(
-        &rt,
-        (&ABC_V2[..2], &next, &ABC_V2[4..]),
-        "NumberTooLarge clients:0",
-    )
+    are_one(&rt, &v1, &bytes)
 }
 
 #[test]
@@ -224,16 +218,26 @@ fn a_flag_and_a_count_are_judged_in_their_place(rt: HostRuntime) -> Result<(), F
 }
 
 #[test]
-fn clients_and_infos_are_judged_by_run(rt: HostRuntime) -> Result<(), Fail> {
-    // None; one that nothing reads; and one that stands twice and is read once.
+fn clients_are_judged_by_run(rt: HostRuntime) -> Result<(), Fail> {
+    // None; one that nothing reads; one that stands twice and is read once; and 2^53.
     for (clients, reason) in [
         (&[0][..], "ShortInput clients:0"),
         (&[2, 1, 2][..], "ColumnLeft clients:1"),
         (&[2, 0x41, 0][..], "ColumnLeft clients:0"),
+        (
+            &[8, 0x80, 0x80, 0x80, 0x80, 0x80, 0x80, 0x80, 0x20][..],
+            "NumberTooLarge clients:0",
+        ),
     ] {
         refuses(&rt, (&ABC_V2[..2], clients, &ABC_V2[4..]), reason)?;
     }
-    // The same, and infos of no kind that is carried.
+    Ok(())
+}
+
+#[test]
+fn infos_are_judged_by_run(rt: HostRuntime) -> Result<(), Fail> {
+    // None; one that nothing reads; one that stands twice and is read once; and no kind that is
+    // carried.
     for (infos, reason) in [
         (&[0][..], "ShortInput infos:0"),
         (&[3, 4, 0, 7][..], "ColumnLeft infos:2"),
@@ -298,20 +302,21 @@ fn strings_keep_their_characters_whole_and_all(rt: HostRuntime) -> Result<(), Fa
 }
 
 #[test]
-fn a_parent_is_judged_and_other_columns_are_left(rt: HostRuntime) -> Result<(), Fail> {
+fn parents_are_judged_by_run(rt: HostRuntime) -> Result<(), Fail> {
+    // None; one that is no flag; and one that nothing reads.
+    for (parents, reason) in [
+        (&[0][..], "ShortInput parents:0"),
+        (&[1, 2][..], "BadParent parents:0"),
+        (&[3, 1, 0, 1][..], "ColumnLeft parents:2"),
+    ] {
+        refuses(&rt, (&ABC_V2[..16], parents, &ABC_V2[18..]), reason)?;
+    }
+    Ok(())
+}
+
+#[test]
+fn a_column_that_nothing_reads_is_left(rt: HostRuntime) -> Result<(), Fail> {
     for (before, column, behind, reason) in [
-        (
-            &ABC_V2[..16],
-            &[0][..],
-            &ABC_V2[18..],
-            "ShortInput parents:0",
-        ),
-        (
-            &ABC_V2[..16],
-            &[1, 2][..],
-            &ABC_V2[18..],
-            "BadParent parents:0",
-        ),
         (&ABC_V2[..1], &[1, 0][..], &ABC_V2[2..], "ColumnLeft keys:0"),
         (
             &ABC_V2[..4],
@@ -324,12 +329,6 @@ fn a_parent_is_judged_and_other_columns_are_left(rt: HostRuntime) -> Result<(), 
             &[1, 0][..],
             &ABC_V2[6..],
             "ColumnLeft rights:0",
-        ),
-        (
-            &ABC_V2[..16],
-            &[3, 1, 0, 1][..],
-            &ABC_V2[18..],
-            "ColumnLeft parents:2",
         ),
         (
             &ABC_V2[..18],
