@@ -35,71 +35,107 @@ rest_given part v things now stands =
       stand = record { keys = stands.keys; clients = stands.clients; lefts = stands.lefts; rights = stands.rights; infos = stands.infos; strings = stands.strings; parents = stands.parents; kinds = stands.kinds; lengths = stands.lengths; rest = stands.rest.is_back; text = stands.text };
     }
 
--- the first part that is left is read
-pub part_given : (t : V2Part) (v : V2Value t) (things : List V2Thing) (now : V2Turn) → PartsStand now.left ((t, v) ∷ things) → GivesPart now (t, v) things
-part_given key_number v things now stands =
+-- the number of a key
+key_given : (v : V2Value key_number) (things : List V2Thing) (now : V2Turn) → PartsStand now.left ((key_number, v) ∷ things) → GivesPart now (key_number, v) things
+key_given v things now stands =
     let got = diff_whole.given now.left.keys v (among keys_of things) tt stands.keys in
     record {
       next = record { left = with_keys now.left got.0; last = record { column = Keys; at = got.0.runs.at } };
       read = ap (turned (with_keys now.left) Keys (λ keys. keys.runs.at)) got.1;
       stand = record { keys = got.3; clients = stands.clients; lefts = stands.lefts; rights = stands.rights; infos = stands.infos; strings = stands.strings; parents = stands.parents; kinds = stands.kinds; lengths = stands.lengths; rest = stands.rest; text = stands.text };
     }
-part_given client v things now stands =
+
+-- a client
+client_given : (v : V2Value client) (things : List V2Thing) (now : V2Turn) → PartsStand now.left ((client, v) ∷ things) → GivesPart now (client, v) things
+client_given v things now stands =
     let got = uint_whole.given now.left.clients v (among clients_of things) tt stands.clients in
     record {
       next = record { left = with_clients now.left got.0; last = record { column = Clients; at = got.0.at } };
       read = ap (turned (with_clients now.left) Clients (λ clients. clients.at)) got.1;
       stand = record { keys = stands.keys; clients = got.3; lefts = stands.lefts; rights = stands.rights; infos = stands.infos; strings = stands.strings; parents = stands.parents; kinds = stands.kinds; lengths = stands.lengths; rest = stands.rest; text = stands.text };
     }
-part_given left_clock v things now stands =
+
+-- the clock of a left origin
+left_given : (v : V2Value left_clock) (things : List V2Thing) (now : V2Turn) → PartsStand now.left ((left_clock, v) ∷ things) → GivesPart now (left_clock, v) things
+left_given v things now stands =
     let got = diff_whole.given now.left.lefts v (among lefts_of things) tt stands.lefts in
     record {
       next = record { left = with_lefts now.left got.0; last = record { column = Lefts; at = got.0.runs.at } };
       read = ap (turned (with_lefts now.left) Lefts (λ lefts. lefts.runs.at)) got.1;
       stand = record { keys = stands.keys; clients = stands.clients; lefts = got.3; rights = stands.rights; infos = stands.infos; strings = stands.strings; parents = stands.parents; kinds = stands.kinds; lengths = stands.lengths; rest = stands.rest; text = stands.text };
     }
-part_given right_clock v things now stands =
+
+-- the clock of a right origin
+right_given : (v : V2Value right_clock) (things : List V2Thing) (now : V2Turn) → PartsStand now.left ((right_clock, v) ∷ things) → GivesPart now (right_clock, v) things
+right_given v things now stands =
     let got = diff_whole.given now.left.rights v (among rights_of things) tt stands.rights in
     record {
       next = record { left = with_rights now.left got.0; last = record { column = Rights; at = got.0.runs.at } };
       read = ap (turned (with_rights now.left) Rights (λ rights. rights.runs.at)) got.1;
       stand = record { keys = stands.keys; clients = stands.clients; lefts = stands.lefts; rights = got.3; infos = stands.infos; strings = stands.strings; parents = stands.parents; kinds = stands.kinds; lengths = stands.lengths; rest = stands.rest; text = stands.text };
     }
-part_given info v things now stands =
+
+-- an info byte
+info_given : (v : V2Value info) (things : List V2Thing) (now : V2Turn) → PartsStand now.left ((info, v) ∷ things) → GivesPart now (info, v) things
+info_given v things now stands =
     let got = byte_whole.given now.left.infos v (among infos_of things) tt stands.infos in
     record {
       next = record { left = with_infos now.left got.0; last = record { column = Infos; at = got.0.runs.at } };
       read = ap (turned (with_infos now.left) Infos (λ infos. infos.runs.at)) got.1;
       stand = record { keys = stands.keys; clients = stands.clients; lefts = stands.lefts; rights = stands.rights; infos = got.3; strings = stands.strings; parents = stands.parents; kinds = stands.kinds; lengths = stands.lengths; rest = stands.rest; text = stands.text };
     }
-part_given string v things now stands =
+
+-- a string
+string_given : (v : V2Value string) (things : List V2Thing) (now : V2Turn) → PartsStand now.left ((string, v) ∷ things) → GivesPart now (string, v) things
+string_given v things now stands =
     let got = (strings_whole uint_whole).given now.left.strings v (among strings_of things) stands.text stands.strings in
     record {
       next = record { left = with_strings now.left got.0; last = record { column = Strings; at = got.0.lengths.at } };
       read = ap (turned (with_strings now.left) Strings (λ strings. strings.lengths.at)) got.1;
       stand = record { keys = stands.keys; clients = stands.clients; lefts = stands.lefts; rights = stands.rights; infos = stands.infos; strings = got.3; parents = stands.parents; kinds = stands.kinds; lengths = stands.lengths; rest = stands.rest; text = got.2 };
     }
-part_given flag v things now stands =
+
+-- the flag of a parent
+flag_given : (v : V2Value flag) (things : List V2Thing) (now : V2Turn) → PartsStand now.left ((flag, v) ∷ things) → GivesPart now (flag, v) things
+flag_given v things now stands =
     let got = byte_whole.given now.left.parents v (among parents_of things) tt stands.parents in
     record {
       next = record { left = with_parents now.left got.0; last = record { column = Parents; at = got.0.runs.at } };
       read = ap (turned (with_parents now.left) Parents (λ parents. parents.runs.at)) got.1;
       stand = record { keys = stands.keys; clients = stands.clients; lefts = stands.lefts; rights = stands.rights; infos = stands.infos; strings = stands.strings; parents = got.3; kinds = stands.kinds; lengths = stands.lengths; rest = stands.rest; text = stands.text };
     }
-part_given kind v things now stands =
+
+-- the number of a type
+kind_given : (v : V2Value kind) (things : List V2Thing) (now : V2Turn) → PartsStand now.left ((kind, v) ∷ things) → GivesPart now (kind, v) things
+kind_given v things now stands =
     let got = uint_whole.given now.left.kinds v (among kinds_of things) tt stands.kinds in
     record {
       next = record { left = with_kinds now.left got.0; last = record { column = Kinds; at = got.0.at } };
       read = ap (turned (with_kinds now.left) Kinds (λ kinds. kinds.at)) got.1;
       stand = record { keys = stands.keys; clients = stands.clients; lefts = stands.lefts; rights = stands.rights; infos = stands.infos; strings = stands.strings; parents = stands.parents; kinds = got.3; lengths = stands.lengths; rest = stands.rest; text = stands.text };
     }
-part_given len v things now stands =
+
+-- a length
+len_given : (v : V2Value len) (things : List V2Thing) (now : V2Turn) → PartsStand now.left ((len, v) ∷ things) → GivesPart now (len, v) things
+len_given v things now stands =
     let got = uint_whole.given now.left.lengths v (among lengths_of things) tt stands.lengths in
     record {
       next = record { left = with_lengths now.left got.0; last = record { column = Lengths; at = got.0.at } };
       read = ap (turned (with_lengths now.left) Lengths (λ lengths. lengths.at)) got.1;
       stand = record { keys = stands.keys; clients = stands.clients; lefts = stands.lefts; rights = stands.rights; infos = stands.infos; strings = stands.strings; parents = stands.parents; kinds = stands.kinds; lengths = got.3; rest = stands.rest; text = stands.text };
     }
+
+-- the first part that is left is read
+pub part_given : (t : V2Part) (v : V2Value t) (things : List V2Thing) (now : V2Turn) → PartsStand now.left ((t, v) ∷ things) → GivesPart now (t, v) things
+part_given key_number v things now stands = key_given v things now stands
+part_given client v things now stands = client_given v things now stands
+part_given left_clock v things now stands = left_given v things now stands
+part_given right_clock v things now stands = right_given v things now stands
+part_given info v things now stands = info_given v things now stands
+part_given string v things now stands = string_given v things now stands
+part_given flag v things now stands = flag_given v things now stands
+part_given kind v things now stands = kind_given v things now stands
+part_given len v things now stands = len_given v things now stands
 part_given (rest part) v things now stands = rest_given part v things now stands
 part_given mark v things now stands = record { next = record { left = now.left; last = here now.left.rest }; read = refl; stand = record { keys = stands.keys; clients = stands.clients; lefts = stands.lefts; rights = stands.rights; infos = stands.infos; strings = stands.strings; parents = stands.parents; kinds = stands.kinds; lengths = stands.lengths; rest = stands.rest; text = stands.text } }
 
