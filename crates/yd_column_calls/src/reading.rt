@@ -148,6 +148,7 @@ fn strings_are_lent_out_of_their_text(rt: HostRuntime) -> Result<(), Fail> {
     };
     assert_eq!(rt; column.next(), Ok("t"));
     assert_eq!(rt; column.next(), Ok("abc"));
+    column.is_text();
     assert_eq!(rt; column.place(), 6);
     assert_eq!(rt; column.next(), Err(fault(ColCause::ShortInput, 7)));
     assert_eq!(rt; column.finish(), Ok(()));
@@ -208,6 +209,7 @@ fn uints_left(rt: &impl Abort, bytes: &[u8], asked: usize, at: usize) {
     for _ in 0..asked {
         assert!(rt; column.next().is_ok());
     }
+    column.in_range();
     assert_eq!(rt; column.place(), 0);
     assert_eq!(rt; column.finish(), Err(fault(ColCause::ColumnLeft, at)));
 }
