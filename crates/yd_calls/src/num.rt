@@ -14,6 +14,8 @@ fn fields_are_read_one_after_the_other(rt: HostRuntime) -> Result<(), Fail> {
     assert_eq!(rt; cursor.unsigned()?, 300);
     assert_eq!(rt; cursor.place(), 3);
     assert_eq!(rt; cursor.left(), 9);
+    assert_eq!(rt; cursor.copy().byte(), Ok(8));
+    assert_eq!(rt; cursor.rest().len(), 9);
     assert_eq!(rt; cursor.take(2)?, [8, 9].as_slice());
     assert_eq!(rt; cursor.text()?, "abc");
     assert_eq!(rt; cursor.blob()?, [5, 6].as_slice());
