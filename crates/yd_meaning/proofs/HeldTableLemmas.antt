@@ -1,0 +1,104 @@
+-- The held operations are a table of origins: what an operation needs came in an earlier round.
+use Rattle.std.proofs.Common.{◌≡◌, ℕ, zero, suc, ◌+◌, ◌<◌, Bool, true, false, List, Option, Some, None, length, refl, sym, subst, arith, true≢false}
+use Rattle.std.specs.Prelude.{IfSome, not}
+use Rattle.yd_ids.specs.declared.id.Id.{Id}
+use Rattle.yd_ops.specs.Operation.{Operation}
+use Rattle.yd_origins.specs.Ids.{IsIn, AreDistinct}
+use Rattle.yd_origins.specs.Sorted.{one_if}
+use Rattle.yd_origins.specs.Table.{OriginTable, ids_of, left_of, right_of, IsTable}
+use Rattle.yd_meaning.specs.Received.{IsOneOf, has_operation}
+use Rattle.yd_meaning.specs.Held.{needs, has_all, round, held_set}
+use Rattle.yd_meaning.specs.Order.{rows_of}
+use Rattle.yd_meaning.proofs.OneOfLemmas.{operation_with}
+use Rattle.yd_meaning.proofs.RowLemmas.{row_one, has_row, distinct_kept, one_operation, left_of-row, right_of-row}
+use Rattle.yd_meaning.proofs.NeedLemmas.{left_needed, right_needed}
+use Rattle.yd_meaning.proofs.HeldLemmas.{needs_before, round_in, held_needs}
+
+-- what is true of all that is there is true of what may be
+pub if_some_each : (P : Id → Type 0) (z : Option Id) → ((y : Id) → z ≡ Some y → P y) → IfSome z P
+if_some_each P None f = tt
+if_some_each P (Some y) f = f y refl
+
+module _ (os : List Operation) (distinct : AreDistinct (ids_of (rows_of os))) where
+  -- ---- how many rounds come before an operation
+
+  -- how many of the first rounds do not have the id
+  abbrev pub rounds_without : ℕ → Id → ℕ
+  rounds_without zero x = 0
+  rounds_without (suc n) x = one_if (not (has_operation (round os n) x)) + rounds_without n x
+
+  module _ (o : Operation) (i : IsOneOf o os) (y : Id) (j : IsIn y (needs o)) where
+    -- a round that has the operation comes after one that has what it needs
+    later_round : (n : ℕ) → has_operation (round os (suc n)) o.id ≡ true → has_operation (round os n) y ≡ true
+    later_round n e = let (p, k, g) = operation_with (round os (suc n)) o.id e in
+        let one : p ≡ o = one_operation os distinct p o (round_in os (suc n) p k) i g in
+        needs_before os n p k y (subst (λ q. IsIn y (needs q)) (sym one) j)
+
+    fewer_rounds : (n : ℕ) → rounds_without n y < rounds_without (suc n) o.id
+    fewer_rounds zero = omega arith
+    fewer_rounds (suc n) = go (has_operation (round os (suc n)) o.id) (has_operation (round os n) y) (later_round n) (fewer_rounds n)
+      where
+        go : (s t : Bool) → (s ≡ true → t ≡ true) → rounds_without n y < rounds_without (suc n) o.id →
+            one_if (not t) + rounds_without n y < one_if (not s) + rounds_without (suc n) o.id
+        go true true f lt = omega arith
+        go true false f lt = absurd (true≢false (sym (f refl)))
+        go false true f lt = omega arith
+        go false false f lt = omega arith
+
+    pub need_is_earlier : (n : ℕ) → IsOneOf o (round os n) → rounds_without n y < rounds_without n o.id
+    need_is_earlier zero k = absurd k
+    need_is_earlier (suc n) k = rw (needs_before os n o k y j) (omega (arith, fewer_rounds n))
+
+  -- ---- the table
+
+  abbrev held : List Operation
+  held = held_set os
+
+  abbrev rows : OriginTable
+  rows = rows_of held
+
+  -- the round in which an id comes, or the number of the rounds
+  abbrev pub arrival : Id → ℕ
+  arrival = rounds_without (length os)
+
+  pub held_distinct : AreDistinct (ids_of rows)
+  held_distinct = go (length os)
+    where
+      go : (n : ℕ) → AreDistinct (ids_of (rows_of (round os n)))
+      go zero = tt
+      go (suc n) = distinct_kept (λ p. has_all (round os n) (needs p)) os distinct
+
+  -- what an operation needs is held, and came earlier
+  pub needed : (o : Operation) → IsOneOf o held → (y : Id) → IsIn y (needs o) → IsIn y (ids_of rows) × (arrival y < arrival o.id)
+  needed o i y j = (has_row held y (held_needs os o i y j), need_is_earlier o (round_in os (length os) o i) y j (length os) i)
+
+  -- and so are its origins
+  pub left_earlier : (x : Id) → IsIn x (ids_of rows) → IfSome (left_of rows x) (λ y. IsIn y (ids_of rows) × (arrival y < arrival x))
+  left_earlier x i = let (o, j, e) = row_one held x i in subst (λ z. IfSome (left_of rows z) (λ y. IsIn y (ids_of rows) × (arrival y < arrival z))) e
+      (rw (left_of-row held held_distinct o j) (if_some_each (λ y. IsIn y (ids_of rows) × (arrival y < arrival o.id)) o.left_origin
+      (λ y g. needed o j y (left_needed o y g))))
+
+  pub right_earlier : (x : Id) → IsIn x (ids_of rows) → IfSome (right_of rows x) (λ y. IsIn y (ids_of rows) × (arrival y < arrival x))
+  right_earlier x i = let (o, j, e) = row_one held x i in subst (λ z. IfSome (right_of rows z) (λ y. IsIn y (ids_of rows) × (arrival y < arrival z))) e
+      (rw (right_of-row held held_distinct o j) (if_some_each (λ y. IsIn y (ids_of rows) × (arrival y < arrival o.id)) o.right_origin
+      (λ y g. needed o j y (right_needed o y g))))
+
+  pub held_is_table : IsTable rows
+  held_is_table = record {
+    distinct = held_distinct;
+    has_left = λ x i. first_part x (left_of rows x) (left_earlier x i);
+    has_right = λ x i. first_part x (right_of rows x) (right_earlier x i);
+    ends = record {
+      height = arrival;
+      falls_left = λ x i. second_part x (left_of rows x) (left_earlier x i);
+      falls_right = λ x i. second_part x (right_of rows x) (right_earlier x i);
+    };
+  }
+    where
+      first_part : (x : Id) (z : Option Id) → IfSome z (λ y. IsIn y (ids_of rows) × (arrival y < arrival x)) → IfSome z (λ y. IsIn y (ids_of rows))
+      first_part x None f = tt
+      first_part x (Some y) f = f.0
+
+      second_part : (x : Id) (z : Option Id) → IfSome z (λ y. IsIn y (ids_of rows) × (arrival y < arrival x)) → IfSome z (λ y. arrival y < arrival x)
+      second_part x None f = tt
+      second_part x (Some y) f = f.1

@@ -1,0 +1,10 @@
+pub mod Deleted
+pub mod Document
+pub mod Held
+pub mod Law
+pub mod ListNames
+pub mod Names
+pub mod Order
+pub mod Pairs
+pub mod Received
+pub mod Text

@@ -1,0 +1,53 @@
+//! The laws of what updates mean, each the contract of an empty function.
+
+ghost use Rattle.yd_meaning.specs.Law.{ReceivedKeepsPairs, ReceivedIsAll, ReceivedIsOne, RepeatsChangeNothing, HeldIsLeast, VectorCounts, HeldIsTable, ListsFollowOrigins, DeletedFollowsItems, DocumentsConverge};
+
+/// What is received of valid updates has each id once, in the order of writing, and whole pairs.
+pub fn received_keeps_pairs()
+    ensures { ReceivedKeepsPairs }
+{}
+
+/// Under agreement all that was handed in is received.
+pub fn received_is_all()
+    ensures { ReceivedIsAll }
+{}
+
+/// Neither the order in which updates come nor a repeat changes what is received.
+pub fn received_is_one()
+    ensures { ReceivedIsOne }
+{}
+
+/// An update that is received again changes nothing.
+pub fn repeats_change_nothing()
+    ensures { RepeatsChangeNothing }
+{}
+
+/// What is held is the least set that has each received operation whose needs it has.
+pub fn held_is_least()
+    ensures { HeldIsLeast }
+{}
+
+/// The state vector counts what is held, without a gap.
+pub fn vector_counts()
+    ensures { VectorCounts }
+{}
+
+/// The held operations are a table of origins.
+pub fn held_is_table()
+    ensures { HeldIsTable }
+{}
+
+/// The list of a held operation is its left origin's, else its right origin's, else the one that it carries.
+pub fn lists_follow_origins()
+    ensures { ListsFollowOrigins }
+{}
+
+/// A held operation is deleted by name, by its key, or by the item of its list.
+pub fn deleted_follows_items()
+    ensures { DeletedFollowsItems }
+{}
+
+/// Replicas that received the same operations and deletions show the same document.
+pub fn documents_converge()
+    ensures { DocumentsConverge }
+{}
