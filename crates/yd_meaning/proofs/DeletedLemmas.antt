@@ -14,7 +14,7 @@ use Rattle.yd_meaning.specs.Received.{has_operation, IsWritten}
 use Rattle.yd_meaning.specs.Held.{held_set}
 use Rattle.yd_meaning.specs.Order.{rows_of, operation_set, list_of, order_of}
 use Rattle.yd_meaning.specs.Deleted.{is_overwritten, is_deleted_within, is_deleted}
-use Rattle.yd_meaning.proofs.RowLemmas.{has_row, written_distinct}
+use Rattle.yd_meaning.proofs.RowLemmas.{has_row}
 use Rattle.yd_meaning.proofs.NestingLemmas.{nesting, nesting_small, nesting_falls, held_item}
 
 -- tests that agree on what is there
@@ -42,37 +42,44 @@ module _ (held : List Operation) (x : Id) where
     not_last = not_same_is last x b.1;
   }
 
-  pub is_overwritten-is : IsOverwritten (operation_set held) x → is_overwritten held (list_of held x) x ≡ true
-  is_overwritten-is over = hold_both (has_key (list_of held x)) (not (is_same_neighbour last (Some x))) over.keyed (not_same last x over.not_last)
+  pub is_overwritten-true : IsOverwritten (operation_set held) x → is_overwritten held (list_of held x) x ≡ true
+  is_overwritten-true over = hold_both (has_key (list_of held x)) (not (is_same_neighbour last (Some x))) over.keyed (not_same last x over.not_last)
 
 -- ---- what is deleted, as the laws of the order call it
 
-either_holds : (s t : Bool) → s || t ≡ true → (s ≡ true) ⊎ (t ≡ true)
-either_holds true t e = inl e
-either_holds false t e = inr e
+one_of_three : (s t u : Bool) → s || (t || u) ≡ true → (s ≡ true) ⊎ ((t ≡ true) ⊎ (u ≡ true))
+one_of_three true t u e = inl e
+one_of_three false true u e = inr (inl e)
+one_of_three false false u e = inr (inr e)
 
-hold_first : (s t : Bool) → s ≡ true → s || t ≡ true
-hold_first true t e = e
-hold_first false t e = absurd (true≢false (sym e))
+first_holds : (s t u : Bool) → s ≡ true → s || (t || u) ≡ true
+first_holds true t u e = e
+first_holds false t u e = absurd (true≢false (sym e))
 
-hold_second : (s t : Bool) → t ≡ true → s || t ≡ true
-hold_second true t e = refl
-hold_second false t e = e
+second_holds : (s t u : Bool) → t ≡ true → s || (t || u) ≡ true
+second_holds true t u e = refl
+second_holds false true u e = e
+second_holds false false u e = absurd (true≢false (sym e))
+
+third_holds : (s t u : Bool) → u ≡ true → s || (t || u) ≡ true
+third_holds true t u e = refl
+third_holds false true u e = refl
+third_holds false false u e = e
 
 some_holds : (test : Id → Bool) (z : Option Id) → is_some_and test z ≡ true → (y : Id) × (z ≡ Some y) × (test y ≡ true)
 some_holds test None e = absurd (true≢false (sym e))
 some_holds test (Some y) e = (y, refl, e)
 
-deleted_within_is : (held : List Operation) (named : Id → Bool) (n : ℕ) (x : Id) → is_deleted_within held named n x ≡ true → IsDeleted (operation_set held) named x
+deleted_within_is : (held : List Operation) (named : Id → Bool) (n : ℕ) (x : Id) → is_deleted_within held named n x ≡ true →
+    IsDeleted (operation_set held) named x
 deleted_within_is held named zero x e = absurd (true≢false (sym e))
-deleted_within_is held named (suc n) x e = elim (either_holds (named x) (is_overwritten held (list_of held x) x || is_some_and (is_deleted_within held named n) (item_of_list (list_of held x))) e) [
-  | inl by ↦ by_name by
-  | inr f ↦ elim (either_holds (is_overwritten held (list_of held x) x) (is_some_and (is_deleted_within held named n) (item_of_list (list_of held x))) f) [
-    | inl by ↦ by_key (overwritten_is held x by)
-    | inr by ↦ let (y, there, deleted) = some_holds (is_deleted_within held named n) (item_of_list (list_of held x)) by in
-        by_item there (deleted_within_is held named n y deleted)
-  ]
-]
+deleted_within_is held named (suc n) x e = elim (one_of_three (named x) (is_overwritten held (list_of held x) x)
+    (is_some_and (is_deleted_within held named n) (item_of_list (list_of held x))) e) [
+      | inl by ↦ by_name by
+      | inr (inl by) ↦ by_key (overwritten_is held x by)
+      | inr (inr by) ↦ let (y, there, deleted) = some_holds (is_deleted_within held named n) (item_of_list (list_of held x)) by in
+          by_item there (deleted_within_is held named n y deleted)
+    ]
 
 module _ (os : List Operation) (w : IsWritten os) (named : Id → Bool) where
   abbrev held : List Operation
@@ -82,15 +89,15 @@ module _ (os : List Operation) (w : IsWritten os) (named : Id → Bool) where
   item x = item_of_list (list_of held x)
 
   -- more items than an operation lies in change nothing
-  more_items : (n m : ℕ) (x : Id) → IsIn x (ids_of (rows_of held)) → nesting os (written_distinct os w) x < n → n ≤ m →
+  more_items : (n m : ℕ) (x : Id) → IsIn x (ids_of (rows_of held)) → nesting os w x < n → n ≤ m →
       is_deleted_within held named m x ≡ is_deleted_within held named n x
   more_items zero m x i lt le = absurd (omega arith)
   more_items (suc n) zero x i lt le = absurd (omega arith)
   more_items (suc n) (suc m) x i lt le = ap (λ t. named x || (is_overwritten held (list_of held x) x || t))
       (test_alike (is_deleted_within held named m) (is_deleted_within held named n) (item x)
-      (if_some_map (λ y. IsIn y (ids_of (rows_of held)) × (nesting os (written_distinct os w) y < nesting os (written_distinct os w) x))
+      (if_some_map (λ y. IsIn y (ids_of (rows_of held)) × (nesting os w y < nesting os w x))
       (λ y. is_deleted_within held named m y ≡ is_deleted_within held named n y) (item x)
-      (λ y c. more_items n m y c.0 (omega (arith, c.1)) (omega arith)) (nesting_falls os (written_distinct os w) x i)))
+      (λ y c. more_items n m y c.0 (omega (arith, c.1)) (omega arith)) (nesting_falls os w x i)))
 
   -- ---- lemmas for callers
 
@@ -98,18 +105,17 @@ module _ (os : List Operation) (w : IsWritten os) (named : Id → Bool) where
   pub is_deleted-one : (x : Id) → has_operation held x ≡ true →
       is_deleted held named x ≡ (named x || (is_overwritten held (list_of held x) x || is_some_and (is_deleted held named) (item x)))
   is_deleted-one x e = sym (more_items (suc (length held)) (suc (suc (length held))) x (has_row held x e)
-      (omega (arith, nesting_small os (written_distinct os w) x (has_row held x e))) (omega arith))
+      (omega (arith, nesting_small os w x (has_row held x e))) (omega arith))
 
+  -- the test tells what the laws of the order call deleted
   pub deleted_is : (x : Id) → is_deleted held named x ≡ true → IsDeleted (operation_set held) named x
   deleted_is x e = deleted_within_is held named (suc (length held)) x e
 
-  pub is_deleted-is : {x : Id} → has_operation held x ≡ true → IsDeleted (operation_set held) named x → is_deleted held named x ≡ true
-  is_deleted-is e (by_name {x = x} by) = is_deleted-one x e
-      ∙ hold_first (named x) (is_overwritten held (list_of held x) x || is_some_and (is_deleted held named) (item x)) by
-  is_deleted-is e (by_key {x = x} by) = is_deleted-one x e
-      ∙ hold_second (named x) (is_overwritten held (list_of held x) x || is_some_and (is_deleted held named) (item x))
-      (hold_first (is_overwritten held (list_of held x) x) (is_some_and (is_deleted held named) (item x)) (is_overwritten-is held x by))
-  is_deleted-is e (by_item {x = x} {y = y} there by) = is_deleted-one x e
-      ∙ hold_second (named x) (is_overwritten held (list_of held x) x || is_some_and (is_deleted held named) (item x))
-      (hold_second (is_overwritten held (list_of held x) x) (is_some_and (is_deleted held named) (item x))
-      (ap (λ z. is_some_and (is_deleted held named) z) there ∙ is_deleted-is (held_item os w x y e there) by))
+  pub is_deleted-true : {x : Id} → has_operation held x ≡ true → IsDeleted (operation_set held) named x → is_deleted held named x ≡ true
+  is_deleted-true e (by_name {x = x} by) = is_deleted-one x e
+      ∙ first_holds (named x) (is_overwritten held (list_of held x) x) (is_some_and (is_deleted held named) (item x)) by
+  is_deleted-true e (by_key {x = x} by) = is_deleted-one x e
+      ∙ second_holds (named x) (is_overwritten held (list_of held x) x) (is_some_and (is_deleted held named) (item x)) (is_overwritten-true held x by)
+  is_deleted-true e (by_item {x = x} {y = y} there by) = is_deleted-one x e
+      ∙ third_holds (named x) (is_overwritten held (list_of held x) x) (is_some_and (is_deleted held named) (item x))
+      (ap (λ z. is_some_and (is_deleted held named) z) there ∙ is_deleted-true (held_item os w x y e there) by)

@@ -6,11 +6,12 @@ use Rattle.yd_ops.specs.Operation.{Operation}
 use Rattle.yd_origins.specs.Ids.{IsIn, AreDistinct}
 use Rattle.yd_origins.specs.Sorted.{one_if}
 use Rattle.yd_origins.specs.Table.{OriginTable, ids_of, left_of, right_of, IsTable}
-use Rattle.yd_meaning.specs.Received.{IsOneOf, has_operation}
+use Rattle.yd_origins.proofs.MemberLemmas.{if_some_map}
+use Rattle.yd_meaning.specs.Received.{IsOneOf, has_operation, IsWritten}
 use Rattle.yd_meaning.specs.Held.{needs, has_all, round, held_set}
 use Rattle.yd_meaning.specs.Order.{rows_of}
 use Rattle.yd_meaning.proofs.OneOfLemmas.{operation_with}
-use Rattle.yd_meaning.proofs.RowLemmas.{row_one, has_row, distinct_kept, one_operation, left_of-row, right_of-row}
+use Rattle.yd_meaning.proofs.RowLemmas.{row_one, has_row, written_distinct, distinct_kept, one_operation, left_of-row, right_of-row}
 use Rattle.yd_meaning.proofs.NeedLemmas.{left_needed, right_needed}
 use Rattle.yd_meaning.proofs.HeldLemmas.{needs_before, round_in, held_needs}
 
@@ -19,7 +20,7 @@ pub if_some_each : (P : Id → Type 0) (z : Option Id) → ((y : Id) → z ≡ S
 if_some_each P None f = tt
 if_some_each P (Some y) f = f y refl
 
-module _ (os : List Operation) (distinct : AreDistinct (ids_of (rows_of os))) where
+module _ (os : List Operation) (w : IsWritten os) where
   -- ---- how many rounds come before an operation
 
   -- how many of the first rounds do not have the id
@@ -31,7 +32,7 @@ module _ (os : List Operation) (distinct : AreDistinct (ids_of (rows_of os))) wh
     -- a round that has the operation comes after one that has what it needs
     later_round : (n : ℕ) → has_operation (round os (suc n)) o.id ≡ true → has_operation (round os n) y ≡ true
     later_round n e = let (p, k, g) = operation_with (round os (suc n)) o.id e in
-        let one : p ≡ o = one_operation os distinct p o (round_in os (suc n) p k) i g in
+        let one : p ≡ o = one_operation os (written_distinct os w) p o (round_in os (suc n) p k) i g in
         needs_before os n p k y (subst (λ q. IsIn y (needs q)) (sym one) j)
 
     fewer_rounds : (n : ℕ) → rounds_without n y < rounds_without (suc n) o.id
@@ -57,48 +58,44 @@ module _ (os : List Operation) (distinct : AreDistinct (ids_of (rows_of os))) wh
   abbrev rows : OriginTable
   rows = rows_of held
 
-  -- the round in which an id comes, or the number of the rounds
+  -- how many rounds come before an id
   abbrev pub arrival : Id → ℕ
   arrival = rounds_without (length os)
+
+  -- the second id is held, and came earlier than the first
+  abbrev pub IsEarlier : Id → Id → Type 0
+  IsEarlier x y = IsIn y (ids_of rows) × (arrival y < arrival x)
 
   pub held_distinct : AreDistinct (ids_of rows)
   held_distinct = go (length os)
     where
       go : (n : ℕ) → AreDistinct (ids_of (rows_of (round os n)))
       go zero = tt
-      go (suc n) = distinct_kept (λ p. has_all (round os n) (needs p)) os distinct
+      go (suc n) = distinct_kept (λ p. has_all (round os n) (needs p)) os (written_distinct os w)
 
-  -- what an operation needs is held, and came earlier
-  pub needed : (o : Operation) → IsOneOf o held → (y : Id) → IsIn y (needs o) → IsIn y (ids_of rows) × (arrival y < arrival o.id)
+  -- what an operation needs is earlier
+  pub needed : (o : Operation) → IsOneOf o held → (y : Id) → IsIn y (needs o) → IsEarlier o.id y
   needed o i y j = (has_row held y (held_needs os o i y j), need_is_earlier o (round_in os (length os) o i) y j (length os) i)
 
   -- and so are its origins
-  pub left_earlier : (x : Id) → IsIn x (ids_of rows) → IfSome (left_of rows x) (λ y. IsIn y (ids_of rows) × (arrival y < arrival x))
-  left_earlier x i = let (o, j, e) = row_one held x i in subst (λ z. IfSome (left_of rows z) (λ y. IsIn y (ids_of rows) × (arrival y < arrival z))) e
-      (rw (left_of-row held held_distinct o j) (if_some_each (λ y. IsIn y (ids_of rows) × (arrival y < arrival o.id)) o.left_origin
-      (λ y g. needed o j y (left_needed o y g))))
+  pub left_earlier : (x : Id) → IsIn x (ids_of rows) → IfSome (left_of rows x) (IsEarlier x)
+  left_earlier x i = let (o, j, e) = row_one held x i in subst (λ z. IfSome (left_of rows z) (IsEarlier z)) e
+      (rw (left_of-row held held_distinct o j) (if_some_each (IsEarlier o.id) o.left_origin (λ y g. needed o j y (left_needed o y g))))
 
-  pub right_earlier : (x : Id) → IsIn x (ids_of rows) → IfSome (right_of rows x) (λ y. IsIn y (ids_of rows) × (arrival y < arrival x))
-  right_earlier x i = let (o, j, e) = row_one held x i in subst (λ z. IfSome (right_of rows z) (λ y. IsIn y (ids_of rows) × (arrival y < arrival z))) e
-      (rw (right_of-row held held_distinct o j) (if_some_each (λ y. IsIn y (ids_of rows) × (arrival y < arrival o.id)) o.right_origin
-      (λ y g. needed o j y (right_needed o y g))))
+  pub right_earlier : (x : Id) → IsIn x (ids_of rows) → IfSome (right_of rows x) (IsEarlier x)
+  right_earlier x i = let (o, j, e) = row_one held x i in subst (λ z. IfSome (right_of rows z) (IsEarlier z)) e
+      (rw (right_of-row held held_distinct o j) (if_some_each (IsEarlier o.id) o.right_origin (λ y g. needed o j y (right_needed o y g))))
+
+  -- ---- lemmas for callers
 
   pub held_is_table : IsTable rows
   held_is_table = record {
     distinct = held_distinct;
-    has_left = λ x i. first_part x (left_of rows x) (left_earlier x i);
-    has_right = λ x i. first_part x (right_of rows x) (right_earlier x i);
+    has_left = λ x i. if_some_map (IsEarlier x) (λ y. IsIn y (ids_of rows)) (left_of rows x) (λ y c. c.0) (left_earlier x i);
+    has_right = λ x i. if_some_map (IsEarlier x) (λ y. IsIn y (ids_of rows)) (right_of rows x) (λ y c. c.0) (right_earlier x i);
     ends = record {
       height = arrival;
-      falls_left = λ x i. second_part x (left_of rows x) (left_earlier x i);
-      falls_right = λ x i. second_part x (right_of rows x) (right_earlier x i);
+      falls_left = λ x i. if_some_map (IsEarlier x) (λ y. arrival y < arrival x) (left_of rows x) (λ y c. c.1) (left_earlier x i);
+      falls_right = λ x i. if_some_map (IsEarlier x) (λ y. arrival y < arrival x) (right_of rows x) (λ y c. c.1) (right_earlier x i);
     };
   }
-    where
-      first_part : (x : Id) (z : Option Id) → IfSome z (λ y. IsIn y (ids_of rows) × (arrival y < arrival x)) → IfSome z (λ y. IsIn y (ids_of rows))
-      first_part x None f = tt
-      first_part x (Some y) f = f.0
-
-      second_part : (x : Id) (z : Option Id) → IfSome z (λ y. IsIn y (ids_of rows) × (arrival y < arrival x)) → IfSome z (λ y. arrival y < arrival x)
-      second_part x None f = tt
-      second_part x (Some y) f = f.1

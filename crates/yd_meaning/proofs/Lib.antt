@@ -1,3 +1,4 @@
+pub mod ClockLemmas
 pub mod DeletedLemmas
 pub mod FilterLemmas
 pub mod HeldLemmas

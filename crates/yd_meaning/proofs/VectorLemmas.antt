@@ -45,9 +45,6 @@ module _ (client : Client) where
   other_client : (a : Id) (k : ℕ) → nat_eq a.client.0 client.0 ≡ false → is_same a (at k) ≡ false
   other_client a k e = rw e refl
 
-  same_clock : (a : Id) (k : ℕ) → nat_eq a.client.0 client.0 ≡ true → is_same a (at k) ≡ nat_eq a.clock k
-  same_clock a k e = rw e refl
-
   -- the client's operations have no clocks below m
   abbrev StartsAt : ℕ → List Operation → Type 0
   StartsAt m os = (o : Operation) → IsOneOf o os → o.id.client.0 ≡ client.0 → m ≤ o.id.clock
@@ -83,14 +80,15 @@ module _ (client : Client) where
     where
       go : (t : Bool) → nat_eq o.id.client.0 client.0 ≡ t → ((n : ℕ) → StartsAt n os → HasNoGap n os → CountsFrom n os) →
           has_operation (o ∷ os) (at k) ≡ true ↔ (m ≤ k) × (k < m + (if t then suc (held_clock os client.0) else held_clock os client.0))
-      go false e rest = rw (other_client o.id k e) (rest m (λ p i. low p (inr i)) (λ j le h. has_rest j (closed j le (rw (other_client o.id (suc j) e) h))) k)
+      go false e rest = rw (other_client o.id k e)
+          (rest m (λ p i. low p (inr i)) (λ j le h. has_rest j (closed j le (rw (other_client o.id (suc j) e) h))) k)
         where
           has_rest : (j : ℕ) → has_operation (o ∷ os) (at j) ≡ true → has_operation os (at j) ≡ true
           has_rest j h = rw (other_client o.id j e) at h
       go true e rest = (
         (λ h. let (p, i, g) = operation_with (o ∷ os) (at k) h in within p i g),
         (λ b. elim (split k m) [
-          | inl le ↦ let here : k ≡ m = omega (arith, b) in subst (λ x. has_operation (o ∷ os) x ≡ true) (first k (sym here)) (id_is_there (o ∷ os) o (inl refl))
+          | inl le ↦ let here : m ≡ k = omega (arith, b) in subst (λ x. has_operation (o ∷ os) x ≡ true) (first k here) (id_is_there (o ∷ os) o (inl refl))
           | inr lt ↦ has_behind o os (at k) ((later k).1 (omega (arith, b)))
         ]),
       )
@@ -116,21 +114,23 @@ module _ (client : Client) where
 
           within : (p : Operation) → IsOneOf p (o ∷ os) → p.id ≡ at k → (m ≤ k) × (k < m + suc (held_clock os client.0))
           within p (inl f) g = let here : k ≡ m = omega (arith, ap (λ q. q.id.clock) f, ap (λ x. x.clock) g, clock) in (omega arith, omega arith)
-          within p (inr i) g = let bounds = (later k).0 (subst (λ x. has_operation os x ≡ true) g (id_is_there os p i)) in (omega (arith, bounds), omega (arith, bounds))
+          within p (inr i) g = let bounds = (later k).0 (subst (λ x. has_operation os x ≡ true) g (id_is_there os p i)) in
+              (omega (arith, bounds), omega (arith, bounds))
 
 -- ---- lemmas for callers
 
 module _ (os : List Operation) where
-  -- a held operation's client has held all smaller clocks
+  -- the clock before a held one is held
   pub clock_before : (x : Id) (k : ℕ) → has_operation (held_set os) x ≡ true → x.clock ≡ suc k →
       has_operation (held_set os) (record { client = x.client; clock = k }) ≡ true
   clock_before x k e f = let (o, i, g) = operation_with (held_set os) x e in
       subst (λ (y : Id). has_operation (held_set os) (record { client = y.client; clock = k }) ≡ true) g
       (held_needs os o i (record { client = o.id.client; clock = k }) (before_needed o k (ap (λ (y : Id). y.clock) g ∙ f)))
 
+  -- the held clocks of a client are those below its clock in the state vector
   pub held_below : IsWritten os → (client : Client) (clock : ℕ) →
       has_operation (held_set os) (record { client = client; clock = clock }) ≡ true ↔ clock < held_clock (held_set os) client.0
-  held_below w client clock = ((λ e. (omega (arith, (counts.0 e)))), (λ lt. counts.1 (omega arith, omega arith)))
+  held_below w client clock = ((λ e. omega (arith, counts.0 e)), (λ lt. counts.1 (omega arith, omega arith)))
     where
       counts : has_operation (held_set os) (record { client = client; clock = clock }) ≡ true ↔ (0 ≤ clock) × (clock < 0 + held_clock (held_set os) client.0)
       counts = counts_from client (held_set os) 0 (held_written os w) (λ o i e. omega arith)
