@@ -120,7 +120,7 @@ fn the_rest_of_v2_is_read_one_by_one(rt: HostRuntime) -> Result<(), Fail> {
     Ok(())
 }
 
-fn at(column: Column, at: u64) -> Spot {
+pub(crate) fn at(column: Column, at: u64) -> Spot {
     Spot { column, at }
 }
 
@@ -179,7 +179,7 @@ fn each_cut_of_a_file_in_columns_is_refused(rt: HostRuntime) -> Result<(), Fail>
     Ok(())
 }
 
-fn fault_of(alloc: Global, bytes: &[u8]) -> Option<(Cause, Spot)> {
+pub(crate) fn fault_of(alloc: Global, bytes: &[u8]) -> Option<(Cause, Spot)> {
     match read_v2(alloc, bytes) {
         Err(ReadError::Fault { cause, spot }) => Some((cause, spot)),
         _ => None,

@@ -8,37 +8,41 @@ use Rattle.yd_cols.proofs.RunTakenLemmas.{run_taken}
 use Rattle.yd_cols.proofs.UintRunLemmas.{uint_skips}
 use Rattle.yd_cols.specs.Column.{EndsOpen, SpellsByteRun, SpellsBytes, SpellsDiffRun, SpellsUintRun, differences}
 use Rattle.yd_cols.specs.Law.{GivesAll, IsBefore}
-use Rattle.yd_cols.specs.Reading.{BytesLeft, DiffsLeft, RunsLeft, bytes_in, diffs_in, next_byte, next_diff, next_uint, uint_run_at, uints_in}
+use Rattle.yd_cols.specs.Reading.{BytesLeft, DiffsLeft, RunsLeft, bytes_in, diffs_in, next_byte, next_diff, next_uint, runs_from, uint_run_at, uints_in}
 use Rattle.yd_cols.specs.Run.{SpellsRuns}
 use Rattle.yd_cols.specs.Taking.{TakesByte}
 
 -- ---- numbers
 
-given_uints : (bytes before values : List ℕ) (start left : RunsLeft ℕ) → IsBefore SpellsUintRun bytes before start → GivesAll next_uint start values left → IsBefore SpellsUintRun bytes (before ++ values) left
-given_uints bytes before [] start left is_before same = subst (λ s. IsBefore SpellsUintRun bytes (before ++ []) s) same (subst (λ vs. IsBefore SpellsUintRun bytes vs start) (sym (append-nil before)) is_before)
-given_uints bytes before (v ∷ vs) start left is_before gives =
+given_uints : (from : ℕ) (bytes before values : List ℕ) (start left : RunsLeft ℕ) → IsBefore SpellsUintRun from bytes before start → GivesAll next_uint start values left → IsBefore SpellsUintRun from bytes (before ++ values) left
+given_uints from bytes before [] start left is_before same = subst (λ s. IsBefore SpellsUintRun from bytes (before ++ []) s) same (subst (λ vs. IsBefore SpellsUintRun from bytes vs start) (sym (append-nil before)) is_before)
+given_uints from bytes before (v ∷ vs) start left is_before gives =
     let taken = run_taken uint_run_at SpellsUintRun uint_skips start v gives.0 gives.1 in
-    subst (λ values. IsBefore SpellsUintRun bytes values left) (append_assoc before (v ∷ []) vs)
-    (given_uints bytes (before ++ v ∷ []) vs gives.0 left (before_next SpellsUintRun bytes before start v gives.0 is_before taken) gives.2)
+    subst (λ values. IsBefore SpellsUintRun from bytes values left) (append_assoc before (v ∷ []) vs)
+    (given_uints from bytes (before ++ v ∷ []) vs gives.0 left (before_next SpellsUintRun from bytes before start v gives.0 is_before taken) gives.2)
 
-pub uints_given : (bytes values : List ℕ) (left : RunsLeft ℕ) → GivesAll next_uint (uints_in bytes) values left → IsBefore SpellsUintRun bytes values left
-uints_given bytes values left gives = given_uints bytes [] values (uints_in bytes) left (before_first SpellsUintRun 0 bytes) gives
+-- from any place on
+pub uints_behind : (place : ℕ) (bytes values : List ℕ) (left : RunsLeft ℕ) → GivesAll next_uint (runs_from 0 place bytes) values left → IsBefore SpellsUintRun place bytes values left
+uints_behind place bytes values left gives = given_uints place bytes [] values (runs_from 0 place bytes) left (before_first SpellsUintRun 0 place bytes) gives
+
+pub uints_given : (bytes values : List ℕ) (left : RunsLeft ℕ) → GivesAll next_uint (uints_in bytes) values left → IsBefore SpellsUintRun 0 bytes values left
+uints_given bytes values left gives = uints_behind 0 bytes values left gives
 
 -- ---- differences
 
-given_diffs : (bytes : List ℕ) (steps : List ℤ) (values : List ℕ) (start left : DiffsLeft) → IsBefore SpellsDiffRun bytes steps start.runs → GivesAll next_diff start values left →
-    IsBefore SpellsDiffRun bytes (steps ++ differences start.before values) left.runs
-given_diffs bytes steps [] start left is_before same = subst (λ s. IsBefore SpellsDiffRun bytes (steps ++ []) s.runs) same (subst (λ vs. IsBefore SpellsDiffRun bytes vs start.runs) (sym (append-nil steps)) is_before)
+given_diffs : (bytes : List ℕ) (steps : List ℤ) (values : List ℕ) (start left : DiffsLeft) → IsBefore SpellsDiffRun 0 bytes steps start.runs → GivesAll next_diff start values left →
+    IsBefore SpellsDiffRun 0 bytes (steps ++ differences start.before values) left.runs
+given_diffs bytes steps [] start left is_before same = subst (λ s. IsBefore SpellsDiffRun 0 bytes (steps ++ []) s.runs) same (subst (λ vs. IsBefore SpellsDiffRun 0 bytes vs start.runs) (sym (append-nil steps)) is_before)
 given_diffs bytes steps (v ∷ vs) start left is_before gives =
     let takes = diff_taken start v gives.0 gives.1 in
     let step : takes.step ≡ pos v -ℤ pos start.before = sym (step_only start.before v takes.step takes.value) in
-    let later = given_diffs bytes (steps ++ takes.step ∷ []) vs gives.0 left (before_next SpellsDiffRun bytes steps start.runs takes.step gives.0.runs is_before takes.taken) gives.2 in
-    subst (λ ds. IsBefore SpellsDiffRun bytes ds left.runs)
+    let later = given_diffs bytes (steps ++ takes.step ∷ []) vs gives.0 left (before_next SpellsDiffRun 0 bytes steps start.runs takes.step gives.0.runs is_before takes.taken) gives.2 in
+    subst (λ ds. IsBefore SpellsDiffRun 0 bytes ds left.runs)
     (append_assoc steps (takes.step ∷ []) (differences gives.0.before vs) ∙ ap (λ d. steps ++ d ∷ differences gives.0.before vs) step ∙ ap (λ before. steps ++ (pos v -ℤ pos start.before) ∷ differences before vs) takes.before)
     later
 
-pub diffs_given : (bytes values : List ℕ) (left : DiffsLeft) → GivesAll next_diff (diffs_in bytes) values left → IsBefore SpellsDiffRun bytes (differences 0 values) left.runs
-diffs_given bytes values left gives = given_diffs bytes [] values (diffs_in bytes) left (before_first SpellsDiffRun (pos 0) bytes) gives
+pub diffs_given : (bytes values : List ℕ) (left : DiffsLeft) → GivesAll next_diff (diffs_in bytes) values left → IsBefore SpellsDiffRun 0 bytes (differences 0 values) left.runs
+diffs_given bytes values left gives = given_diffs bytes [] values (diffs_in bytes) left (before_first SpellsDiffRun (pos 0) 0 bytes) gives
 
 -- ---- bytes
 
@@ -51,7 +55,7 @@ record OpenBefore (bytes values : List ℕ) (left : BytesLeft) : Type 0 where
 -- what was given stands in runs with counts
 record CountedBefore (bytes values : List ℕ) (left : BytesLeft) : Type 0 where
   closed : left.is_open ≡ false
-  before : IsBefore SpellsByteRun bytes values left.runs
+  before : IsBefore SpellsByteRun 0 bytes values left.runs
 
 -- what was given so far
 abbrev ByteBefore : List ℕ → List ℕ → BytesLeft → Type 0
@@ -83,7 +87,7 @@ next_given bytes values left b next (inl before) (inl takes) = inl (record {
 next_given bytes values left b next (inl before) (inr (inl takes)) = absurd (both left before.opened takes.closed)
 next_given bytes values left b next (inl before) (inr (inr takes)) = absurd (both left before.opened takes.closed)
 next_given bytes values left b next (inr before) (inl takes) = absurd (both left takes.opened before.closed)
-next_given bytes values left b next (inr before) (inr (inl takes)) = inr (record { closed = takes.still_closed; before = before_next SpellsByteRun bytes values left.runs b next.runs before.before takes.taken })
+next_given bytes values left b next (inr before) (inr (inl takes)) = inr (record { closed = takes.still_closed; before = before_next SpellsByteRun 0 bytes values left.runs b next.runs before.before takes.taken })
 next_given bytes values left b next (inr before) (inr (inr takes)) = inl (record {
   opened = ap (λ n. n.is_open) takes.next_is;
   ends = record {
@@ -105,9 +109,9 @@ given_bytes bytes before (v ∷ vs) start left is_before gives =
     (given_bytes bytes (before ++ v ∷ []) vs gives.0 left (next_given bytes before start v gives.0 is_before (byte_taken start v gives.0 gives.1)) gives.2)
 
 all_given : (bytes values : List ℕ) (left : BytesLeft) → GivesAll next_byte (bytes_in bytes) values left → ByteBefore bytes values left
-all_given bytes values left gives = given_bytes bytes [] values (bytes_in bytes) left (inr (record { closed = refl; before = before_first SpellsByteRun 0 bytes })) gives
+all_given bytes values left gives = given_bytes bytes [] values (bytes_in bytes) left (inr (record { closed = refl; before = before_first SpellsByteRun 0 0 bytes })) gives
 
-pub bytes_given : (bytes values : List ℕ) (left : BytesLeft) → GivesAll next_byte (bytes_in bytes) values left → left.is_open ≡ false → IsBefore SpellsByteRun bytes values left.runs
+pub bytes_given : (bytes values : List ℕ) (left : BytesLeft) → GivesAll next_byte (bytes_in bytes) values left → left.is_open ≡ false → IsBefore SpellsByteRun 0 bytes values left.runs
 bytes_given bytes values left gives closed = elim (all_given bytes values left gives) [
   | inl open_ ↦ absurd (both left open_.opened closed)
   | inr counted ↦ counted.before

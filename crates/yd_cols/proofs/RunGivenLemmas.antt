@@ -1,5 +1,5 @@
 -- What reading gave so far of runs is what the bytes before the rest spell.
-use Rattle.std.proofs.Common.{◌≡◌, ◌∙◌, ℕ, suc, ◌+◌, List, [], ◌∷◌, ◌++◌, length, replicate, refl, ap, sym, subst, inl, inr, append_assoc, append-nil, length-append}
+use Rattle.std.proofs.Common.{◌≡◌, ◌∙◌, ℕ, suc, ◌+◌, List, [], ◌∷◌, ◌++◌, length, replicate, refl, ap, sym, subst, inl, inr, arith, append_assoc, append-nil, length-append}
 use Rattle.yd_cols.specs.Law.{IsBefore}
 use Rattle.yd_cols.specs.Reading.{RunsLeft, runs_from}
 use Rattle.yd_cols.specs.Run.{AreSpelled, SpellsRuns, values_of}
@@ -36,13 +36,13 @@ spells-snoc Spells front values last run spelled is_last = record {
 -- ---- lemmas for callers
 
 -- before the first run
-pub before_first : {V : Type 0} (Spells : List ℕ → Run V → Type 0) (none : V) (bytes : List ℕ) → IsBefore Spells bytes [] (runs_from none 0 bytes)
-before_first Spells none bytes = record { front = []; joined = refl; place = refl; spelled = record { runs = []; spelled = refl; cut = refl } }
+pub before_first : {V : Type 0} (Spells : List ℕ → Run V → Type 0) (none : V) (start : ℕ) (bytes : List ℕ) → IsBefore Spells start bytes [] (runs_from none start bytes)
+before_first Spells none start bytes = record { front = []; joined = refl; place = omega arith; spelled = record { runs = []; spelled = refl; cut = refl } }
 
 -- one value more was given
-pub before_next : {V : Type 0} (Spells : List ℕ → Run V → Type 0) (bytes : List ℕ) (values : List V) (left : RunsLeft V) (v : V) (next : RunsLeft V) → IsBefore Spells bytes values left → TakesRun Spells left v next →
-    IsBefore Spells bytes (values ++ v ∷ []) next
-before_next {V} Spells bytes values left v next before (inl hand) = record {
+pub before_next : {V : Type 0} (Spells : List ℕ → Run V → Type 0) (start : ℕ) (bytes : List ℕ) (values : List V) (left : RunsLeft V) (v : V) (next : RunsLeft V) → IsBefore Spells start bytes values left → TakesRun Spells left v next →
+    IsBefore Spells start bytes (values ++ v ∷ []) next
+before_next {V} Spells start bytes values left v next before (inl hand) = record {
   front = before.front;
   joined = before.joined ∙ ap (λ b. before.front ++ b) (sym (ap (λ n. n.bytes) hand.next_is));
   place = ap (λ n. n.place) hand.next_is ∙ before.place;
@@ -54,10 +54,13 @@ before_next {V} Spells bytes values left v next before (inl hand) = record {
         ∙ ap (λ x. values ++ x ∷ replicate hand.more left.value) (sym hand.value)
         ∙ ap (λ n. values ++ v ∷ replicate n.more n.value) (sym hand.next_is)
         ∙ sym (append_assoc values (v ∷ []) (replicate next.more next.value))
-before_next {V} Spells bytes values left v next before (inr opens) = record {
+before_next {V} Spells start bytes values left v next before (inr opens) = record {
   front = before.front ++ opens.front;
   joined = before.joined ∙ ap (λ b. before.front ++ b) opens.joined ∙ sym (append_assoc before.front opens.front opens.rest) ∙ ap (λ n. (before.front ++ opens.front) ++ n.bytes) (sym opens.next_is);
-  place = ap (λ n. n.place) opens.next_is ∙ ap (λ place. place + length opens.front) before.place ∙ sym (length-append before.front opens.front);
+  place =
+      let ends : next.place ≡ left.place + length opens.front = ap (λ n. n.place) opens.next_is in
+      let joined : length (before.front ++ opens.front) ≡ length before.front + length opens.front = length-append before.front opens.front in
+      omega (arith, ends, before.place, joined);
   spelled = subst (λ vs. SpellsRuns Spells (before.front ++ opens.front) vs) same (spells-snoc Spells before.front values opens.front opens.run (subst (λ vs. SpellsRuns Spells before.front vs) none before.spelled) opens.spelled);
 }
   where

@@ -1,14 +1,15 @@
 -- Strings are read exactly, and a whole column of them is read as what it stands for.
 use Rattle.std.proofs.Common.{◌≡◌, ◌↔◌, ℕ, ◌-◌, List, [], ◌∷◌, ◌++◌, length, map, Result, Ok, Err, IsUtf8, refl, sym, ap, subst, ◌∙◌, inl, inr, append_assoc}
-use Rattle.std.specs.List.{concat}
-use Rattle.yd_cols.specs.Column.{SpellsStrings, SpellsUints, units_in}
-use Rattle.yd_cols.specs.Law.{GivesAll, IsExact, IsReadWhole}
+use Rattle.std.specs.List.{AllByRecursion, concat}
+use Rattle.yd_cols.specs.Column.{SpellsStrings, SpellsUintRun, SpellsUints, units_in}
+use Rattle.yd_cols.specs.Law.{GivesAll, IsBefore, IsExact, IsReadWhole, StringsBefore}
 use Rattle.yd_cols.specs.Reading.{RunsLeft, StringsLeft, and_then, end_of_runs, end_of_strings, end_of_uints, given_string, next_string, next_uint, runs_from, string_at, strings_in, strings_of, text_done}
 use Rattle.yd_cols.specs.Standing.{StringsStand, UintsStand}
 use Rattle.yd_cols.specs.Taking.{LacksString, LacksUint, TakesString, TakesUint, units_of_chars}
 use Rattle.yd_cols.specs.declared.fault.ColCause.{ColCause}
 use Rattle.yd_cols.specs.declared.fault.ColFault.{ColFault}
 use Rattle.yd_cols.proofs.BackLemmas.{concat_text}
+use Rattle.yd_cols.proofs.GivenLemmas.{uints_behind}
 use Rattle.yd_cols.proofs.StringLemmas.{AreParts, IsCutAt, are_parts, string_failed, string_found, string_only, string_refused, text_cut}
 use Rattle.yd_num.proofs.BlobLemmas.{text_found, text_only}
 use Rattle.yd_num.proofs.ReadingLemmas.{ok_value}
@@ -218,12 +219,34 @@ start_text bytes left e = let read = start_read bytes left e in (text_found byte
 pub string_texts : (left : StringsLeft) (string : List ℕ) (next : StringsLeft) → IsUtf8 left.text → next_string left ≡ Ok (string, next) → IsUtf8 string × IsUtf8 next.text
 string_texts left string next is_text read = let parts = given_text left string next is_text (is_given left string next read) in (parts.string_text, parts.rest_text)
 
--- strings that were given stand before what is left
-given_all : (strings : List (List ℕ)) (start left : StringsLeft) → IsUtf8 start.text → GivesAll next_string start strings left → start.text ≡ concat strings ++ left.text
-given_all [] start left is_text given = ap (λ (l : StringsLeft). l.text) given
-given_all (string ∷ strings) start left is_text given =
-    let parts = given_text start string given.0 is_text (is_given start string given.0 given.1) in
-    parts.joined ∙ ap (λ (l : List ℕ). string ++ l) (given_all strings given.0 left parts.rest_text given.2) ∙ sym (append_assoc string (concat strings) left.text)
+-- ---- what was given
 
-pub strings_given : (bytes : List ℕ) (strings : List (List ℕ)) (start left : StringsLeft) → strings_in bytes ≡ Ok start → GivesAll next_string start strings left → start.text ≡ concat strings ++ left.text
-strings_given bytes strings start left e given = given_all strings start left (start_text bytes start e) given
+-- the lengths of strings that were given were given
+lengths_given : (strings : List (List ℕ)) (start left : StringsLeft) → IsUtf8 start.text → GivesAll next_string start strings left → GivesAll next_uint start.lengths (map units_in strings) left.lengths
+lengths_given [] start left is_text same = ap (λ (l : StringsLeft). l.lengths) same
+lengths_given (string ∷ strings) start left is_text given =
+    let is = is_given start string given.0 given.1 in
+    let parts = given_text start string given.0 is_text is in
+    (given.0.lengths, subst (λ (units : ℕ). next_uint start.lengths ≡ Ok (units, given.0.lengths)) parts.counted is.taken, lengths_given strings given.0 left parts.rest_text given.2)
+
+-- strings that were given stand before what is left of the text
+text_given : (strings : List (List ℕ)) (start left : StringsLeft) → IsUtf8 start.text → GivesAll next_string start strings left
+    → (start.text ≡ concat strings ++ left.text) × AllByRecursion IsUtf8 strings
+text_given [] start left is_text given = (ap (λ (l : StringsLeft). l.text) given, tt)
+text_given (string ∷ strings) start left is_text given =
+    let parts = given_text start string given.0 is_text (is_given start string given.0 given.1) in
+    let later = text_given strings given.0 left parts.rest_text given.2 in
+    (parts.joined ∙ ap (λ (l : List ℕ). string ++ l) later.0 ∙ sym (append_assoc string (concat strings) left.text), (parts.string_text, later.1))
+
+pub strings_given : (bytes : List ℕ) (strings : List (List ℕ)) (start left : StringsLeft) → strings_in bytes ≡ Ok start → GivesAll next_string start strings left → StringsBefore strings start left
+strings_given bytes strings start left e given =
+    let is_text = start_text bytes start e in
+    let read = start_read bytes start e in
+    let place = length bytes - length read.0 in
+    let texts = text_given strings start left is_text given in
+    let lengths = subst (λ (l : RunsLeft ℕ). GivesAll next_uint l (map units_in strings) left.lengths) read.2 (lengths_given strings start left is_text given) in
+    record {
+      text = texts.0;
+      are_texts = texts.1;
+      lengths = subst (λ (l : RunsLeft ℕ). IsBefore SpellsUintRun l.place l.bytes (map units_in strings) left.lengths) (sym read.2) (uints_behind place read.0 (map units_in strings) left.lengths lengths);
+    }

@@ -1,5 +1,5 @@
 -- The laws of columns.
-use Rattle.std.specs.Prelude.{◌≡◌, ◌↔◌, ℕ, suc, ◌-◌, ◌^◌, ◌<◌, true, false, List, [], ◌∷◌, ◌++◌, length, map, replicate, Result, Ok, Err, IsUtf8}
+use Rattle.std.specs.Prelude.{◌≡◌, ◌↔◌, ℕ, suc, ◌+◌, ◌-◌, ◌^◌, ◌<◌, true, false, List, [], ◌∷◌, ◌++◌, length, map, replicate, Result, Ok, Err, IsUtf8}
 use Rattle.std.specs.List.{AllByRecursion, concat}
 use Rattle.yd_cols.specs.Column.{SpellsByteRun, SpellsBytes, SpellsDiffRun, SpellsDiffs, SpellsStrings, SpellsUintRun, SpellsUints, differences, units_in}
 use Rattle.yd_cols.specs.Reading.{BytesLeft, DiffsLeft, RunsLeft, StringsLeft, bytes_in, diffs_in, end_of_bytes, end_of_diffs, end_of_strings, end_of_uints, next_byte, next_diff, next_string, next_uint, strings_in, uints_in}
@@ -51,20 +51,27 @@ abbrev pub GivesAll : {V S : Type 0} → (S → Result (V × S) ColFault) → S 
 GivesAll next_at left [] end = left ≡ end
 GivesAll {S = S} next_at left (v ∷ vs) end = (next : S) × (next_at left ≡ Ok (v, next)) × GivesAll next_at next vs end
 
--- the bytes before what is left spell these values, which end with those in hand; and they are as many as its place says
-pub record IsBefore {V : Type 0} (Spells : List ℕ → Run V → Type 0) (bytes : List ℕ) (values : List V) (left : RunsLeft V) : Type 0 where
+-- the bytes that stand from a place on and before what is left spell these values, which end with those in hand; and they are
+-- as many as its place says
+pub record IsBefore {V : Type 0} (Spells : List ℕ → Run V → Type 0) (start : ℕ) (bytes : List ℕ) (values : List V) (left : RunsLeft V) : Type 0 where
   pub front : List ℕ
   pub joined : bytes ≡ front ++ left.bytes
-  pub place : left.place ≡ length front
+  pub place : left.place ≡ start + length front
   pub spelled : SpellsRuns Spells front (values ++ replicate left.more left.value)
+
+-- these strings stand in the text before what is left of it, and the lengths before those that are left are theirs
+pub record StringsBefore (strings : List (List ℕ)) (start left : StringsLeft) : Type 0 where
+  pub text : start.text ≡ concat strings ++ left.text
+  pub are_texts : AllByRecursion IsUtf8 strings
+  pub lengths : IsBefore SpellsUintRun start.lengths.place start.lengths.bytes (map units_in strings) left.lengths
 
 -- what was given so far is what the runs read so far spell, of the last run perhaps a part
 pub record GivenIsSpelled : Type 0 where
-  pub uints : (bytes values : List ℕ) (left : RunsLeft ℕ) → GivesAll next_uint (uints_in bytes) values left → IsBefore SpellsUintRun bytes values left
-  pub diffs : (bytes values : List ℕ) (left : DiffsLeft) → GivesAll next_diff (diffs_in bytes) values left → IsBefore SpellsDiffRun bytes (differences 0 values) left.runs
-  pub counted : (bytes values : List ℕ) (left : BytesLeft) → GivesAll next_byte (bytes_in bytes) values left → left.is_open ≡ false → IsBefore SpellsByteRun bytes values left.runs
+  pub uints : (bytes values : List ℕ) (left : RunsLeft ℕ) → GivesAll next_uint (uints_in bytes) values left → IsBefore SpellsUintRun 0 bytes values left
+  pub diffs : (bytes values : List ℕ) (left : DiffsLeft) → GivesAll next_diff (diffs_in bytes) values left → IsBefore SpellsDiffRun 0 bytes (differences 0 values) left.runs
+  pub counted : (bytes values : List ℕ) (left : BytesLeft) → GivesAll next_byte (bytes_in bytes) values left → left.is_open ≡ false → IsBefore SpellsByteRun 0 bytes values left.runs
   pub opened : (bytes values : List ℕ) (left : BytesLeft) → GivesAll next_byte (bytes_in bytes) values left → left.is_open ≡ true → SpellsBytes bytes values
-  pub strings : (bytes : List ℕ) (strings : List (List ℕ)) (start left : StringsLeft) → strings_in bytes ≡ Ok start → GivesAll next_string start strings left → start.text ≡ concat strings ++ left.text
+  pub strings : (bytes : List ℕ) (strings : List (List ℕ)) (start left : StringsLeft) → strings_in bytes ≡ Ok start → GivesAll next_string start strings left → StringsBefore strings start left
 
 -- ---- writing
 

@@ -3,12 +3,18 @@
 ghost use Rattle.yd_fields.specs.Law.{FilesAreOne, FilesAreRead};
 ghost use Rattle.yd_fields.specs.UpdatePlan.{vector_plan};
 ghost use Rattle.yd_v1.specs.Grammar.{FailsV1, FillsV1, HasFirstFaultV1, StandsForV1};
-ghost use Rattle.yd_v1.specs.Law.{FieldsAreRead};
+ghost use Rattle.yd_v1.specs.Law.{FieldsAreRead, FieldsComeBackV1};
 ghost use Rattle.yd_v1.specs.Reading.{v1_reading, vector_reading};
 
 /// The fields of V1 are read as they stand, and fail just where none stands.
 pub fn fields_are_read()
     ensures { FieldsAreRead }
+{}
+
+/// Fields that were written in V1 are read as they were, whatever is made of them: the law of
+/// [`crate::V1Writer`] and [`crate::V1Reader`].
+pub fn fields_come_back<X>()
+    ensures { FieldsComeBackV1 X }
 {}
 
 /// A file in V1 is read as what it stands for, or refused for the first fault in it.

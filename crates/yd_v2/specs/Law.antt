@@ -1,8 +1,21 @@
--- The law of fields in V2.
+-- The laws of fields in V2.
+use Rattle.std.specs.Prelude.{List}
+use Rattle.yd_ids.specs.Each.{Each}
+use Rattle.yd_fields.specs.Field.{Field, FieldPlan}
+use Rattle.yd_fields.specs.Writes.{with_fields}
 use Rattle.yd_parts.specs.Exact.{ReadsExactly}
-use Rattle.yd_v2.specs.Grammar.{FailsField, StandsField}
+use Rattle.yd_parts.specs.Plan.{Expects}
+use Rattle.yd_v2.specs.Grammar.{FailsField, FillsV2, StandsField}
 use Rattle.yd_v2.specs.Reading.{v2_at, v2_spot}
+use Rattle.yd_v2.specs.Spelled.{V2Spells}
+use Rattle.yd_v2.specs.Writing.{FitsFile, no_fields, v2_bytes_of_all, v2_put}
 
 -- what V2 reads of a field is what stands there, and it fails just where none does
 abbrev pub FieldsAreRead : Type 0
 FieldsAreRead = ReadsExactly v2_at v2_spot StandsField FailsField
+
+-- fields that were written are read as they were: what a plan makes of them stands in the file of their columns and their rest,
+-- and nothing else, where the columns have lengths that are read
+abbrev pub FieldsComeBackV2 : Type 0 → Type 0
+FieldsComeBackV2 X = (fields : List Field) (plan : FieldPlan X) (x : X) → Each V2Spells fields → FitsFile (with_fields v2_put fields no_fields) →
+    Expects plan fields x → FillsV2 plan (v2_bytes_of_all fields) x

@@ -3,12 +3,18 @@
 ghost use Rattle.yd_fields.specs.Law.{FilesAreOne, FilesAreRead};
 ghost use Rattle.yd_v2.specs.Columns.{FilesAreColumns};
 ghost use Rattle.yd_v2.specs.Grammar.{HasFirstFaultV2, StandsForV2};
-ghost use Rattle.yd_v2.specs.Law.{FieldsAreRead};
+ghost use Rattle.yd_v2.specs.Law.{FieldsAreRead, FieldsComeBackV2};
 ghost use Rattle.yd_v2.specs.Reading.{v2_reading};
 
 /// The fields of V2 are read as they stand, and fail just where none stands.
 pub fn fields_are_read()
     ensures { FieldsAreRead }
+{}
+
+/// Fields that were written in V2 are read as they were, whatever is made of them: the law of
+/// [`crate::V2Writer`] and [`crate::V2Reader`].
+pub fn fields_come_back<X>()
+    ensures { FieldsComeBackV2 X }
 {}
 
 /// A file in V2 is read as what it stands for, or refused for the first fault in it.
