@@ -1,0 +1,66 @@
+'use strict';
+
+// Compares ydoc with the real Yjs: `node interop.js [--builds N] [WORD]`. A WORD leaves only the
+// cases whose names have it, and N builds of the program share the cases.
+
+const fs = require('node:fs');
+const os = require('node:os');
+const path = require('node:path');
+const { parseArgs } = require('node:util');
+const { convertCases } = require('./convert.js');
+const { answersOf } = require('./program.js');
+const { sessions } = require('./sessions.js');
+
+/** The cases whose names have the word. */
+function casesWith(word) {
+  const all = sessions().flatMap(convertCases);
+  const cases = all.filter(({ name }) => name.includes(word));
+  if (cases.length === 0) {
+    throw new Error(`no name of a case has ${word}`);
+  }
+  return cases;
+}
+
+/** Prints what is wrong with a case. */
+function tell({ name, words, files }, { lines }, { expected, came }) {
+  const given = files.map((file) => `${file.form}:${file.name}`);
+  console.log(`interop: ${name}: ${['ydoc', ...words, ...given].join(' ')}`);
+  console.log(`  expected: ${expected}`);
+  console.log(`  came: ${[came, ...lines].join('\n  | ')}`);
+}
+
+/** Runs the cases, tells each that failed, and gives how many these are. */
+async function failures(cases, folder, builds) {
+  const answers = await answersOf(cases, folder, builds);
+  let failed = 0;
+  for (const asked of cases) {
+    const answer = answers.get(asked.name);
+    const wrong = asked.judge(answer);
+    if (wrong !== null) {
+      tell(asked, answer, wrong);
+      failed += 1;
+    }
+  }
+  return failed;
+}
+
+async function main() {
+  // Half of the processors, since rt uses a second one for each build.
+  const builds = { type: 'string', default: `${Math.max(1, os.cpus().length >> 1)}` };
+  const { values, positionals } = parseArgs({ options: { builds }, allowPositionals: true });
+  const cases = casesWith(positionals[0] ?? '');
+  const folder = fs.mkdtempSync(path.join(os.tmpdir(), 'interop-'));
+  const failed = await failures(cases, folder, Number(values.builds));
+  if (failed === 0) {
+    fs.rmSync(folder, { recursive: true });
+    console.log(`interop: ok, ${cases.length} cases`);
+  } else {
+    console.log(`interop: ${failed} of ${cases.length} cases failed; their files are in ${folder}`);
+    process.exitCode = 1;
+  }
+}
+
+main().catch((error) => {
+  console.log(`interop: ${error.message}`);
+  process.exitCode = 1;
+});

@@ -1,0 +1,80 @@
+'use strict';
+
+const { inspect } = require('node:util');
+const decoding = require('lib0/decoding');
+const Y = require('yjs');
+const { APPLIED, newDocument } = require('./session.js');
+
+const DECODED = { v1: Y.decodeUpdate, v2: Y.decodeUpdateV2 };
+const READ = { v1: Y.readUpdate, v2: Y.readUpdateV2 };
+
+/** A value as text: the same for equal values, in whichever order an object has its keys. */
+function written(value) {
+  const whole = { depth: null, maxArrayLength: null, maxStringLength: null, sorted: true };
+  return inspect(value, { ...whole, breakLength: 100 });
+}
+
+/** What a struct holds. */
+function contentOf({ content }) {
+  switch (content?.constructor) {
+    case undefined:
+      return null;
+    case Y.ContentFormat:
+      return { key: content.key, value: content.value };
+    case Y.ContentString:
+      return content.str;
+    case Y.ContentType: {
+      const { constructor, nodeName, hookName } = content.type;
+      return { type: constructor.name, nodeName, hookName };
+    }
+    default:
+      return content.getContent();
+  }
+}
+
+/** The structs and the deletions of an update, as Yjs decodes it, each in one order. */
+function partsOf(form, bytes) {
+  const { structs, ds } = DECODED[form](bytes);
+  const byClient = [...ds.clients].sort(([one], [other]) => one - other);
+  return {
+    structs: structs.map((struct) => {
+      const { id, length, origin, rightOrigin, parent, parentSub } = struct;
+      const places = { id, length, origin, rightOrigin, parent, parentSub };
+      return { kind: struct.constructor.name, ...places, content: contentOf(struct) };
+    }),
+    deletions: byClient,
+  };
+}
+
+/** Whether Yjs reads these bytes as an update, to their end. */
+function isWhole(form, bytes) {
+  try {
+    const decoder = decoding.createDecoder(bytes);
+    READ[form](decoder, newDocument({}));
+    return !decoding.hasContent(decoder);
+  } catch {
+    return false;
+  }
+}
+
+/** What a document shows in its roots, and what it holds and lets wait, for comparing. */
+function holdings(doc, roots) {
+  const shown = Object.keys(roots).map((name) => {
+    const root = doc.get(name);
+    return { name, json: root.toJSON(), delta: roots[name] === 'text' ? root.toDelta() : null };
+  });
+  return {
+    shown,
+    vector: Y.decodeStateVector(Y.encodeStateVector(doc)),
+    parts: partsOf('v1', Y.encodeStateAsUpdate(doc)),
+  };
+}
+
+/** A document with these roots that has taken the files, one after another. */
+function documentOf(roots, files) {
+  const doc = newDocument(roots);
+  files.forEach(({ form, bytes }) => APPLIED[form](doc, bytes));
+  return doc;
+}
+
+module.exports = { documentOf, holdings, isWhole, partsOf, written };

@@ -1,0 +1,26 @@
+#!/usr/bin/env bash
+# Compares ydoc with the real Yjs, where that can be had: README.md says how.
+set -u
+cd "$(dirname "$0")" || exit 1
+
+# Where Debian puts packages for Node; not every Node looks there by itself.
+export NODE_PATH=${NODE_PATH:+$NODE_PATH:}/usr/share/nodejs
+
+has_yjs() {
+  node -e 'require("yjs")' 2>/dev/null
+}
+
+# install: gets what is missing of the two packages
+install() {
+  local missing=(node-yjs)
+  command -v node >/dev/null || missing+=(nodejs)
+  local get=(apt-get -qq -o Acquire::Retries=1 -o Acquire::http::Timeout=20)
+  "${get[@]}" install -y --no-install-recommends "${missing[@]}" ||
+    { "${get[@]}" update && "${get[@]}" install -y --no-install-recommends "${missing[@]}"; }
+}
+
+if ! has_yjs && ! { install >/dev/null 2>&1 && has_yjs; }; then
+  echo 'interop: not run, since the packages nodejs and node-yjs cannot be had here'
+  exit 0
+fi
+exec node interop.js "$@"
