@@ -34,6 +34,13 @@ impl Units {
         Ok(Units { units })
     }
 
+    /// The units of a list, in memory that is handed in. It takes none.
+    pub fn of_units(units: Vec<u16>) -> Units
+        ensures { result ≡ units.items }
+    {
+        Units { units }
+    }
+
     /// How many UTF-16 units there are, which is the `length` of a JavaScript string.
     pub fn len(&self) -> u64
         ensures { result ≡ length self.now }

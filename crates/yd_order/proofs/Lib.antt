@@ -1,0 +1,13 @@
+pub mod AmongLemmas
+pub mod ArrangementLemmas
+pub mod AscendingLemmas
+pub mod CountingLemmas
+pub mod FillingLemmas
+pub mod LinkedLemmas
+pub mod LinkingLemmas
+pub mod NumberingLemmas
+pub mod PairLemmas
+pub mod PermutedLemmas
+pub mod RowLemmas
+pub mod RunLemmas
+pub mod SortedLemmas

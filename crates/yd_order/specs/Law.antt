@@ -1,0 +1,16 @@
+-- The law of the order of every table, whether it fits or not.
+use Rattle.std.specs.Prelude.{◌≡◌, ◌↔◌, List}
+use Rattle.yd_ids.specs.declared.id.Id.{Id}
+use Rattle.yd_origins.specs.Ids.{IsIn}
+use Rattle.yd_origins.specs.Table.{Row, OriginTable, ids_of, IsTable, IsRowOf}
+use Rattle.yd_origins.specs.Before.{IsInOrder}
+use Rattle.yd_origins.specs.Sorted.{goes_first, origin_order}
+
+-- in the order of a table a row stands in front of another where fewer rows are before it, or as many and its id is
+-- smaller; no other list of the rows is so, and their arrangement in the table makes no difference
+pub record CountsDecide : Type 0 where
+  pub in_order : (table : OriginTable) → IsTable table → IsInOrder (goes_first table) (origin_order table)
+  pub alone : (table : OriginTable) (list : List Id) → IsTable table → IsInOrder (goes_first table) list → ((x : Id) → IsIn x list ↔ IsIn x (ids_of table)) →
+      list ≡ origin_order table
+  pub any_arrangement : (table other : OriginTable) → IsTable table → IsTable other → ((row : Row) → IsRowOf row table ↔ IsRowOf row other) →
+      origin_order other ≡ origin_order table

@@ -1,0 +1,60 @@
+//! The laws of the order and of the integration scan, each the contract of an empty function.
+
+ghost use Rattle.yd_order.specs.Law.{CountsDecide};
+ghost use Rattle.yd_origins.specs.Law.{LinesDecide, OneIsBefore, OrderIsStrict, PartKeepsOrder, ScanKeepsOrder, ScansGiveOrder, SortingGivesOrder};
+
+use yd_origins::law;
+
+/// In every table how many rows are before each decides the order, and ties go by id.
+pub fn counts_decide()
+    ensures { CountsDecide }
+{}
+
+/// Of two rows of a table the first of the six lines that applies decides which is before.
+pub fn lines_decide()
+    ensures { LinesDecide }
+{
+    law::lines_decide();
+}
+
+/// Of two rows of a table one is before the other.
+pub fn one_is_before()
+    ensures { OneIsBefore }
+{
+    law::one_is_before();
+}
+
+/// In a table that fits the order is strict, and each row stands between its left and its right.
+pub fn order_is_strict()
+    ensures { OrderIsStrict }
+{
+    law::order_is_strict();
+}
+
+/// A part that has the lefts and rights of its rows is a table that fits, with the same order.
+pub fn part_keeps_order()
+    ensures { PartKeepsOrder }
+{
+    law::part_keeps_order();
+}
+
+/// The sorted rows are the one list of them in order.
+pub fn sorting_gives_order()
+    ensures { SortingGivesOrder }
+{
+    law::sorting_gives_order();
+}
+
+/// In a table that fits the scan puts the new row where the order has it.
+pub fn scan_keeps_order()
+    ensures { ScanKeepsOrder }
+{
+    law::scan_keeps_order();
+}
+
+/// Growing by scans, in any arrangement, gives the sorted rows.
+pub fn scans_give_order()
+    ensures { ScansGiveOrder }
+{
+    law::scans_give_order();
+}

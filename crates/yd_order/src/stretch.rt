@@ -1,0 +1,17 @@
+//! Stretches: units of one client in a row, as the order sees them.
+
+use yd_ids::Id;
+
+/// Units of one client with clocks in a row. Each but the first has the unit before it as its left
+/// origin, and all have one right origin.
+#[derive(Clone, Copy, Debug, PartialEq, Eq)]
+pub struct Stretch {
+    /// The id of the first unit.
+    pub id: Id,
+    /// How many units there are.
+    pub len: u64,
+    /// The left origin of the first unit.
+    pub left: Option<Id>,
+    /// The right origin of each unit.
+    pub right: Option<Id>,
+}
