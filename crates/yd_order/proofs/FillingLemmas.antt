@@ -1,4 +1,4 @@
--- The lines over cells, and what each filled pair adds to the table of pairs.
+-- The lines over cells say which of two rows is before the other.
 use Rattle.std.proofs.Common.{◌≡◌, ◌≢◌, ℕ, ◌<◌, Bool, true, false, ◌||◌, List, length, get_or, nat_eq, Option, Some, None, inl, inr, refl, sym, ◌∙◌, subst, true≢false, arith, tests}
 use Rattle.std.specs.Prelude.{IfSome}
 use Rattle.std.proofs.lemmas.Bool.{cases_eq}

@@ -2,12 +2,15 @@
 
 ghost use Rattle.std.specs.Prelude.{◌≡◌, ◌*◌, length, map, IfOk};
 ghost use Rattle.yd_ids.specs.Each.{Each};
+ghost use Rattle.yd_meaning.specs.Order.{rows_of};
+ghost use Rattle.yd_ops.specs.View.{run_value};
 ghost use Rattle.yd_origins.specs.Sorted.{origin_order};
 ghost use Rattle.yd_origins.specs.Table.{IsTable};
 ghost use Rattle.yd_order.specs.Counting.{id_of_place};
 ghost use Rattle.yd_order.specs.Filling.{AreFilled};
 ghost use Rattle.yd_order.specs.Linking.{AreLinked, table_of_linked};
 ghost use Rattle.yd_order.specs.Rows.{AreAscending, table_of};
+ghost use Rattle.yd_order.specs.Runs.{operations_of_runs, RunEndsAtClock};
 ghost use Rattle.yd_order.specs.Stretch.{EndsAtClock, rows_of_stretches, among_rows};
 
 use crate::counting::{Place, counted};
@@ -16,9 +19,26 @@ use crate::filling::filled;
 use crate::linking::{LinkedRow, linked};
 use crate::numbering::numbered;
 use crate::rows::{OriginRow, ascending};
+use crate::runs::stretches_of;
 use crate::stretch::Stretch;
 use std::alloc::Global;
 use yd_ids::Id;
+use yd_ops::Run;
+
+/// The ids of the runs' operations in the order that their origins give, where a right origin that
+/// is not one of these operations counts as absent. It takes time with the square of how many
+/// operations there are, and as many bytes.
+pub fn arrange(alloc: Global, runs: &[Run]) -> Result<Vec<Id>, NoMemory>
+    requires clocks { Each RunEndsAtClock (map run_value runs.now) }
+    requires table { let operations = operations_of_runs (map run_value runs.now) in
+        IsTable (among_rows (rows_of operations)) }
+    ensures { let operations = operations_of_runs (map run_value runs.now) in
+        IfOk result (λ order. order.items ≡ origin_order (among_rows (rows_of operations))) }
+{
+    let stretches = stretches_of(alloc, runs)?;
+    let order = arrange_stretches(alloc, &stretches)?;
+    Ok(order)
+}
 
 /// The ids of the stretches in the order that their origins give, where a right origin that is not
 /// the id of one of them counts as absent. It takes time with the square of how many units there

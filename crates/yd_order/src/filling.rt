@@ -1,7 +1,6 @@
 //! The table of pairs, filled by the six lines.
 
-ghost use Rattle.std.specs.Prelude.{◌≡◌, ◌≢◌, ◌<◌, ◌+◌, ◌*◌, length, false, IfSome, IfOk};
-ghost use Rattle.std.proofs.Common.{replicate};
+ghost use Rattle.std.specs.Prelude.{◌≡◌, ◌≢◌, ◌<◌, ◌+◌, ◌*◌, length, replicate, false, IfSome, IfOk};
 ghost use Rattle.yd_origins.specs.Table.{IsTable};
 ghost use Rattle.yd_order.specs.Filling.{is_before_at, cell_at, reaches_place, reaches_left, right_reaches, is_same_link, is_later_link, IsAsked, FillsPair, AreFilled, AreFilledBelow};
 ghost use Rattle.yd_order.specs.Linking.{AreLinked, table_of_linked};
@@ -38,7 +37,8 @@ fn empty(alloc: Global, count: usize) -> Result<Vec<bool>, NoMemory>
     Ok(cells)
 }
 
-/// Fills the pairs of the row with a number and each row with a smaller one.
+/// Fills the pairs of the row with a number and each row with a smaller one, in the order of these.
+/// So each line asks only for pairs that are filled.
 fn fill_row(rows: &[LinkedRow], order: &[usize], cells: &mut [bool], number: usize)
     requires links { AreLinked rows.now }
     requires table { IsTable (table_of_linked rows.now) }

@@ -3,7 +3,8 @@
 //! [`arrange`] takes runs, and [`arrange_stretches`] what the order sees of them. Both answer the
 //! ids exactly as `origin_order` (yd_origins) defines it, whether the units keep the edit rules or
 //! not, in time and bytes with the square of how many units there are. Where they keep them, the
-//! integration scan gives the same list ([`law`]). A call that finds no memory answers [`NoMemory`].
+//! integration scan gives the same list ([`law`]). A call that finds no memory answers
+//! [`NoMemory`].
 //!
 //! ```rust
 //! let order = arrange_stretches(alloc, &stretches)?;
@@ -22,7 +23,6 @@ mod rows;
 mod runs;
 mod stretch;
 
-pub use arranging::arrange_stretches;
+pub use arranging::{arrange, arrange_stretches};
 pub use fault::NoMemory;
-pub use runs::arrange;
 pub use stretch::Stretch;

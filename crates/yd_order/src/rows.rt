@@ -49,7 +49,8 @@ fn expanded(alloc: Global, stretches: &[Stretch]) -> Result<Vec<OriginRow>, NoMe
 /// Appends the rows of a stretch.
 fn push_rows(rows: &mut Vec<OriginRow>, stretch: Stretch) -> Result<(), NoMemory>
     requires { EndsAtClock stretch }
-    ensures { OnOk result (table_of rows.new.items ≡ table_of rows.old.items ++ rows_of_stretch stretch) }
+    ensures { OnOk result
+        (table_of rows.new.items ≡ table_of rows.old.items ++ rows_of_stretch stretch) }
 {
     let mut left = stretch.left;
     for count in 0..stretch.len {
