@@ -1,0 +1,214 @@
+-- Ids of a list that are in a row: the units that they lend are those of their entry.
+use Rattle.std.proofs.Common.{◌≡◌, ℕ, zero, suc, ◌+◌, ◌-◌, ◌<◌, ◌≤◌, Bool, true, false, List, [], ◌∷◌, ◌++◌, Some, inl, inr, length, take, drop, map, get_or, refl, sym, ap, ◌∙◌, subst, arith}
+use Rattle.std.specs.Prelude.{◌↔◌, slice_get}
+use Rattle.std.proofs.lemmas.Option.{slice_get-get_or}
+use Rattle.std.proofs.lemmas.Bool.{or_right}
+use Rattle.yd_ids.specs.declared.id.Id.{Id}
+use Rattle.yd_ids.specs.declared.id.Span.{Span}
+use Rattle.yd_ids.specs.Id.{IsClock}
+use Rattle.yd_ids.specs.Set.{HasId}
+use Rattle.yd_ops.specs.declared.runs.Run.{Run}
+use Rattle.yd_ops.specs.Operation.{UnitContent, Operation, later_id, units_of_content}
+use Rattle.yd_ops.specs.Value.{len_of}
+use Rattle.yd_ops.specs.View.{content_value}
+use Rattle.yd_ops.proofs.OperationLemmas.{length-units_of_content}
+use Rattle.yd_origins.specs.Ids.{is_same, IsIn, AreDistinct}
+use Rattle.yd_origins.specs.Table.{ids_of}
+use Rattle.yd_origins.proofs.IdLemmas.{same_itself, other_id}
+use Rattle.yd_origins.proofs.TestLemmas.{one_answer}
+use Rattle.yd_meaning.specs.Received.{IsOneOf, has_operation}
+use Rattle.yd_meaning.specs.Held.{is_named}
+use Rattle.yd_meaning.specs.Order.{rows_of}
+use Rattle.yd_meaning.specs.Document.{operation_before, operations_at}
+use Rattle.yd_meaning.proofs.RowLemmas.{one_row, written_distinct}
+use Rattle.yd_received.specs.declared.taken.Taken.{Taken}
+use Rattle.yd_received.specs.Taken.{units_of, list_at, operations_of_taken, IsTakenOf, AreTaken, held_in, covers}
+use Rattle.yd_doc.specs.Lent.{Lent, lent, lent_from, lent_in, IsRow}
+use Rattle.yd_received.specs.Taking.{is_covered}
+use Rattle.yd_received.proofs.EntriesLemmas.{IsEntry}
+use Rattle.yd_doc.proofs.NamedLemmas.{named_decides}
+use Rattle.yd_held.proofs.HeldUnitLemmas.{covers_less, less_covers, covers_unit}
+use Rattle.yd_held.proofs.HeldEntryLemmas.{is_taken, held_written, entry_held, covers_held, id_held}
+use Rattle.yd_received.proofs.UnitLemmas.{later_none, later_later, later_same, from_unit}
+
+-- what is asked of a set is whether its spans name the id
+pub asked_named : (deletes : List Span) (x : Id) (b : Bool) → (b ≡ true) ↔ HasId deletes x → b ≡ is_named deletes x
+asked_named deletes x b e = one_answer b (is_named deletes x) e (named_decides deletes x)
+
+-- ---- ids in a row
+
+pub row_one : (deletes : List Span) (id : Id) (order : List Id) → slice_get order 0 ≡ Some id → IsRow deletes (is_named deletes id) id 1 order
+row_one deletes id [] e = absurd cc
+row_one deletes id (x ∷ order) e = (one_id e, ap (is_named deletes) (one_id e), tt)
+  where
+    one_id : Some x ≡ Some id → x ≡ id
+    one_id f = cc
+
+-- one more
+pub row_more : (deletes : List Span) (deleted : Bool) (id : Id) (n : ℕ) (order : List Id) (d : Id) → IsRow deletes deleted id n order → n < length order →
+    get_or order n d ≡ later_id id n → is_named deletes (get_or order n d) ≡ deleted → IsRow deletes deleted id (suc n) order
+row_more deletes deleted id n [] d row lt e named = absurd (omega arith)
+row_more deletes deleted id zero (x ∷ order) d row lt e named = (e ∙ later_none id, named, tt)
+row_more deletes deleted id (suc n) (x ∷ order) d row lt e named = (
+  row.0,
+  row.1,
+  row_more deletes deleted (later_id id 1) n order d row.2 (omega arith) (e ∙ later_same id (suc n) (1 + n) (omega arith) ∙ sym (later_later id 1 n)) named,
+)
+
+pub row_within : (deletes : List Span) (deleted : Bool) (id : Id) (n : ℕ) (order : List Id) → IsRow deletes deleted id n order → n ≤ length order
+row_within deletes deleted id zero order row = omega arith
+row_within deletes deleted id (suc n) [] row = absurd row
+row_within deletes deleted id (suc n) (x ∷ order) row = let rest = row_within deletes deleted (later_id id 1) n order row.2 in omega arith
+
+-- ---- units
+
+same_place : {X : Type 0} (xs : List X) (i k : ℕ) → i ≡ k → slice_get xs i ≡ slice_get xs k
+same_place xs i k e = ap (slice_get xs) e
+
+slice_get-take : {X : Type 0} (n : ℕ) (xs : List X) (i : ℕ) (x : X) → slice_get (take n xs) i ≡ Some x → slice_get xs i ≡ Some x
+slice_get-take zero xs i x e = absurd cc
+slice_get-take (suc n) [] i x e = e
+slice_get-take (suc n) (y ∷ ys) zero x e = e
+slice_get-take (suc n) (y ∷ ys) (suc i) x e = slice_get-take n ys i x e
+
+slice_get-drop : {X : Type 0} (k : ℕ) (xs : List X) (i : ℕ) → slice_get (drop k xs) i ≡ slice_get xs (k + i)
+slice_get-drop zero xs i = same_place xs i (0 + i) (omega arith)
+slice_get-drop (suc k) [] i = refl
+slice_get-drop (suc k) (y ∷ ys) i = slice_get-drop k ys i ∙ same_place (y ∷ ys) (suc (k + i)) (suc k + i) (omega arith)
+
+part_unit : {X : Type 0} (from len : ℕ) (xs : List X) (m k : ℕ) (x : X) → slice_get (take len (drop from xs)) m ≡ Some x → k ≡ from + m → slice_get xs k ≡ Some x
+part_unit from len xs m k x e place = same_place xs k (from + m) place ∙ sym (slice_get-drop from xs m) ∙ slice_get-take len (drop from xs) m x e
+
+unit_place : (from id x : Id) (m i : ℕ) → from.clock ≤ id.clock → x ≡ later_id from m → x ≡ later_id id i → m ≡ (id.clock - from.clock) + i
+unit_place from id x m i low f e = let clocks : from.clock + m ≡ id.clock + i = ap (λ (y : Id). y.clock) (sym f ∙ e) in omega arith
+
+drop_here : {X : Type 0} (k : ℕ) (xs : List X) (x : X) → slice_get xs k ≡ Some x → drop k xs ≡ x ∷ drop (suc k) xs
+drop_here k [] x e = absurd cc
+drop_here zero (y ∷ ys) x e = ap (λ z. z ∷ ys) (one e)
+  where
+    one : Some y ≡ Some x → y ≡ x
+    one f = cc
+drop_here (suc k) (y ∷ ys) x e = drop_here k ys x e
+
+-- ---- operations
+
+entry_covers : (ts : List Taken) (t : Taken) (x : Id) → IsEntry t ts → covers t x ≡ true → is_covered ts x ≡ true
+entry_covers [] t x i e = absurd i
+entry_covers (s ∷ ss) t x (inl f) e = rw (ap (λ u. covers u x) (sym f) ∙ e) refl
+entry_covers (s ∷ ss) t x (inr i) e = or_right (covers s x) (is_covered ss x) (entry_covers ss t x i e)
+
+-- the operation with an id is found by it
+pub found_before : (held : List Operation) (o : Operation) (rest : List Operation) → AreDistinct (ids_of (rows_of held)) → IsOneOf o held →
+    operation_before held o.id rest ≡ o ∷ rest
+found_before [] o rest distinct i = absurd i
+found_before (p ∷ ps) o rest distinct (inl e) = subst (λ q. operation_before (q ∷ ps) o.id rest ≡ o ∷ rest) e (rw (same_itself o.id) refl)
+found_before (p ∷ ps) o rest distinct (inr i) =
+    let other : is_same p.id o.id ≡ false = other_id p.id o.id (λ e. distinct.0 (subst (λ x. IsIn x (ids_of (rows_of ps))) (sym e) (one_row ps o i))) in
+    rw other (found_before ps o rest distinct.1 i)
+
+-- the held operation with an id holds the unit
+abbrev Holds : List Operation → List UnitContent → Id → ℕ → Type 0
+Holds held units x k = (o : Operation) × IsOneOf o held × (o.id ≡ x) × (slice_get units k ≡ Some o.content)
+
+-- ids in a row lend the units that their operations hold, and then come the others
+lent_row : (held : List Operation) → AreDistinct (ids_of (rows_of held)) → (deletes : List Span) (units : List UnitContent) (deleted : Bool) (n k : ℕ) (id : Id) (order : List Id) →
+    ((i : ℕ) → i < n → Holds held units (later_id id i) (k + i)) → IsRow deletes deleted id n order →
+    map (lent (is_named deletes)) (operations_at held order)
+    ≡ lent_from id deleted (take n (drop k units)) ++ map (lent (is_named deletes)) (operations_at held (drop n order))
+lent_row held distinct deletes units deleted zero k id order holds row = refl
+lent_row held distinct deletes units deleted (suc n) k id [] holds row = absurd row
+lent_row held distinct deletes units deleted (suc n) k id (x ∷ order) holds row = first (holds 0 (omega arith))
+    (lent_row held distinct deletes units deleted n (suc k) (later_id id 1) order
+    (λ i lt. let (o, j, e, unit) = holds (suc i) (omega arith) in
+    (o, j, e ∙ later_same id (suc i) (1 + i) (omega arith) ∙ sym (later_later id 1 i), same_place units (suc k + i) (k + suc i) (omega arith) ∙ unit)) row.2)
+  where
+    first : Holds held units (later_id id 0) (k + 0) →
+        map (lent (is_named deletes)) (operations_at held order)
+        ≡ lent_from (later_id id 1) deleted (take n (drop (suc k) units)) ++ map (lent (is_named deletes)) (operations_at held (drop n order)) →
+        map (lent (is_named deletes)) (operations_at held (x ∷ order))
+        ≡ lent_from id deleted (take (suc n) (drop k units)) ++ map (lent (is_named deletes)) (operations_at held (drop n order))
+    first (o, j, e, unit) rest =
+        let has_id : o.id ≡ id = e ∙ later_none id in
+        let here : drop k units ≡ o.content ∷ drop (suc k) units = drop_here k units o.content (same_place units k (k + 0) (omega arith) ∙ unit) in
+        let named : is_named deletes id ≡ deleted = ap (is_named deletes) (sym row.0) ∙ row.1 in
+        ap (λ y. map (lent (is_named deletes)) (operation_before held y (operations_at held order))) (row.0 ∙ sym has_id)
+        ∙ ap (map (lent (is_named deletes))) (found_before held o (operations_at held order) distinct j)
+        ∙ ap (λ (l : List Lent). lent (is_named deletes) o ∷ l) rest
+        ∙ ap (λ (l : Lent). l ∷ (lent_from (later_id id 1) deleted (take n (drop (suc k) units)) ++ map (lent (is_named deletes)) (operations_at held (drop n order))))
+        (same_lent o id deleted has_id (ap (is_named deletes) has_id ∙ named))
+        ∙ ap (λ us. lent_from id deleted (take (suc n) us) ++ map (lent (is_named deletes)) (operations_at held (drop n order))) (sym here)
+      where
+        same_lent : (o : Operation) (id : Id) (deleted : Bool) → o.id ≡ id → is_named deletes o.id ≡ deleted →
+            lent (is_named deletes) o ≡ record { id = id; content = o.content; is_deleted = deleted }
+        same_lent o id deleted e f = λ i. record { id = e i; content = o.content; is_deleted = f i }
+
+-- ---- lemmas for callers
+
+module _ (runs : List Run) (taken : List Taken) (are : AreTaken runs taken) (id : Id) (held : has_operation (held_in runs taken) id ≡ true) where
+  -- a held id is one of those that were taken
+  pub held_covered : is_covered taken id ≡ true
+  held_covered = let (t, i, is, e) = id_held runs taken are.each are.in_order id held in entry_covers taken t id i e
+
+  module _ (t : Taken) (is_there : IsEntry t taken) (is_its : covers t id ≡ true) where
+    abbrev skipped : ℕ
+    skipped = id.clock - t.id.clock
+
+    abbrev all_units : List UnitContent
+    all_units = units_of (slice_get runs t.run)
+
+    -- so many ids from it on are of its entry
+    holds_at : (n : ℕ) → n ≤ t.len - skipped → (i : ℕ) → i < n → Holds (held_in runs taken) all_units (later_id id i) (t.offset + skipped + i)
+    holds_at n le i lt =
+        let own : covers t (later_id id i) ≡ true = less_covers t (later_id id i) client (omega (arith, low)) (omega (arith, low)) in
+        of_one (covers_unit runs t is (later_id id i) own)
+      where
+        is : IsTakenOf runs t
+        is = is_taken runs taken are.each are.in_order t is_there
+
+        client : t.id.client.0 ≡ id.client.0
+        client = (covers_less t id is_its).0
+
+        low : t.id.clock ≤ id.clock
+        low = (covers_less t id is_its).1
+
+        with_unit : (o : Operation) → IsOneOf o (operations_of_taken runs t) → o.id ≡ later_id id i →
+            (m : ℕ) × (m < length (take t.len (drop t.offset all_units))) × (o.id ≡ later_id t.id m) × (slice_get (take t.len (drop t.offset all_units)) m ≡ Some o.content) →
+            Holds (held_in runs taken) all_units (later_id id i) (t.offset + skipped + i)
+        with_unit o j e (m, less, f, unit) =
+            let place : m ≡ skipped + i = unit_place t.id id o.id m i low f e in (
+              o,
+              entry_held runs taken are.each are.in_order t is_there (covers_held runs taken are.each are.in_order t id is_there is_its held) o j,
+              e,
+              part_unit t.offset t.len all_units m (t.offset + skipped + i) o.content unit (omega arith),
+            )
+
+        of_one : (o : Operation) × IsOneOf o (operations_of_taken runs t) × (o.id ≡ later_id id i) → Holds (held_in runs taken) all_units (later_id id i) (t.offset + skipped + i)
+        of_one (o, j, e) = with_unit o j e (from_unit t.id t.left t.right (list_at (slice_get runs t.run) t.offset) (take t.len (drop t.offset all_units)) o j)
+
+    run_there : (d : Run) → slice_get runs t.run ≡ Some (get_or runs t.run d)
+    run_there d = slice_get-get_or runs t.run d (is_taken runs taken are.each are.in_order t is_there).run_there
+
+    -- so many ids from it on are units of the run, and are in range
+    pub row_inside : (d : Run) (n : ℕ) → n ≤ t.len - skipped →
+        (t.offset + skipped + n ≤ len_of (content_value (get_or runs t.run d).content)) × IsClock (id.clock + n)
+    row_inside d n le =
+        let is = is_taken runs taken are.each are.in_order t is_there in
+        let (client, low, high) = covers_less t id is_its in
+        let many : length (units_of (slice_get runs t.run)) ≡ len_of (content_value (get_or runs t.run d).content) =
+        ap (λ z. length (units_of z)) (run_there d) ∙ length-units_of_content (content_value (get_or runs t.run d).content) in
+        (omega (arith, is.within), omega (arith, is.end))
+
+    pub place_within : (d : Run) → t.offset + skipped ≤ len_of (content_value (get_or runs t.run d).content)
+    place_within d = let (client, low, high) = covers_less t id is_its in let inside = row_inside d 0 (omega arith) in omega (arith, inside.0)
+
+    -- ids in a row of its entry lend the entry's units, and then come the others
+    pub row_lent : (d : Run) (deletes : List Span) (deleted : Bool) (n offset : ℕ) (order : List Id) →
+        deleted ≡ is_named deletes id → offset ≡ t.offset + skipped → n ≤ t.len - skipped → IsRow deletes (is_named deletes id) id n order →
+        lent_in runs taken deletes order
+        ≡ lent_from id deleted (take n (drop offset (units_of_content (content_value (get_or runs t.run d).content)))) ++ lent_in runs taken deletes (drop n order)
+    row_lent d deletes deleted n offset order named place le row =
+        lent_row (held_in runs taken) (written_distinct (held_in runs taken) (held_written runs taken are.each are.in_order)) deletes (units_of (slice_get runs t.run))
+        (is_named deletes id) n (t.offset + skipped) id order (holds_at n le) row
+        ∙ ap (λ z. lent_from id (is_named deletes id) (take n (drop (t.offset + skipped) (units_of z))) ++ lent_in runs taken deletes (drop n order)) (run_there d)
+        ∙ ap (λ k. lent_from id (is_named deletes id) (take n (drop k (units_of_content (content_value (get_or runs t.run d).content)))) ++ lent_in runs taken deletes (drop n order)) (sym place)
+        ∙ ap (λ b. lent_from id b (take n (drop offset (units_of_content (content_value (get_or runs t.run d).content)))) ++ lent_in runs taken deletes (drop n order)) (sym named)

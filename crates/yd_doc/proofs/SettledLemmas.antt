@@ -1,0 +1,77 @@
+-- Which orders stay as they are when more is held, and that arranging the others gives all orders.
+use Rattle.std.proofs.Common.{◌≡◌, ℕ, ◌≤◌, ◌<◌, Bool, true, false, List, [], ◌∷◌, ◌⊎◌, Some, zero, suc, inl, inr, length, map, refl, sym, ap, ◌∙◌, subst, arith}
+use Rattle.std.specs.Prelude.{slice_get}
+use Rattle.std.proofs.lemmas.Option.{slice_get_within}
+use Rattle.yd_ids.specs.declared.id.Id.{Id}
+use Rattle.yd_ops.specs.declared.lists.List.{List as DocList}
+use Rattle.yd_ops.specs.declared.runs.Run.{Run}
+use Rattle.yd_origins.specs.Sorted.{origin_order}
+use Rattle.yd_origins.proofs.TestLemmas.{split}
+use Rattle.yd_meaning.specs.Order.{order_of}
+use Rattle.yd_order.specs.declared.stretch.Stretch.{Stretch}
+use Rattle.yd_order.specs.Stretch.{rows_of_stretches, among_rows}
+use Rattle.yd_received.specs.declared.taken.Taken.{Taken}
+use Rattle.yd_received.specs.Taken.{held_in}
+use Rattle.yd_doc.specs.Ordered.{AreOrders}
+use Rattle.yd_held.specs.Holding.{MarkChanges}
+use Rattle.yd_doc.specs.Marks.{HasMarks}
+use Rattle.yd_doc.specs.Stretches.{stretch_of, stretches_in, order_by_stretches, AreSettled, AreGathered, IsTableOfStretches, HaveOrders, IsKeptOrMade, AreKeptOrMade}
+use Rattle.yd_doc.proofs.ListOrderLemmas.{AreHeld, order_of-stretches, stretches_are_table, list_stretches_end}
+use Rattle.yd_doc.proofs.KeptOrderLemmas.{ordered_at, at_ordered}
+
+-- what stands at a place below the length
+at_place : {X : Type 0} (xs : List X) (n : ℕ) → n < length xs → (x : X) × (slice_get xs n ≡ Some x)
+at_place [] n lt = absurd (omega arith)
+at_place (x ∷ xs) zero lt = (x, refl)
+at_place (x ∷ xs) (suc n) lt = at_place xs n (omega arith)
+
+-- ---- lemmas for callers
+
+-- where lists without a mark are settled, the stretches that are gathered of the others can be arranged
+pub gathered_have : (runs : List Run) (ts : List Taken) (names : List DocList) (stale : List Bool) (buckets : List (List Stretch)) (orders : List (List Id)) →
+    AreHeld runs ts names → AreSettled stale names orders ts → AreGathered stale ts buckets → HaveOrders stale buckets orders
+gathered_have runs ts names stale buckets orders are s g = record {
+  each = g.each;
+  tables = λ n stretches marked there. let (name, named) = at_place names n (omega (arith, s.each, slice_get_within stale n true marked)) in
+      subst IsTableOfStretches (one_list n stretches (sym (g.gathered n marked) ∙ there))
+      (record { clocks = list_stretches_end runs ts names are n name named; table = stretches_are_table runs ts names are n name named });
+  orders = λ n unmarked. slice_get_within orders n (order_by_stretches n ts) (s.settled n unmarked);
+}
+  where
+    one_list : (n : ℕ) (stretches : List Stretch) → Some (stretches_in n ts) ≡ Some stretches → stretches_in n ts ≡ stretches
+    one_list n stretches e = cc
+
+-- and keeping the former and arranging the latter gives the order of each
+pub settled_orders : (runs : List Run) (ts : List Taken) (names : List DocList) (stale : List Bool) (buckets : List (List Stretch)) (orders made : List (List Id)) →
+    AreHeld runs ts names → AreSettled stale names orders ts → AreGathered stale ts buckets →
+    length made ≡ length stale → AreKeptOrMade stale buckets orders made → AreOrders (held_in runs ts) names made
+settled_orders runs ts names stale buckets orders made are s g each kept = at_ordered (held_in runs ts) names made (sym (each ∙ s.each)) at
+  where
+    at : (n : ℕ) (name : DocList) → slice_get names n ≡ Some name → slice_get made n ≡ Some (order_of (held_in runs ts) name)
+    at n name named = let (order, there) = at_place made n (omega (arith, each, s.each, slice_get_within names n name named)) in
+        let (mark, marked) = at_place stale n (omega (arith, s.each, slice_get_within names n name named)) in
+        there ∙ ap Some (go order mark marked (kept n order there) ∙ sym (order_of-stretches runs ts names are n name named))
+      where
+        one_order : (a b : List Id) → Some a ≡ Some b → b ≡ a
+        one_order a b e = cc
+
+        go : (order : List Id) (mark : Bool) → slice_get stale n ≡ Some mark → IsKeptOrMade stale buckets orders n order → order ≡ order_by_stretches n ts
+        go order true e is = is.made (stretches_in n ts) e (g.gathered n e)
+        go order false e is = one_order (order_by_stretches n ts) order (sym (s.settled n e) ∙ is.kept e)
+
+-- where the orders were those of what was held, each list without a mark has the units that it had, and each mark from the
+-- number of the old lists on is set, the lists without a mark are settled
+pub settled_after : (runs : List Run) (before ts : List Taken) (old new : List DocList) (orders : List (List Id)) (stale marks : List Bool) →
+    AreHeld runs before old → AreOrders (held_in runs before) old orders → MarkChanges stale before ts (length new) → HasMarks (length old) stale marks →
+    AreSettled marks new orders ts
+settled_after runs before ts old new orders stale marks are ordered changes m = record { each = m.each ∙ changes.each; settled = at }
+  where
+    at : (n : ℕ) → slice_get marks n ≡ Some false → slice_get orders n ≡ Some (order_by_stretches n ts)
+    at n e = go (split (length old) n)
+      where
+        go : (length old ≤ n) ⊎ (n < length old) → slice_get orders n ≡ Some (order_by_stretches n ts)
+        go (inl le) = let clash : Some true ≡ Some false = sym (m.set n le (slice_get_within marks n false e)) ∙ e in cc
+        go (inr lt) = let (name, named) = at_place old n lt in
+            ordered_at (held_in runs before) old orders ordered n name named
+            ∙ ap Some (order_of-stretches runs before old are n name named)
+            ∙ ap (λ (entries : List Taken). Some (origin_order (among_rows (rows_of_stretches (map stretch_of entries))))) (sym (changes.kept n (sym (m.before n lt) ∙ e)))

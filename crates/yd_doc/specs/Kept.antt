@@ -1,0 +1,22 @@
+-- What contracts see of a replica.
+use Rattle.std.specs.Prelude.{Bool}
+use Rattle.yd_ids.specs.declared.id.Client.{Client}
+use Rattle.yd_ids.specs.Id.{IsClient}
+use Rattle.yd_meaning.specs.Received.{Received}
+use Rattle.yd_doc.specs.declared.state.State.{State}
+use Rattle.yd_doc.specs.State.{received_in, IsSound}
+
+-- whose replica it is, whether it is behind, and what it keeps
+pub record Kept : Type 0 where
+  pub client : Client
+  pub is_behind : Bool
+  pub state : State
+
+-- what it received
+abbrev pub received_of : Kept → Received
+received_of r = received_in r.state
+
+-- all that it keeps is what it received defines
+pub record IsReplica (r : Kept) : Type 0 where
+  pub client : IsClient r.client
+  pub sound : IsSound r.state

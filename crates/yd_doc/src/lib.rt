@@ -1,0 +1,29 @@
+//! A replica: what one client received, and the document that this defines.
+//!
+//! All that it tells is what the operations and deletions that it received define (`yd_meaning`),
+//! in whatever order and however often they came ([`Replica`]). An `apply` that finds no memory has
+//! received nothing, and leaves what the replica tells as it was.
+//!
+//! ```rust
+//! let mut replica = Replica::new(alloc, Client(1))?;
+//! let brings = replica.apply(&update)?;
+//! let units = replica.list(&list);
+//! ```
+#![tactic(auto)]
+
+mod applying;
+mod deleting;
+mod draft;
+mod fault;
+mod finding;
+mod listing;
+mod novelty;
+mod ordering;
+mod replica;
+mod state;
+mod waiting;
+
+pub use fault::NoMemory;
+pub use listing::{ListView, RunView};
+pub use replica::Replica;
+pub use waiting::Waiting;

@@ -1,0 +1,12 @@
+pub mod CarriedLemmas
+pub mod HeldEntryLemmas
+pub mod HeldUnitLemmas
+pub mod HoldAtLemmas
+pub mod HoldListLemmas
+pub mod HoldStepLemmas
+pub mod HoldingLemmas
+pub mod NamingLemmas
+pub mod NumberOfLemmas
+pub mod NumberedLemmas
+pub mod NumberingLemmas
+pub mod ReadyLemmas

@@ -1,0 +1,52 @@
+-- Which lists a change left as they were, and what stays true while units are held (own).
+use Rattle.std.specs.Prelude.{◌≡◌, ◌≢◌, ◌≤◌, ℕ, suc, max, Bool, false, List, [], ◌∷◌, Some, filter, slice_get, length, if◌then◌else◌}
+use Rattle.yd_ids.specs.declared.id.Client.{Client}
+use Rattle.yd_ids.specs.Each.{Each}
+use Rattle.yd_ops.specs.declared.lists.List.{List as DocList}
+use Rattle.yd_ops.specs.declared.runs.Run.{Run}
+use Rattle.yd_meaning.specs.Held.{held_set}
+use Rattle.yd_received.specs.declared.taken.Taken.{Taken}
+use Rattle.yd_received.specs.Taken.{AreTaken, operations_in, held_in, is_held}
+use Rattle.yd_held.specs.Numbered.{is_in_list, IsVectorOf, AreNumbered}
+use Rattle.yd_held.specs.Readiness.{is_ready}
+
+-- there is a mark for each list, and one without a mark has the units that it had
+pub record MarkChanges (stale : List Bool) (old new : List Taken) (lists : ℕ) : Type 0 where
+  pub each : length stale ≡ lists
+  pub kept : (n : ℕ) → slice_get stale n ≡ Some false → filter (is_in_list n) new ≡ filter (is_in_list n) old
+
+-- ---- while it is held
+
+-- what is held has all that it needs, the vector counts it, and it has the numbers of its lists
+pub record IsHolding (runs : List Run) (taken : List Taken) (vector : List (Client × ℕ)) (names : List DocList) : Type 0 where
+  pub in_order : AreTaken runs taken
+  pub own : held_in runs taken ≡ held_set (held_in runs taken)
+  pub counted : IsVectorOf vector runs taken
+  pub numbered : AreNumbered runs taken names
+
+-- the units with the number of a list
+abbrev pub with_number : Taken → ℕ → Taken
+with_number t n = record { id = t.id; len = t.len; left = t.left; right = t.right; run = t.run; offset = t.offset; list = Some n }
+
+-- how many entries wait
+abbrev pub count_waiting : List Taken → ℕ
+count_waiting [] = 0
+count_waiting (t ∷ ts) = if is_held t then count_waiting ts else suc (count_waiting ts)
+
+-- no entry is ready
+abbrev pub AreUnready : List (Client × ℕ) → List Run → List Taken → Type 0
+AreUnready vector runs taken = Each (λ t. is_ready vector runs t ≡ false) taken
+
+-- the same is received and more of it is held; there is a mark for each list, and one without a mark had none before, and has
+-- the units that it had
+pub record HoldsMore (runs : List Run) (old new : List Taken) (marks marked : List Bool) (lists : ℕ) : Type 0 where
+  pub operations : operations_in runs new ≡ operations_in runs old
+  pub entries : length new ≡ length old
+  pub each : length marked ≡ lists
+  pub kept : (n : ℕ) → slice_get marked n ≡ Some false → (slice_get marks n ≡ Some false) × (filter (is_in_list n) new ≡ filter (is_in_list n) old)
+  pub fewer : count_waiting new ≤ count_waiting old
+
+-- the mark at a place is set, where there was one or behind the last
+pub record SetsMark (n : ℕ) (marks marked : List Bool) : Type 0 where
+  pub each : length marked ≡ max (length marks) (suc n)
+  pub kept : (m : ℕ) → slice_get marked m ≡ Some false → (m ≢ n) × (slice_get marks m ≡ Some false)

@@ -1,0 +1,4 @@
+pub mod Holding
+pub mod Numbered
+pub mod Numbering
+pub mod Readiness

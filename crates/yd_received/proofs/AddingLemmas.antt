@@ -1,0 +1,172 @@
+-- One entry more, at its place: what it adds, and what stays.
+use Rattle.std.proofs.Common.{◌≡◌, ℕ, zero, suc, ◌+◌, ◌<◌, ◌≤◌, true, false, List, [], ◌∷◌, ◌++◌, length, take, drop, Some, ◌⊎◌, inl, inr, refl, sym, ap, ◌∙◌, subst, arith}
+use Rattle.std.specs.Prelude.{slice_get, filter, IfSome}
+use Rattle.std.proofs.lemmas.List.{take-append-drop}
+use Rattle.std.proofs.lemmas.List.Elements.{filter-append}
+use Rattle.std.proofs.lemmas.Option.{slice_get_within}
+use Rattle.yd_ids.specs.Each.{Each}
+use Rattle.yd_ids.specs.Id.{IsId}
+use Rattle.yd_ids.proofs.EachLemmas.{each_append}
+use Rattle.yd_ops.specs.declared.runs.Run.{Run}
+use Rattle.yd_ops.specs.Operation.{UnitContent, Operation, later_id, units_of_content, operations_from}
+use Rattle.yd_ops.specs.Value.{RunValue, len_of}
+use Rattle.yd_ops.specs.Valid.{CarriesList}
+use Rattle.yd_ops.specs.View.{run_value, content_value}
+use Rattle.yd_ops.proofs.OperationLemmas.{length-units_of_content}
+use Rattle.yd_meaning.specs.Received.{IsOneOf}
+use Rattle.yd_meaning.proofs.OneOfLemmas.{one_of_front, one_of_back, one_of_parts}
+use Rattle.yd_received.specs.declared.taken.Taken.{Taken}
+use Rattle.yd_received.specs.Taken.{units_of, list_at, operations_of_taken, operations_in, IsTakenOf, StandsBefore, AreInOrder, is_held}
+use Rattle.yd_received.specs.Taking.{left_at, list_from, half_at, entry_of, IsRun, IsKept, Adds, operations_of_piece, IsRoom}
+use Rattle.yd_received.proofs.TakenLemmas.{operations_in-append, grow_none}
+use Rattle.yd_received.proofs.UnitLemmas.{part_from}
+
+-- ---- an entry between others
+
+each_parts : {X : Type 0} (P : X → Type 0) (xs ys : List X) → Each P (xs ++ ys) → Each P xs × Each P ys
+each_parts P [] ys e = (tt, e)
+each_parts P (x ∷ xs) ys e = let (front, back) = each_parts P xs ys e.1 in ((e.0, front), back)
+
+-- what holds of each entry and of one more holds of each with it
+pub each_with : (P : Taken → Type 0) (ts : List Taken) (at : ℕ) (t : Taken) → Each P ts → P t → Each P (take at ts ++ t ∷ drop at ts)
+each_with P ts at t each here =
+    let (front, back) = each_parts P (take at ts) (drop at ts) (subst (Each P) (sym (take-append-drop at ts)) each) in
+    each_append P (take at ts) (t ∷ drop at ts) front (here, back)
+
+order_with : (ts : List Taken) (at : ℕ) (t : Taken) → AreInOrder ts → Each (λ s. StandsBefore s t) (take at ts) → Each (StandsBefore t) (drop at ts) → AreInOrder (take at ts ++ t ∷ drop at ts)
+order_with ts zero t order before behind = (behind, order)
+order_with [] (suc at) t order before behind = (behind, tt)
+order_with (s ∷ ts) (suc at) t order before behind = (each_with (StandsBefore s) ts at t order.0 before.0, order_with ts at t order.1 before.1 behind)
+
+-- one that goes into its room keeps the order
+pub room_order : (ts : List Taken) (at : ℕ) (t : Taken) → AreInOrder ts → IsRoom ts at t.id t.len → AreInOrder (take at ts ++ t ∷ drop at ts)
+room_order ts at t order room = order_with ts at t order room.before room.behind
+
+-- one that waits changes nothing of what is held
+pub held_with : (ts : List Taken) (at : ℕ) (t : Taken) → is_held t ≡ false → filter is_held (take at ts ++ t ∷ drop at ts) ≡ filter is_held ts
+held_with ts at t waits =
+    filter-append is_held (take at ts) (t ∷ drop at ts)
+    ∙ ap (λ us. filter is_held (take at ts) ++ us) (rw waits refl)
+    ∙ sym (filter-append is_held (take at ts) (drop at ts))
+    ∙ ap (λ us. filter is_held us) (take-append-drop at ts)
+
+-- the operations with one more are those and its own
+pub one_with : (runs : List Run) (ts : List Taken) (at : ℕ) (t : Taken) (o : Operation) → IsOneOf o (operations_in runs (take at ts ++ t ∷ drop at ts)) →
+    IsOneOf o (operations_in runs ts) ⊎ IsOneOf o (operations_of_taken runs t)
+one_with runs ts at t o i = elim (one_of_parts o front (operations_of_taken runs t ++ back) (subst (IsOneOf o) (operations_in-append runs (take at ts) (t ∷ drop at ts)) i)) [
+  | inl j ↦ inl (whole (one_of_front o front back j))
+  | inr j ↦ elim (one_of_parts o (operations_of_taken runs t) back j) [ inl k ↦ inr k | inr k ↦ inl (whole (one_of_back o front back k)) ]
+]
+  where
+    front : List Operation
+    front = operations_in runs (take at ts)
+
+    back : List Operation
+    back = operations_in runs (drop at ts)
+
+    whole : IsOneOf o (front ++ back) → IsOneOf o (operations_in runs ts)
+    whole j = subst (λ us. IsOneOf o (operations_in runs us)) (take-append-drop at ts) (subst (IsOneOf o) (sym (operations_in-append runs (take at ts) (drop at ts))) j)
+
+pub one_stays : (runs : List Run) (ts : List Taken) (at : ℕ) (t : Taken) (o : Operation) → IsOneOf o (operations_in runs ts) → IsOneOf o (operations_in runs (take at ts ++ t ∷ drop at ts))
+one_stays runs ts at t o i = subst (IsOneOf o) (sym (operations_in-append runs (take at ts) (t ∷ drop at ts))) (elim (one_of_parts o front back parts) [
+  | inl j ↦ one_of_front o front (operations_of_taken runs t ++ back) j
+  | inr j ↦ one_of_back o front (operations_of_taken runs t ++ back) (one_of_back o (operations_of_taken runs t) back j)
+])
+  where
+    front : List Operation
+    front = operations_in runs (take at ts)
+
+    back : List Operation
+    back = operations_in runs (drop at ts)
+
+    parts : IsOneOf o (front ++ back)
+    parts = subst (IsOneOf o) (operations_in-append runs (take at ts) (drop at ts)) (subst (λ us. IsOneOf o (operations_in runs us)) (sym (take-append-drop at ts)) i)
+
+pub one_new : (runs : List Run) (ts : List Taken) (at : ℕ) (t : Taken) (o : Operation) → IsOneOf o (operations_of_taken runs t) → IsOneOf o (operations_in runs (take at ts ++ t ∷ drop at ts))
+one_new runs ts at t o i = subst (IsOneOf o) (sym (operations_in-append runs (take at ts) (t ∷ drop at ts)))
+    (one_of_back o (operations_in runs (take at ts)) (operations_of_taken runs t ++ operations_in runs (drop at ts)) (one_of_front o (operations_of_taken runs t) (operations_in runs (drop at ts)) i))
+
+-- ---- units of a run
+
+list_kept : (kept : Run) (n : ℕ) → list_at (Some kept) n ≡ list_from kept.list n
+list_kept kept zero = refl
+list_kept kept (suc n) = refl
+
+left_in_range : (run : RunValue) (n : ℕ) → IsRun run → n < len_of run.content → IfSome (left_at run.id run.left n) IsId
+left_in_range run zero is lt = is.valid.left
+left_in_range run (suc n) is lt = record { client = is.client; clock = omega (arith, is.end) }
+
+list_carried : (run : RunValue) (n : ℕ) → IsRun run → CarriesList (left_at run.id run.left n) run.right (list_from run.list n)
+list_carried run zero is = is.valid.list
+list_carried run (suc n) is = tt
+
+-- an entry of units of a run that is kept
+entry_is : (runs : List Run) (run : RunValue) (n index offset count : ℕ) (kept : Run) → IsRun run → slice_get runs index ≡ Some kept → 0 < count → n + count ≤ len_of run.content →
+    offset + count ≤ length (units_of_content (content_value kept.content)) → list_from kept.list offset ≡ list_from run.list n → IsTakenOf runs (entry_of run n index offset count)
+entry_is runs run n index offset count kept is there some le within list = record {
+  run_there = slice_get_within runs index kept there;
+  has_units = some;
+  within = subst (λ r. offset + count ≤ length (units_of r)) (sym there) within;
+  id = record { client = is.client; clock = omega (arith, is.end) };
+  end = omega (arith, is.end);
+  left = left_in_range run n is (omega arith);
+  right = is.valid.right;
+  list = subst (λ r. CarriesList (left_at run.id run.left n) run.right (list_at r offset)) (sym there)
+      (subst (CarriesList (left_at run.id run.left n) run.right) (sym (list_kept kept offset ∙ list)) (list_carried run n is));
+}
+
+entry_operations : (runs : List Run) (run : RunValue) (n index offset count : ℕ) (kept : Run) (units : List UnitContent) → slice_get runs index ≡ Some kept →
+    take count (drop offset (units_of_content (content_value kept.content))) ≡ units → list_from kept.list offset ≡ list_from run.list n →
+    operations_of_taken runs (entry_of run n index offset count) ≡ operations_from (later_id run.id n) (left_at run.id run.left n) run.right (list_from run.list n) units
+entry_operations runs run n index offset count kept units there same list =
+    ap (λ r. operations_from (later_id run.id n) (left_at run.id run.left n) run.right (list_at r offset) (take count (drop offset (units_of r)))) there
+    ∙ ap (λ us. operations_from (later_id run.id n) (left_at run.id run.left n) run.right (list_at (Some kept) offset) us) same
+    ∙ ap (λ l. operations_from (later_id run.id n) (left_at run.id run.left n) run.right l units) (list_kept kept offset ∙ list)
+
+-- ---- lemmas for callers: what a piece adds
+
+module _ (runs : List Run) (ts : List Taken) (run : RunValue) (at from : ℕ) (is : IsRun run) where
+  pub whole_adds : (index count : ℕ) (new : List Taken) → IsKept runs index run → 0 < count → from + count ≤ len_of run.content →
+      new ≡ take at ts ++ entry_of run from index from count ∷ drop at ts → Adds runs ts runs new at (later_id run.id from) count (operations_of_piece run from count false)
+  whole_adds index count new kept some le placed =
+      let content : content_value kept.kept.content ≡ run.content = ap (λ (r : RunValue). r.content) kept.same in
+      let list : list_from kept.kept.list from ≡ list_from run.list from = ap (λ (r : RunValue). list_from r.list from) kept.same in
+      record {
+        grows = grow_none runs;
+        entry = entry_of run from index from count;
+        placed = placed;
+        of_run = entry_is runs run from index from count kept.kept is kept.there some le
+            (omega (arith, ap (λ c. length (units_of_content c)) content, length-units_of_content run.content)) list;
+        first = refl;
+        as_many = refl;
+        waits = refl;
+        operations = entry_operations runs run from index from count kept.kept (take count (drop from (units_of_content run.content))) kept.there
+            (ap (λ c. take count (drop from (units_of_content c))) content) list
+            ∙ sym (part_from from count run.id run.left run.right run.list (units_of_content run.content));
+      }
+
+  get_last : (more : Run) → slice_get (runs ++ more ∷ []) (length runs) ≡ Some more
+  get_last more = go runs
+    where
+      go : (rs : List Run) → slice_get (rs ++ more ∷ []) (length rs) ≡ Some more
+      go [] = refl
+      go (r ∷ rs) = go rs
+
+  pub half_adds : (half : Run) (all : List Run) (new : List Taken) → from < len_of run.content → all ≡ runs ++ half ∷ [] → run_value half ≡ half_at run from →
+      new ≡ take at ts ++ entry_of run from (length runs) 0 1 ∷ drop at ts → Adds runs ts all new at (later_id run.id from) 1 (operations_of_piece run from 1 true)
+  half_adds half all new lt grown same placed =
+      let content : content_value half.content ≡ (half_at run from).content = ap (λ (r : RunValue). r.content) same in
+      let list : list_from half.list 0 ≡ list_from run.list from = ap (λ (r : RunValue). r.list) same in
+      let there : slice_get all (length runs) ≡ Some half = ap (λ rs. slice_get rs (length runs)) grown ∙ get_last half in
+      record {
+        grows = (half ∷ [], grown);
+        entry = entry_of run from (length runs) 0 1;
+        placed = placed;
+        of_run = entry_is all run from (length runs) 0 1 half is there (omega arith) (omega arith)
+            (omega (arith, ap (λ c. length (units_of_content c)) content)) list;
+        first = refl;
+        as_many = refl;
+        waits = refl;
+        operations = entry_operations all run from (length runs) 0 1 half (units_of_content (half_at run from).content) there
+            (ap (λ c. take 1 (units_of_content c)) content) list;
+      }

@@ -1,0 +1,13 @@
+pub mod AddingLemmas
+pub mod BringingLemmas
+pub mod CutLemmas
+pub mod EntriesLemmas
+pub mod EntryLemmas
+pub mod LookupLemmas
+pub mod PieceLemmas
+pub mod SequenceLemmas
+pub mod StepLemmas
+pub mod TakenLemmas
+pub mod UnitLemmas
+pub mod WalkLemmas
+pub mod WrittenLemmas

@@ -1,0 +1,66 @@
+-- Where an id stands among what was taken: only the last entry that begins at the id or before it can have it.
+use Rattle.std.proofs.Common.{◌≡◌, ℕ, zero, suc, ◌<◌, ◌≤◌, Bool, true, false, ◌||◌, List, [], ◌∷◌, inl, inr, length, get_or, take, drop, refl, sym, ap, ◌∙◌, arith, tests, true≢false}
+use Rattle.std.specs.List.Sorted.{IsPartitionedBy}
+use Rattle.yd_ids.specs.declared.id.Id.{Id}
+use Rattle.yd_ids.specs.Each.{Each}
+use Rattle.yd_received.specs.declared.taken.Taken.{Taken}
+use Rattle.yd_received.specs.Taken.{covers, StandsBefore, AreInOrder}
+use Rattle.yd_received.specs.Lookup.{begins_by}
+use Rattle.yd_received.specs.Taking.{is_covered}
+
+-- what stands before something that begins by the id begins by it too
+begins_through : (s t : Taken) (x : Id) → StandsBefore s t → begins_by t x ≡ true → begins_by s x ≡ true
+begins_through s t x (inl lt) e = grind (arith, tests)
+begins_through s t x (inr same) e = let client = ap (λ c. c.0) same.0 in grind (arith, tests)
+
+parted_from : (s : Taken) (ts : List Taken) (x : Id) → Each (StandsBefore s) ts → (j : ℕ) (d : Taken) → j < length ts → begins_by (get_or ts j d) x ≡ true → begins_by s x ≡ true
+parted_from s [] x each j d lt e = absurd (omega arith)
+parted_from s (t ∷ ts) x each zero d lt e = begins_through s t x each.0 e
+parted_from s (t ∷ ts) x each (suc j) d lt e = parted_from s ts x each.1 j d (omega arith) e
+
+-- those that begin by the id come first
+pub taken_parted : (ts : List Taken) (x : Id) → AreInOrder ts → IsPartitionedBy (λ (t : Taken). begins_by t x) ts
+taken_parted [] x order i j d le lt e = absurd (omega arith)
+taken_parted (t ∷ ts) x order zero zero d le lt e = e
+taken_parted (t ∷ ts) x order zero (suc j) d le lt e = parted_from t ts x order.0 j d (omega arith) e
+taken_parted (t ∷ ts) x order (suc i) zero d le lt e = absurd (omega arith)
+taken_parted (t ∷ ts) x order (suc i) (suc j) d le lt e = taken_parted ts x order.1 i j d (omega arith) (omega arith) e
+
+-- ---- the entry of an id
+
+pub covered_begins : (t : Taken) (x : Id) → covers t x ≡ true → begins_by t x ≡ true
+covered_begins t x e = grind (arith, tests)
+
+-- what stands behind the entry of an id does not begin by it
+pub behind_covered : (s t : Taken) (x : Id) → StandsBefore s t → covers s x ≡ true → begins_by t x ≡ true → ⊥
+behind_covered s t x (inl lt) c e = absurd (grind (arith, tests))
+behind_covered s t x (inr same) c e = let client = ap (λ c. c.0) same.0 in absurd (grind (arith, tests))
+
+none_covered : (ts : List Taken) (x : Id) → Each (λ t. begins_by t x ≡ false) ts → is_covered ts x ≡ true → ⊥
+none_covered [] x each e = true≢false (sym e)
+none_covered (t ∷ ts) x each e = go (covers t x) refl e (none_covered ts x each.1)
+  where
+    go : (b : Bool) → covers t x ≡ b → (b || is_covered ts x) ≡ true → (is_covered ts x ≡ true → ⊥) → ⊥
+    go true f g rest = true≢false (sym (covered_begins t x f) ∙ each.0)
+    go false f g rest = rest g
+
+-- ---- lemmas for callers
+
+-- where so many entries begin by an id that is covered, the last of them has it
+pub entry_before : (ts : List Taken) (x : Id) (p : ℕ) → AreInOrder ts → is_covered ts x ≡ true → p ≤ length ts →
+    Each (λ t. begins_by t x ≡ true) (take p ts) → Each (λ t. begins_by t x ≡ false) (drop p ts) →
+    (m : ℕ) × (p ≡ suc m) × ((d : Taken) → covers (get_or ts m d) x ≡ true)
+entry_before [] x p order e le before behind = absurd (true≢false (sym e))
+entry_before (t ∷ ts) x zero order e le before behind = absurd (none_covered (t ∷ ts) x behind e)
+entry_before (t ∷ ts) x (suc n) order e le before behind = go (covers t x) refl e (λ g. entry_before ts x n order.1 g (omega arith) before.1 behind)
+  where
+    here : (n : ℕ) (ts : List Taken) → n ≤ length ts → Each (StandsBefore t) ts → Each (λ t. begins_by t x ≡ true) (take n ts) → covers t x ≡ true → n ≡ 0
+    here zero ts le each before f = refl
+    here (suc n) [] le each before f = absurd (omega arith)
+    here (suc n) (s ∷ ss) le each before f = absurd (behind_covered t s x each.0 f before.0)
+
+    go : (b : Bool) → covers t x ≡ b → (b || is_covered ts x) ≡ true →
+        (is_covered ts x ≡ true → (m : ℕ) × (n ≡ suc m) × ((d : Taken) → covers (get_or ts m d) x ≡ true)) →
+        (m : ℕ) × (suc n ≡ suc m) × ((d : Taken) → covers (get_or (t ∷ ts) m d) x ≡ true)
+    go true f g rest = (0, ap suc (here n ts (omega arith) order.0 before.1 f), (λ d. f))
+    go false f g rest = let (m, same, has) = rest g in (suc m, ap suc same, has)

@@ -1,0 +1,20 @@
+use Rattle.std.proofs.Common.{◌≡◌, ◌+◌, ◌-◌, inr, subst, arith}
+use Rattle.std.proofs.lemmas.Bool.{OnTrue_at, not-false}
+use Rattle.yd_ops.specs.View.{run_value}
+use Rattle.yd_received.specs.Taking.{IsTakenNext}
+use Rattle.yd_received.proofs.taking.take_next.Goals as goal
+
+pub returns-clause-taken : goal.returns-clause-taken
+returns-clause-taken c =
+    let from = c.args.from in
+    let count = c.first_piece-piece.result.len in
+    let same : count ≡ from + count - from = omega arith in
+    let gap = rw (c.deref.ensures.value, c.id_at.ensures, c.len.ensures) at (OnTrue_at (not-false _ c.if-not-stretch.false) c.stretch_from-stretch.ensures.new) in
+    inr (subst (IsTakenNext c.args.runs.now.items c.args.taken.now.items c.take_piece.new.runs.items c.take_piece.new.taken.items (run_value c.args.run.now) from) same (record {
+      at = c.stretch_from-stretch.result.at;
+      new = c.stretch_from-stretch.result.len;
+      torn = c.first_piece-piece.result.is_torn;
+      gap = gap;
+      piece = c.first_piece-piece.ensures;
+      adds = c.in_ok-take_piece.ensures.added;
+    }))

@@ -1,0 +1,38 @@
+//! Where an id stands among what was taken.
+
+ghost use Rattle.std.specs.Prelude.{◌≡◌, ◌<◌, ◌≤◌, true, false, length, take, drop, HoldsAt};
+ghost use Rattle.yd_ids.specs.Each.{Each};
+ghost use Rattle.yd_received.specs.Taken.{AreInOrder, covers};
+ghost use Rattle.yd_received.specs.Lookup.{begins_by};
+ghost use Rattle.yd_received.specs.Taking.{is_covered};
+
+use crate::taken::Taken;
+use yd_ids::Id;
+
+/// The place, from 0, of the entry whose units have the id. It takes no memory, and time with the
+/// logarithm of how many entries there are.
+pub fn entry_of(taken: &[Taken], id: Id) -> usize
+    requires in_order { AreInOrder taken.now }
+    requires covered { is_covered taken.now id ≡ true }
+    ensures inside { result < length taken.now }
+    ensures covers { HoldsAt (λ t. covers t id ≡ true) taken.now result }
+{
+    place(taken, id) - 1
+}
+
+/// How many entries begin at the id or before it.
+fn place(taken: &[Taken], id: Id) -> usize
+    requires { AreInOrder taken.now }
+    ensures bound { result ≤ length taken.now }
+    ensures before { Each (λ t. begins_by t id ≡ true) (take result taken.now) }
+    ensures behind { Each (λ t. begins_by t id ≡ false) (drop result taken.now) }
+{
+    taken.partition_point(|entry| is_begun(*entry, id))
+}
+
+/// The entry begins at the id or before it.
+fn is_begun(entry: Taken, id: Id) -> bool
+    ensures { result ≡ begins_by entry id }
+{
+    entry.id.client.0 > id.client.0 || (entry.id.client == id.client && entry.id.clock <= id.clock)
+}

@@ -1,0 +1,192 @@
+//! Taking in the operations of an update.
+
+ghost use Rattle.std.specs.Prelude.{◌≡◌, ◌↔◌, ◌<◌, ◌≤◌, ◌-◌, ◌⊎◌, [], ◌∷◌, filter, map, IsTrue, OnOk, IfOk};
+ghost use Rattle.yd_ids.specs.Each.{Each};
+ghost use Rattle.yd_ops.specs.Operation.{operations_of_run, operations_of_structs, operations_of_blocks};
+ghost use Rattle.yd_ops.specs.Valid.{IsValidBlock, IsValidUpdate};
+ghost use Rattle.yd_ops.specs.Value.{len_of};
+ghost use Rattle.yd_ops.specs.View.{content_value, run_value, struct_value, block_value, update_value};
+ghost use Rattle.yd_meaning.specs.Received.{with_runs, runs_of, runs_of_structs, runs_of_blocks};
+ghost use Rattle.yd_received.specs.Taken.{AreTaken, AreInOrder, operations_in, is_held, GrowBy};
+ghost use Rattle.yd_received.specs.Taking.{AreCovered, BringsOne, BringsOperation, HasUnits, IsRun, IsKept, IsPassed, IsTakenNext, IsTakeable, TakesIn};
+
+use crate::fault::NoMemory;
+use crate::gaps::{known_from, stretch_from};
+use crate::pieces::{first_piece, id_at, take_piece};
+use crate::taken::Taken;
+use std::alloc::Global;
+use yd_ops::{Block, Run, Struct, Update};
+
+/// Takes in the operations of an update, and answers whether one had a new id. Each run of which a
+/// unit is new is copied once. For each entry that has ids of a run, and each new one, it takes a
+/// bisection and an insertion. Where memory ends, runs may stand behind the others, and nothing is
+/// promised of what was taken.
+pub fn take_update(
+    alloc: Global,
+    runs: &mut Vec<Run>,
+    taken: &mut Vec<Taken>,
+    update: &Update,
+) -> Result<bool, NoMemory>
+    requires update { IsValidUpdate (update_value update.now) }
+    requires taken { AreTaken runs.old.items taken.old.items }
+    ensures received { OnOk result (operations_in runs.new.items taken.new.items
+        ≡ with_runs (runs_of (update_value update.now)) (operations_in runs.old.items taken.old.items)) }
+    ensures brings { IfOk result (λ brings. IsTrue brings
+        ↔ BringsOperation (update_value update.now) (operations_in runs.old.items taken.old.items)) }
+    ensures kept { OnOk result (AreTaken runs.new.items taken.new.items) }
+    ensures held { OnOk result (filter is_held taken.new.items ≡ filter is_held taken.old.items) }
+    ensures grows { GrowBy runs.old.items runs.new.items }
+{
+    let brings = take_blocks(alloc, runs, taken, update.blocks.as_slice())?;
+    Ok(brings)
+}
+
+/// Takes in the operations of blocks, and says whether there are new ones.
+fn take_blocks(
+    alloc: Global,
+    runs: &mut Vec<Run>,
+    taken: &mut Vec<Taken>,
+    blocks: &[Block],
+) -> Result<bool, NoMemory>
+    requires blocks { Each IsValidBlock (map block_value blocks.now) }
+    requires taken { AreTaken runs.old.items taken.old.items }
+    ensures taken { OnOk result (TakesIn runs.old.items taken.old.items runs.new.items taken.new.items
+        (runs_of_blocks (map block_value blocks.now)) (operations_of_blocks (map block_value blocks.now))) }
+    ensures brings { IfOk result (λ brings. IsTrue brings
+        ↔ BringsOne (operations_of_blocks (map block_value blocks.now)) (operations_in runs.old.items taken.old.items)) }
+    ensures grows { GrowBy runs.old.items runs.new.items }
+{
+    let mut brings = false;
+    for block in blocks {
+        let more = take_structs(alloc, runs, taken, block.structs.as_slice())?;
+        brings |= more;
+    }
+    Ok(brings)
+}
+
+/// Takes in the operations of structs, and says whether there are new ones.
+fn take_structs(
+    alloc: Global,
+    runs: &mut Vec<Run>,
+    taken: &mut Vec<Taken>,
+    structs: &[Struct],
+) -> Result<bool, NoMemory>
+    requires structs { Each IsTakeable (map struct_value structs.now) }
+    requires taken { AreTaken runs.old.items taken.old.items }
+    ensures taken { OnOk result (TakesIn runs.old.items taken.old.items runs.new.items taken.new.items
+        (runs_of_structs (map struct_value structs.now)) (operations_of_structs (map struct_value structs.now))) }
+    ensures brings { IfOk result (λ brings. IsTrue brings
+        ↔ BringsOne (operations_of_structs (map struct_value structs.now)) (operations_in runs.old.items taken.old.items)) }
+    ensures grows { GrowBy runs.old.items runs.new.items }
+{
+    let mut brings = false;
+    for entry in structs {
+        let more = take_struct(alloc, runs, taken, entry)?;
+        brings |= more;
+    }
+    Ok(brings)
+}
+
+/// Takes in the operations of a struct, and says whether there are new ones. A skip brings none.
+fn take_struct(
+    alloc: Global,
+    runs: &mut Vec<Run>,
+    taken: &mut Vec<Taken>,
+    entry: &Struct,
+) -> Result<bool, NoMemory>
+    requires entry { IsTakeable (struct_value entry.now) }
+    requires taken { AreTaken runs.old.items taken.old.items }
+    ensures taken { OnOk result (TakesIn runs.old.items taken.old.items runs.new.items taken.new.items
+        (runs_of_structs (struct_value entry.now ∷ [])) (operations_of_structs (struct_value entry.now ∷ []))) }
+    ensures brings { IfOk result (λ brings. IsTrue brings
+        ↔ BringsOne (operations_of_structs (struct_value entry.now ∷ [])) (operations_in runs.old.items taken.old.items)) }
+    ensures grows { GrowBy runs.old.items runs.new.items }
+{
+    match entry {
+        Struct::Item(run) => {
+            let brings = take_run(alloc, runs, taken, run)?;
+            Ok(brings)
+        }
+        Struct::Skip(_) => Ok(false),
+    }
+}
+
+/// Takes in a run, of which a copy is kept if a unit is new.
+fn take_run(
+    alloc: Global,
+    runs: &mut Vec<Run>,
+    taken: &mut Vec<Taken>,
+    run: &Run,
+) -> Result<bool, NoMemory>
+    requires run { IsRun (run_value run.now) }
+    requires taken { AreTaken runs.old.items taken.old.items }
+    ensures taken { OnOk result (TakesIn runs.old.items taken.old.items runs.new.items taken.new.items
+        (run_value run.now ∷ []) (operations_of_run (run_value run.now))) }
+    ensures brings { IfOk result (λ brings. IsTrue brings
+        ↔ BringsOne (operations_of_run (run_value run.now)) (operations_in runs.old.items taken.old.items)) }
+    ensures grows { GrowBy runs.old.items runs.new.items }
+{
+    let known = known_from(taken, run.id, run.len());
+    if known >= run.len() {
+        return Ok(false);
+    }
+    let index = runs.len();
+    let copy = run.copy()?;
+    runs.push(copy)?;
+    take_rest(alloc, runs, taken, run, index, known)?;
+    Ok(true)
+}
+
+/// Takes in the units of a run from one on, where those before it are there.
+fn take_rest(
+    alloc: Global,
+    runs: &mut Vec<Run>,
+    taken: &mut Vec<Taken>,
+    run: &Run,
+    index: usize,
+    known: u64,
+) -> Result<(), NoMemory>
+    requires run { IsRun (run_value run.now) }
+    requires kept { IsKept runs.old.items index (run_value run.now) }
+    requires taken { AreTaken runs.old.items taken.old.items }
+    requires bound { known ≤ len_of (content_value run.now.content) }
+    requires known { AreCovered taken.old.items run.now.id known }
+    ensures taken { OnOk result (TakesIn runs.old.items taken.old.items runs.new.items taken.new.items
+        (run_value run.now ∷ []) (operations_of_run (run_value run.now))) }
+    ensures grows { GrowBy runs.old.items runs.new.items }
+{
+    let mut from = known;
+    while from < run.len() {
+        from = take_next(alloc, runs, taken, run, index, from)?;
+    }
+    Ok(())
+}
+
+/// Takes in units of a run from one on, as many as go together, and gives the number of the next.
+fn take_next(
+    alloc: Global,
+    runs: &mut Vec<Run>,
+    taken: &mut Vec<Taken>,
+    run: &Run,
+    index: usize,
+    from: u64,
+) -> Result<u64, NoMemory>
+    requires run { IsRun (run_value run.now) }
+    requires kept { IsKept runs.old.items index (run_value run.now) }
+    requires in_order { AreInOrder taken.old.items }
+    requires each { Each HasUnits taken.old.items }
+    requires more { from < len_of (content_value run.now.content) }
+    ensures bound { IfOk result (λ next. (from < next) × (next ≤ len_of (content_value run.now.content))) }
+    ensures taken { IfOk result (λ next.
+        IsPassed runs.old.items taken.old.items runs.new.items taken.new.items (run_value run.now) from (next - from)
+        ⊎ IsTakenNext runs.old.items taken.old.items runs.new.items taken.new.items (run_value run.now) from (next - from)) }
+    ensures grows { GrowBy runs.old.items runs.new.items }
+{
+    let stretch = stretch_from(taken, id_at(run, from), run.len() - from);
+    if !stretch.is_new {
+        return Ok(from + stretch.len);
+    }
+    let piece = first_piece(&run.content, from, from + stretch.len);
+    take_piece(alloc, runs, taken, run, index, stretch.at, from, piece)?;
+    Ok(from + piece.len)
+}
