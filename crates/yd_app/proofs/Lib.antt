@@ -1,9 +1,12 @@
+pub mod CalmLemmas
 pub mod CarryingLemmas
-pub mod FirstFormLemmas
-pub mod FormLemmas
 pub mod FormatLemmas
+pub mod LawLemmas
 pub mod LoadingLemmas
+pub mod ReceivingLemmas
+pub mod RequestLemmas
 pub mod RunLemmas
+pub mod ValidLemmas
 pub mod VerdictLemmas
 pub mod WordLemmas
 pub mod WritingLemmas

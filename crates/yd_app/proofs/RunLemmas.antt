@@ -1,64 +1,46 @@
--- What an ending says, in statuses.
-use Rattle.std.proofs.Common.{◌≡◌, ◌≢◌, ◌⊎◌, ℕ, List, [], ◌∷◌, ◌++◌, Option, Some, None, refl, sym, ap, subst, ◌∙◌, inl, inr, Err, arith}
-use Rattle.std.specs.Prelude.{codes}
-use Rattle.yd_world.specs.Shelf.{Shelf, HasName}
-use Rattle.yd_app.specs.Ending.{status_of, line_of, Ends}
-use Rattle.yd_app.specs.Lines.{IsLine, file_name, line_of_status}
-use Rattle.yd_app.specs.Loading.{Loads}
-use Rattle.yd_app.specs.Run.{IsOneOf, Count, HasReason, Comes, Follows, RoseIn, TellsFront, TellsLine, TellsNoMemory}
-use Rattle.yd_app.specs.Seen.{reason_of, refusal_line}
-use Rattle.yd_app.specs.Verdict.{IsAccepted, IsRefused, IsTooLarge, HasBytes, Keeps, LacksName, WhereTold, AsksWhere}
-use Rattle.yd_app.specs.Words.{Asks, Command, Format, convert, prefix_of, show_text, v1, v2}
+-- What an ending says, in statuses and lines.
+use Rattle.std.proofs.Common.{◌≡◌, ◌≢◌, ◌⊎◌, ℕ, List, [], ◌∷◌, Option, Some, None, Result, Ok, Err, refl, subst, inl, inr, arith}
+use Rattle.yd_ops.specs.Value.{UpdateValue}
+use Rattle.yd_world.specs.Shelf.{Shelf}
+use Rattle.yd_app.specs.Ending.{Ends, line_of, status_of}
+use Rattle.yd_app.specs.Lines.{IsLine, line_of_status}
+use Rattle.yd_app.specs.Reason.{fault_text}
+use Rattle.yd_app.specs.Run.{Comes, Count, Follows, HasReason, IsOneOf, RoseIn, TellsFront, TellsLine, TellsNoMemory}
+use Rattle.yd_app.specs.Seen.{file_of}
+use Rattle.yd_app.specs.Stopping.{Carries}
+use Rattle.yd_app.specs.Verdict.{AreRead, IsReached, IsTold, NoneIsMissing, StopsAt, Verdict, missing, refused, too_large}
+use Rattle.yd_app.specs.Words.{Asks, AsksFor, Command, File, v1}
 use Rattle.yd_app.specs.Writing.{TakesAll, TakesFront}
-use Rattle.yd_app.specs.declared.ending.Ending.{Ending}
-use Rattle.yd_app.specs.declared.ending.Ending.TheVariants.{Done, Refused, Usage, ReadFault, WriteFault, NoMemory, TooLarge}
-use Rattle.yd_app.specs.declared.fault.LoadFault.TheVariants as faults
-use Rattle.yd_app.specs.declared.refusal.Refusal.{Refusal}
-use Rattle.yd_app.proofs.VerdictLemmas.{accepted_apart, asks_same}
+use Rattle.yd_app.specs.declared.stop.Stop.{Stop}
+use Rattle.yd_app.specs.declared.stop.Stop.TheVariants.{Usage, Refused, ReadFault, TooLarge, NoMemory, WriteFault}
+use Rattle.yd_app.proofs.VerdictLemmas.{stops_apart, stops_one}
+use Rattle.yd_app.proofs.WordLemmas.{asks_same}
 
--- ---- the words and the file
+-- ---- the words and the files
 
-told_bytes : (told : Option Shelf) (name bytes : List ℕ) (Holds : List ℕ → Type 0) → HasBytes told name bytes → WhereTold told name Holds → Holds bytes
-told_bytes None name bytes Holds has w = absurd has
-told_bytes (Some shelf) name bytes Holds has w = let e : w.0 ≡ bytes = cc (w.1, has) in subst Holds e w.2
+-- what holds of what is asked for holds of each thing that is asked for
+asked : (words : List (List ℕ)) (Holds : Command → List File → Type 0) (command : Command) (files : List File) → AsksFor words Holds → Asks words command files → Holds command files
+asked words Holds command files w asks =
+    let same = asks_same words w.command command w.files files w.asks asks in
+    subst (λ (fs : List File). Holds command fs) same.1 (subst (λ (c : Command). Holds c w.files) same.0 w.holds)
 
-told_none : (told : Option Shelf) (name : List ℕ) (Holds : List ℕ → Type 0) → LacksName told name → WhereTold told name Holds → ⊥
-told_none None name Holds lacks w = lacks
-told_none (Some shelf) name Holds lacks w = cc (w.1, lacks)
+-- and so does what follows from it
+weaker : (words : List (List ℕ)) (P Q : Command → List File → Type 0) → ((command : Command) (files : List File) → P command files → Q command files) → AsksFor words P → AsksFor words Q
+weaker words P Q less w = record { command = w.command; files = w.files; asks = w.asks; holds = less w.command w.files w.holds }
 
--- what is asked for and told holds of the bytes that are there
-asked_bytes : (words : List (List ℕ)) (told : Option Shelf) (Holds : Command → Format → List ℕ → Type 0) (command : Command) (format : Format) (file bytes : List ℕ) → Asks words command format file → HasBytes told file bytes → AsksWhere words told Holds → Holds command format bytes
-asked_bytes words told Holds command format file bytes asks has w =
-    let same = asks_same words w.command command w.format format w.file file w.asks asks in
-    told_bytes told file bytes (Holds command format) has (subst (λ (f : List ℕ). WhereTold told f (Holds command format)) same.2 (subst (λ (f : Format). WhereTold told w.file (Holds command f)) same.1 (subst (λ (c : Command). WhereTold told w.file (Holds c w.format)) same.0 w.holds)))
+-- files that are all accepted have none that is not
+told_apart : (told : Option Shelf) (files : List File) (updates : List UpdateValue) (file : File) (verdict : Verdict) → IsTold told → AreRead told files updates → StopsAt told files file verdict → ⊥
+told_apart None files updates file verdict is_told read stops = is_told
+told_apart (Some shelf) files updates file verdict is_told read stops = stops_apart shelf files updates file verdict read stops
 
-asked_none : (words : List (List ℕ)) (told : Option Shelf) (Holds : Command → Format → List ℕ → Type 0) (command : Command) (format : Format) (file : List ℕ) → Asks words command format file → LacksName told file → AsksWhere words told Holds → ⊥
-asked_none words told Holds command format file asks lacks w =
-    let same = asks_same words w.command command w.format format w.file file w.asks asks in
-    told_none told file (Holds w.command w.format) lacks (subst (λ (f : List ℕ). WhereTold told f (Holds w.command w.format)) same.2 w.holds)
+-- the first that is not is so for one thing
+told_one : (told : Option Shelf) (files : List File) (file other : File) (verdict thing : Verdict) → IsTold told → StopsAt told files file verdict → StopsAt told files other thing → verdict ≡ thing
+told_one None files file other verdict thing is_told a b = absurd is_told
+told_one (Some shelf) files file other verdict thing is_told a b = (stops_one shelf files file other verdict thing a b).1
 
--- ---- lemmas for callers
+-- ---- why a status comes
 
--- the name that the words ask for is on the shelf
-pub has_name : (words : List (List ℕ)) (told : Option Shelf) (command other : Command) (format form : Format) (name file bytes : List ℕ) → Asks words command format name → Asks words other form file → HasBytes told file bytes → HasName told name
-has_name words None command other format form name file bytes a b has = absurd has
-has_name words (Some shelf) command other format form name file bytes a b has =
-    let same = asks_same words command other format form name file a b in
-    (bytes, ap shelf.bytes_under same.2 ∙ has)
-
--- a file that was too large to load has too many bytes
-pub loads_too_large : (told now : Option Shelf) (name : List ℕ) → Loads told now name (Err faults.TooLarge) → WhereTold told name IsTooLarge
-loads_too_large None now name l = tt
-loads_too_large (Some told) None name l = absurd l
-loads_too_large (Some told) (Some now) name l = (l.0, l.1, l.2)
-
--- what is told of a file, in fewer words
-pub where_weaker : (told : Option Shelf) (name : List ℕ) (P Q : List ℕ → Type 0) → ((bytes : List ℕ) → P bytes → Q bytes) → WhereTold told name P → WhereTold told name Q
-where_weaker None name P Q weaker w = tt
-where_weaker (Some shelf) name P Q weaker w = (w.0, w.1, weaker w.0 w.2)
-
--- want of memory has no reason
-pub reason_five : (words : List (List ℕ)) (told : Option Shelf) (reads writes : Count) → HasReason words told reads writes 5
+reason_five : (words : List (List ℕ)) (told : Option Shelf) (reads writes : Count) → HasReason words told reads writes 5
 reason_five words told reads writes = record {
   done = λ n. absurd (omega arith);
   refused = λ n. absurd (omega arith);
@@ -68,8 +50,26 @@ reason_five words told reads writes = record {
   too_large = λ n. absurd (omega arith);
 }
 
-reason_two : (words : List (List ℕ)) (told : Option Shelf) (reads writes : Count) (taken now : Option (List ℕ)) → Ends words told reads writes taken now Usage → HasReason words told reads writes 2
-reason_two words told reads writes taken now h = record {
+-- an ending gives its status a reason
+ends_reason : (words : List (List ℕ)) (told : Option Shelf) (reads writes : Count) (taken now : Option (List ℕ)) (e : Result (Unit {0}) Stop) → Ends words told reads writes taken now e → HasReason words told reads writes (status_of e)
+ends_reason words told reads writes taken now (Ok done) h = record {
+  done = λ _. weaker words (λ command files. Carries command files told reads writes taken now (Ok done)) (λ command files. (updates : List UpdateValue) × AreRead told files updates) (λ command files x. (x.0, x.1)) h;
+  refused = λ n. absurd (omega arith);
+  usage = λ n. absurd (omega arith);
+  read_fault = λ n. absurd (omega arith);
+  write_fault = λ n. absurd (omega arith);
+  too_large = λ n. absurd (omega arith);
+}
+ends_reason words told reads writes taken now (Err (Refused file cause spot)) h = record {
+  done = λ n. absurd (omega arith);
+  refused = λ _. weaker words (λ command files. StopsAt told files (file_of file) (refused (fault_text (record { cause = cause; spot = spot })))) (λ command files. (f : File) × (why : List ℕ) × StopsAt told files f (refused why))
+      (λ command files x. (file_of file, fault_text (record { cause = cause; spot = spot }), x)) h;
+  usage = λ n. absurd (omega arith);
+  read_fault = λ n. absurd (omega arith);
+  write_fault = λ n. absurd (omega arith);
+  too_large = λ n. absurd (omega arith);
+}
+ends_reason words told reads writes taken now (Err Usage) h = record {
   done = λ n. absurd (omega arith);
   refused = λ n. absurd (omega arith);
   usage = λ _. h;
@@ -77,195 +77,221 @@ reason_two words told reads writes taken now h = record {
   write_fault = λ n. absurd (omega arith);
   too_large = λ n. absurd (omega arith);
 }
-
--- an ending gives its status a reason
-pub ends_reason : (words : List (List ℕ)) (told : Option Shelf) (reads writes : Count) (taken now : Option (List ℕ)) (e : Ending) → Ends words told reads writes taken now e → HasReason words told reads writes (status_of e)
-ends_reason words told reads writes taken now Done h = record {
-  done = λ _. record { command = h.command; format = h.format; file = h.file; asks = h.asks; holds = where_weaker told h.file (λ bytes. (output : List ℕ) × IsAccepted h.command h.format bytes output × Keeps h.command h.format bytes output × TakesAll taken now output) (λ bytes. (output : List ℕ) × IsAccepted h.command h.format bytes output) (λ bytes x. (x.0, x.1)) h.holds };
-  refused = λ n. absurd (omega arith);
-  usage = λ n. absurd (omega arith);
-  read_fault = λ n. absurd (omega arith);
-  write_fault = λ n. absurd (omega arith);
-  too_large = λ n. absurd (omega arith);
-}
-ends_reason words told reads writes taken now (Refused file why) h = record {
-  done = λ n. absurd (omega arith);
-  refused = λ _. record { command = h.0; format = h.1; file = h.2; asks = h.3; holds = where_weaker told h.2 (λ bytes. IsRefused h.0 h.1 bytes (reason_of why)) (λ bytes. (why : List ℕ) × IsRefused h.0 h.1 bytes why) (λ bytes x. (reason_of why, x)) h.5 };
-  usage = λ n. absurd (omega arith);
-  read_fault = λ n. absurd (omega arith);
-  write_fault = λ n. absurd (omega arith);
-  too_large = λ n. absurd (omega arith);
-}
-ends_reason words told reads writes taken now Usage h = reason_two words told reads writes taken now h
-ends_reason words told reads writes taken now (ReadFault name) h = record {
+ends_reason words told reads writes taken now (Err (ReadFault file)) h = record {
   done = λ n. absurd (omega arith);
   refused = λ n. absurd (omega arith);
   usage = λ n. absurd (omega arith);
-  read_fault = λ _. h.3;
+  read_fault = λ _. h.holds.1;
   write_fault = λ n. absurd (omega arith);
   too_large = λ n. absurd (omega arith);
 }
-ends_reason words told reads writes taken now WriteFault h = record {
+ends_reason words told reads writes taken now (Err WriteFault) h = record {
   done = λ n. absurd (omega arith);
   refused = λ n. absurd (omega arith);
   usage = λ n. absurd (omega arith);
   read_fault = λ n. absurd (omega arith);
-  write_fault = λ _. h.1;
+  write_fault = λ _. h.holds.1;
   too_large = λ n. absurd (omega arith);
 }
-ends_reason words told reads writes taken now NoMemory h = reason_five words told reads writes
-ends_reason words told reads writes taken now (TooLarge name) h = record {
+ends_reason words told reads writes taken now (Err NoMemory) h = reason_five words told reads writes
+ends_reason words told reads writes taken now (Err (TooLarge file)) h = record {
   done = λ n. absurd (omega arith);
   refused = λ n. absurd (omega arith);
   usage = λ n. absurd (omega arith);
   read_fault = λ n. absurd (omega arith);
   write_fault = λ n. absurd (omega arith);
-  too_large = λ _. record { command = h.0; format = h.1; file = name.now; asks = h.2; holds = h.3 };
+  too_large = λ _. weaker words (λ command files. StopsAt told files (file_of file) too_large) (λ command files. (f : File) × StopsAt told files f too_large) (λ command files x. (file_of file, x)) h;
 }
 
--- all statuses that are named come with want of memory
-pub comes_five : (words : List (List ℕ)) (told : Option Shelf) → Comes words told 5
+-- ---- which statuses can come
+
+comes_five : (words : List (List ℕ)) (told : Option Shelf) → Comes words told 5
 comes_five words told = record {
   is_status = inr (inr (inr (inr (inr (inl refl)))));
-  no_form = λ _. inr (inl refl);
-  accepted = λ command format file bytes output asks has accepted. inr (inr (inr (inl refl)));
-  refused = λ command format file bytes why asks has refused. inr (inr (inl refl));
-  too_large = λ command format file bytes asks has large. inr (inl refl);
-  missing = λ command format file asks lacks. inr (inl refl);
+  no_form = λ never. inr (inl refl);
+  accepted = λ command files updates asks is_told read. inr (inr (inr (inl refl)));
+  refused = λ command files file why asks is_told stops. inr (inr (inl refl));
+  too_large = λ command files file asks is_told stops. inr (inl refl);
+  missing = λ command files file asks is_told stops. inr (inl refl);
 }
 
--- what can come where a file is refused
-refused_comes : (words : List (List ℕ)) (told : Option Shelf) (reason : List ℕ) → AsksWhere words told (λ command format bytes. IsRefused command format bytes reason) → Comes words told 1
-refused_comes words told reason w =
-    let Holds : Command → Format → List ℕ → Type 0 = λ command format bytes. IsRefused command format bytes reason in
-    record {
-      is_status = inr (inl refl);
-      no_form = λ never. absurd (never w.command w.format w.file w.asks);
-      accepted = λ command format file bytes output asks has accepted. absurd (accepted_apart command format bytes output reason accepted (asked_bytes words told Holds command format file bytes asks has w));
-      refused = λ command format file bytes why asks has refused. inl refl;
-      too_large = λ command format file bytes asks has large. let a = asked_bytes words told Holds command format file bytes asks has w in absurd (omega (arith, a.within));
-      missing = λ command format file asks lacks. absurd (asked_none words told Holds command format file asks lacks w);
-    }
-
--- what can come where a file is too large
-too_large_comes : (words : List (List ℕ)) (told : Option Shelf) → AsksWhere words told (λ command format bytes. IsTooLarge bytes) → Comes words told 7
-too_large_comes words told w =
-    let Holds : Command → Format → List ℕ → Type 0 = λ command format bytes. IsTooLarge bytes in
-    record {
-      is_status = inr (inr (inr (inr (inr (inr (inl refl))))));
-      no_form = λ never. absurd (never w.command w.format w.file w.asks);
-      accepted = λ command format file bytes output asks has accepted. let a = asked_bytes words told Holds command format file bytes asks has w in absurd (omega (arith, accepted.within));
-      refused = λ command format file bytes why asks has refused. let a = asked_bytes words told Holds command format file bytes asks has w in absurd (omega (arith, refused.within));
-      too_large = λ command format file bytes asks has large. inr (inr (inl refl));
-      missing = λ command format file asks lacks. absurd (asked_none words told Holds command format file asks lacks w);
-    }
-
--- what can come where a file is accepted, and its output written or begun
-accepted_comes : (words : List (List ℕ)) (told : Option Shelf) (Taken : Command → Format → List ℕ → List ℕ → Type 0) (status : ℕ) → (status ≡ 0) ⊎ (status ≡ 4) → AsksWhere words told (λ command format bytes. (output : List ℕ) × IsAccepted command format bytes output × Taken command format bytes output) → Comes words told status
-accepted_comes words told Taken status is w =
-    let Holds : Command → Format → List ℕ → Type 0 = λ command format bytes. (output : List ℕ) × IsAccepted command format bytes output × Taken command format bytes output in
+-- where all files are accepted
+read_comes : (words : List (List ℕ)) (told : Option Shelf) (status : ℕ) → (status ≡ 0) ⊎ (status ≡ 4) → AsksFor words (λ command files. (updates : List UpdateValue) × AreRead told files updates) → Comes words told status
+read_comes words told status is w =
+    let Holds : Command → List File → Type 0 = λ command files. (updates : List UpdateValue) × AreRead told files updates in
     record {
       is_status = elim is [ inl e ↦ inl e | inr e ↦ inr (inr (inr (inr (inl e)))) ];
-      no_form = λ never. absurd (never w.command w.format w.file w.asks);
-      accepted = λ command format file bytes output asks has accepted. elim is [ inl e ↦ inl e | inr e ↦ inr (inr (inl e)) ];
-      refused = λ command format file bytes why asks has refused. let a = asked_bytes words told Holds command format file bytes asks has w in absurd (accepted_apart command format bytes a.0 why a.1 refused);
-      too_large = λ command format file bytes asks has large. let a = asked_bytes words told Holds command format file bytes asks has w in absurd (omega (arith, a.1.within));
-      missing = λ command format file asks lacks. absurd (asked_none words told Holds command format file asks lacks w);
+      no_form = λ never. absurd (never w.command w.files w.asks);
+      accepted = λ command files updates asks is_told read. elim is [ inl e ↦ inl e | inr e ↦ inr (inr (inl e)) ];
+      refused = λ command files file why asks is_told stops. let a = asked words Holds command files w asks in absurd (told_apart told files a.0 file (refused why) is_told a.1 stops);
+      too_large = λ command files file asks is_told stops. let a = asked words Holds command files w asks in absurd (told_apart told files a.0 file too_large is_told a.1 stops);
+      missing = λ command files file asks is_told stops. let a = asked words Holds command files w asks in absurd (told_apart told files a.0 file missing is_told a.1 stops);
+    }
+
+-- where one is refused
+refused_comes : (words : List (List ℕ)) (told : Option Shelf) (file : File) (why : List ℕ) → AsksFor words (λ command files. StopsAt told files file (refused why)) → Comes words told 1
+refused_comes words told file why w =
+    let Holds : Command → List File → Type 0 = λ command files. StopsAt told files file (refused why) in
+    record {
+      is_status = inr (inl refl);
+      no_form = λ never. absurd (never w.command w.files w.asks);
+      accepted = λ command files updates asks is_told read. absurd (told_apart told files updates file (refused why) is_told read (asked words Holds command files w asks));
+      refused = λ command files other reason asks is_told stops. inl refl;
+      too_large = λ command files other asks is_told stops. let same : refused why ≡ too_large = told_one told files file other (refused why) too_large is_told (asked words Holds command files w asks) stops in absurd cc;
+      missing = λ command files other asks is_told stops. let same : refused why ≡ missing = told_one told files file other (refused why) missing is_told (asked words Holds command files w asks) stops in absurd cc;
+    }
+
+-- where one is too large
+too_large_comes : (words : List (List ℕ)) (told : Option Shelf) (file : File) → AsksFor words (λ command files. StopsAt told files file too_large) → Comes words told 7
+too_large_comes words told file w =
+    let Holds : Command → List File → Type 0 = λ command files. StopsAt told files file too_large in
+    record {
+      is_status = inr (inr (inr (inr (inr (inr (inl refl))))));
+      no_form = λ never. absurd (never w.command w.files w.asks);
+      accepted = λ command files updates asks is_told read. absurd (told_apart told files updates file too_large is_told read (asked words Holds command files w asks));
+      refused = λ command files other reason asks is_told stops. let same : too_large ≡ refused reason = told_one told files file other too_large (refused reason) is_told (asked words Holds command files w asks) stops in absurd cc;
+      too_large = λ command files other asks is_told stops. inr (inr (inl refl));
+      missing = λ command files other asks is_told stops. let same : too_large ≡ missing = told_one told files file other too_large missing is_told (asked words Holds command files w asks) stops in absurd cc;
     }
 
 -- which endings can come
-pub ends_comes : (words : List (List ℕ)) (told : Option Shelf) (reads writes : Count) (taken now : Option (List ℕ)) (e : Ending) → Ends words told reads writes taken now e → Comes words told (status_of e)
-ends_comes words told reads writes taken now Done h = accepted_comes words told (λ command format bytes output. TakesAll taken now output) 0 (inl refl) (record { command = h.command; format = h.format; file = h.file; asks = h.asks; holds = where_weaker told h.file (λ bytes. (output : List ℕ) × IsAccepted h.command h.format bytes output × Keeps h.command h.format bytes output × TakesAll taken now output) (λ bytes. (output : List ℕ) × IsAccepted h.command h.format bytes output × TakesAll taken now output) (λ bytes x. (x.0, x.1, x.3)) h.holds })
-ends_comes words told reads writes taken now (Refused word why) h = refused_comes words told (reason_of why) (record { command = h.0; format = h.1; file = h.2; asks = h.3; holds = h.5 })
-ends_comes words told reads writes taken now Usage h = record {
+ends_comes : (words : List (List ℕ)) (told : Option Shelf) (reads writes : Count) (taken now : Option (List ℕ)) (e : Result (Unit {0}) Stop) → Ends words told reads writes taken now e → Comes words told (status_of e)
+ends_comes words told reads writes taken now (Ok done) h =
+    read_comes words told 0 (inl refl) (weaker words (λ command files. Carries command files told reads writes taken now (Ok done)) (λ command files. (updates : List UpdateValue) × AreRead told files updates) (λ command files x. (x.0, x.1)) h)
+ends_comes words told reads writes taken now (Err (Refused file cause spot)) h = refused_comes words told (file_of file) (fault_text (record { cause = cause; spot = spot })) h
+ends_comes words told reads writes taken now (Err Usage) h = record {
   is_status = inr (inr (inl refl));
-  no_form = λ _. inl refl;
-  accepted = λ command format file bytes output asks has accepted. absurd (h command format file asks);
-  refused = λ command format file bytes why asks has refused. absurd (h command format file asks);
-  too_large = λ command format file bytes asks has large. absurd (h command format file asks);
-  missing = λ command format file asks lacks. absurd (h command format file asks);
+  no_form = λ never. inl refl;
+  accepted = λ command files updates asks is_told read. absurd (h command files asks);
+  refused = λ command files file why asks is_told stops. absurd (h command files asks);
+  too_large = λ command files file asks is_told stops. absurd (h command files asks);
+  missing = λ command files file asks is_told stops. absurd (h command files asks);
 }
-ends_comes words told reads writes taken now (ReadFault name) h = record {
+ends_comes words told reads writes taken now (Err (ReadFault file)) h = record {
   is_status = inr (inr (inr (inl refl)));
-  no_form = λ never. absurd (never h.0 h.1 name.now h.2);
-  accepted = λ command format file bytes output asks has accepted. inr (inl refl);
-  refused = λ command format file bytes why asks has refused. inr (inl refl);
-  too_large = λ command format file bytes asks has large. inl refl;
-  missing = λ command format file asks lacks. inl refl;
+  no_form = λ never. absurd (never h.command h.files h.asks);
+  accepted = λ command files updates asks is_told read. inr (inl refl);
+  refused = λ command files other why asks is_told stops. inr (inl refl);
+  too_large = λ command files other asks is_told stops. inl refl;
+  missing = λ command files other asks is_told stops. inl refl;
 }
-ends_comes words told reads writes taken now WriteFault h = accepted_comes words told (λ command format bytes output. TakesFront taken now output) 4 (inr refl) h.0
-ends_comes words told reads writes taken now NoMemory h = comes_five words told
-ends_comes words told reads writes taken now (TooLarge name) h = too_large_comes words told (record { command = h.0; format = h.1; file = name.now; asks = h.2; holds = h.3 })
-
--- a line that gives no reason
-plain_line : (words : List (List ℕ)) (told : Option Shelf) (status : ℕ) (line : List ℕ) → status ≢ 1 → line ≡ line_of_status words [] status → IsLine words told status line
-plain_line words told status line other is = record { why = []; line_is = is; refused = λ one. absurd (other one) }
-
--- the line of a file that is refused
-refused_line : (words : List (List ℕ)) (told : Option Shelf) (command : Command) (format : Format) (word name : List ℕ) (why : Refusal) → Asks words command format name → word ≡ prefix_of format ++ name → refusal_line word why ≡ line_of_status words (reason_of why) 1
-refused_line words told (show_text root) format word name why asks is = rw (asks.words_are, is) refl
-refused_line words told (convert form) format word name why asks is = rw (asks.words_are, is) refl
-
--- the name behind the format
-asked_name : (words : List (List ℕ)) (command : Command) (format : Format) (name : List ℕ) → Asks words command format name → file_name words ≡ name
-asked_name words (show_text root) v1 name asks = rw asks.words_are refl
-asked_name words (show_text root) v2 name asks = rw asks.words_are refl
-asked_name words (convert form) v1 name asks = rw asks.words_are refl
-asked_name words (convert form) v2 name asks = rw asks.words_are refl
-
--- the line of an ending is that of its status
-pub ends_line : (words : List (List ℕ)) (told : Option Shelf) (reads writes : Count) (taken now : Option (List ℕ)) (e : Ending) → Ends words told reads writes taken now e → status_of e ≢ 0 → IsLine words told (status_of e) (line_of e)
-ends_line words told reads writes taken now Done h n = absurd (n refl)
-ends_line words told reads writes taken now (Refused word why) h n = record {
-  why = reason_of why;
-  line_is = refused_line words told h.0 h.1 word.now h.2 why h.3 h.4;
-  refused = λ _. record { command = h.0; format = h.1; file = h.2; asks = h.3; holds = h.5 };
-}
-ends_line words told reads writes taken now Usage h n = plain_line words told 2 _ (λ e. omega arith) refl
-ends_line words told reads writes taken now (ReadFault name) h n = plain_line words told 3 _ (λ e. omega arith) (ap (λ (l : List ℕ). codes "read fault " ++ l ++ codes "\n") (sym (asked_name words h.0 h.1 name.now h.2)))
-ends_line words told reads writes taken now WriteFault h n = plain_line words told 4 _ (λ e. omega arith) refl
-ends_line words told reads writes taken now NoMemory h n = plain_line words told 5 _ (λ e. omega arith) refl
-ends_line words told reads writes taken now (TooLarge name) h n = plain_line words told 7 _ (λ e. omega arith) (ap (λ (l : List ℕ). codes "limit " ++ l ++ codes " TooLarge\n") (sym (asked_name words h.0 h.1 name.now h.2)))
-
--- what holds of the ending's status and of 5 holds of what is reported
-pub reported : (P : ℕ → Type 0) (status due : ℕ) → (status ≡ due) ⊎ ((status ≡ 5) × (due ≢ 0)) → P due → P 5 → P status
-reported P status due (inl e) p five = rw e p
-reported P status due (inr e) p five = rw e.0 five
+ends_comes words told reads writes taken now (Err WriteFault) h =
+    read_comes words told 4 (inr refl) (weaker words (λ command files. Carries command files told reads writes taken now (Err WriteFault)) (λ command files. (updates : List UpdateValue) × AreRead told files updates) (λ command files x. (x.0.0, x.0.1)) h)
+ends_comes words told reads writes taken now (Err NoMemory) h = comes_five words told
+ends_comes words told reads writes taken now (Err (TooLarge file)) h = too_large_comes words told (file_of file) h
 
 strike : {P Q : Type 0} → P ⊎ Q → (P → ⊥) → Q
 strike (inl p) never = absurd (never p)
 strike (inr q) never = q
 
--- a status that no fault gave follows from the file
-pub follows : (words : List (List ℕ)) (told : Option Shelf) (status : ℕ) → Comes words told status → ((command : Command) (format : Format) (file bytes : List ℕ) → Asks words command format file → HasBytes told file bytes → status ≢ 3) → status ≢ 4 → Follows words told status
+-- a status that no fault gave follows from the files
+follows : (words : List (List ℕ)) (told : Option Shelf) (status : ℕ) → Comes words told status → ((command : Command) (files : List File) → Asks words command files → IsTold told → NoneIsMissing told files → status ≢ 3) → status ≢ 4 → Follows words told status
 follows words told status comes read written = record {
-  accepted = λ command format file bytes output asks has accepted.
-      elim (comes.accepted command format file bytes output asks has accepted) [
+  accepted = λ command files updates asks is_told are_read.
+      let there = read command files asks is_told (λ file stops. told_apart told files updates file missing is_told are_read stops) in
+      elim (comes.accepted command files updates asks is_told are_read) [
         | inl e ↦ inl e
-        | inr others ↦ inr (strike (strike others (read command format file bytes asks has)) written)
+        | inr others ↦ inr (strike (strike others there) written)
       ];
-  refused = λ command format file bytes why asks has refused.
-      elim (comes.refused command format file bytes why asks has refused) [
+  refused = λ command files file why asks is_told stops.
+      let there = read command files asks is_told (λ other absent. let same : refused why ≡ missing = told_one told files file other (refused why) missing is_told stops absent in cc) in
+      elim (comes.refused command files file why asks is_told stops) [
         | inl e ↦ inl e
-        | inr others ↦ inr (strike others (read command format file bytes asks has))
+        | inr others ↦ inr (strike others there)
       ];
-  too_large = λ command format file bytes asks has large. strike (comes.too_large command format file bytes asks has large) (read command format file bytes asks has);
+  too_large = λ command files file asks is_told stops.
+      let there = read command files asks is_told (λ other absent. let same : too_large ≡ missing = told_one told files file other too_large missing is_told stops absent in cc) in
+      strike (comes.too_large command files file asks is_told stops) there;
 }
 
 -- and so does want of memory
-pub follows_five : (words : List (List ℕ)) (told : Option Shelf) → Follows words told 5
+follows_five : (words : List (List ℕ)) (told : Option Shelf) → Follows words told 5
 follows_five words told = record {
-  accepted = λ command format file bytes output asks has accepted. inr (inl refl);
-  refused = λ command format file bytes why asks has refused. inr (inl refl);
-  too_large = λ command format file bytes asks has large. inl refl;
+  accepted = λ command files updates asks is_told read. inr (inl refl);
+  refused = λ command files file why asks is_told stops. inr (inl refl);
+  too_large = λ command files file asks is_told stops. inl refl;
 }
+
+-- ---- lines
+
+-- a line that names no file
+plain_line : (words : List (List ℕ)) (told : Option Shelf) (status : ℕ) (line : List ℕ) → IsOneOf status (2 ∷ 4 ∷ 5 ∷ []) → line ≡ line_of_status (record { format = v1; name = [] }) [] status → IsLine words told status line
+plain_line words told status line other is = record {
+  file = record { format = v1; name = [] };
+  why = [];
+  line_is = is;
+  is_refused = λ n. absurd (omega (arith, other));
+  is_reached = λ n. absurd (omega (arith, other));
+  is_too_large = λ n. absurd (omega (arith, other));
+}
+
+-- the line of an ending is that of its status
+ends_line : (words : List (List ℕ)) (told : Option Shelf) (reads writes : Count) (taken now : Option (List ℕ)) (e : Result (Unit {0}) Stop) → Ends words told reads writes taken now e → status_of e ≢ 0 → IsLine words told (status_of e) (line_of e)
+ends_line words told reads writes taken now (Ok done) h n = absurd (n refl)
+ends_line words told reads writes taken now (Err (Refused file cause spot)) h n = record {
+  file = file_of file;
+  why = fault_text (record { cause = cause; spot = spot });
+  line_is = refl;
+  is_refused = λ one. h;
+  is_reached = λ one. absurd (omega arith);
+  is_too_large = λ one. absurd (omega arith);
+}
+ends_line words told reads writes taken now (Err Usage) h n = plain_line words told 2 _ (inl refl) refl
+ends_line words told reads writes taken now (Err (ReadFault file)) h n = record {
+  file = file_of file;
+  why = [];
+  line_is = refl;
+  is_refused = λ one. absurd (omega arith);
+  is_reached = λ one. weaker words (λ command files. Carries command files told reads writes taken now (Err (ReadFault file))) (λ command files. IsReached told files (file_of file)) (λ command files x. x.0) h;
+  is_too_large = λ one. absurd (omega arith);
+}
+ends_line words told reads writes taken now (Err WriteFault) h n = plain_line words told 4 _ (inr (inl refl)) refl
+ends_line words told reads writes taken now (Err NoMemory) h n = plain_line words told 5 _ (inr (inr (inl refl))) refl
+ends_line words told reads writes taken now (Err (TooLarge file)) h n = record {
+  file = file_of file;
+  why = [];
+  line_is = refl;
+  is_refused = λ one. absurd (omega arith);
+  is_reached = λ one. absurd (omega arith);
+  is_too_large = λ one. h;
+}
+
+-- ---- lemmas for callers
+
+-- what holds of the ending's status and of 5 holds of what is reported
+reported : (P : ℕ → Type 0) (status due : ℕ) → (status ≡ due) ⊎ ((status ≡ 5) × (due ≢ 0)) → P due → P 5 → P status
+reported P status due (inl e) p five = rw e p
+reported P status due (inr e) p five = rw e.0 five
+
+-- the reported status has a reason
+pub reported_reason : (words : List (List ℕ)) (told : Option Shelf) (reads writes : Count) (taken now : Option (List ℕ)) (e : Result (Unit {0}) Stop) (status : ℕ) → Ends words told reads writes taken now e
+    → (status ≡ status_of e) ⊎ ((status ≡ 5) × (status_of e ≢ 0)) → HasReason words told reads writes status
+reported_reason words told reads writes taken now e status ends is = reported (HasReason words told reads writes) status (status_of e) is (ends_reason words told reads writes taken now e ends) (reason_five words told reads writes)
+
+-- it can come
+pub reported_comes : (words : List (List ℕ)) (told : Option Shelf) (reads writes : Count) (taken now : Option (List ℕ)) (e : Result (Unit {0}) Stop) (status : ℕ) → Ends words told reads writes taken now e
+    → (status ≡ status_of e) ⊎ ((status ≡ 5) × (status_of e ≢ 0)) → Comes words told status
+reported_comes words told reads writes taken now e status ends is = reported (Comes words told) status (status_of e) is (ends_comes words told reads writes taken now e ends) (comes_five words told)
+
+-- it follows from the files, where no fault gave it
+pub reported_follows : (words : List (List ℕ)) (told : Option Shelf) (reads writes : Count) (taken now : Option (List ℕ)) (e : Result (Unit {0}) Stop) (status : ℕ) → Ends words told reads writes taken now e
+    → (status ≡ status_of e) ⊎ ((status ≡ 5) × (status_of e ≢ 0)) → ((command : Command) (files : List File) → Asks words command files → IsTold told → NoneIsMissing told files → status_of e ≢ 3) → status_of e ≢ 4 → Follows words told status
+reported_follows words told reads writes taken now e status ends is read written =
+    reported (Follows words told) status (status_of e) is (follows words told (status_of e) (ends_comes words told reads writes taken now e ends) read written) (follows_five words told)
+
+-- so it does where no count rose
+pub counted_follows : (words : List (List ℕ)) (told : Option Shelf) (reads writes : Count) (taken now : Option (List ℕ)) (e : Result (Unit {0}) Stop) (status : ℕ) → Ends words told reads writes taken now e
+    → (status ≡ status_of e) ⊎ ((status ≡ 5) × (status_of e ≢ 0)) → ¬ (RoseIn reads) → ¬ (RoseIn writes) → Follows words told status
+counted_follows words told reads writes taken now e status ends is read written =
+    let reason = ends_reason words told reads writes taken now e ends in
+    reported_follows words told reads writes taken now e status ends is (λ command files asks is_told none n. read (reason.read_fault n)) (λ n. written (reason.write_fault n))
 
 -- the status that has a line of its own is the ending's
 due_is : (status due : ℕ) → (status ≡ due) ⊎ ((status ≡ 5) × (due ≢ 0)) → IsOneOf status (1 ∷ 2 ∷ 3 ∷ 4 ∷ 7 ∷ []) → (status ≡ due) × (status ≢ 5) × (due ≢ 0)
 due_is status due is one = (omega (arith, is, one), λ e. omega (arith, one), λ e. omega (arith, is, one))
 
 -- the line that was told
-pub tells_line : (words : List (List ℕ)) (told : Option Shelf) (reads writes errs : Count) (taken now err err_now : Option (List ℕ)) (e : Ending) (status : ℕ) → Ends words told reads writes taken now e
+pub tells_line : (words : List (List ℕ)) (told : Option Shelf) (reads writes errs : Count) (taken now err err_now : Option (List ℕ)) (e : Result (Unit {0}) Stop) (status : ℕ) → Ends words told reads writes taken now e
     → (status ≡ status_of e) ⊎ ((status ≡ 5) × (status_of e ≢ 0)) → TakesFront err err_now (line_of e) → (status ≢ 5 → TakesAll err err_now (line_of e) ⊎ RoseIn errs)
     → IsOneOf status (1 ∷ 2 ∷ 3 ∷ 4 ∷ 7 ∷ []) → TellsLine words told err err_now errs status
 tells_line words told reads writes errs taken now err err_now e status ends is front whole one =
@@ -273,16 +299,19 @@ tells_line words told reads writes errs taken now err err_now e status ends is f
     (line_of e, rw due.0 (ends_line words told reads writes taken now e ends due.2), front, whole due.1)
 
 -- what was told where memory was wanted
-pub tells_no_memory : (words : List (List ℕ)) (told : Option Shelf) (reads writes : Count) (taken now err err_now : Option (List ℕ)) (e : Ending) (status : ℕ) → Ends words told reads writes taken now e
+pub tells_no_memory : (words : List (List ℕ)) (told : Option Shelf) (reads writes : Count) (taken now err err_now : Option (List ℕ)) (e : Result (Unit {0}) Stop) (status : ℕ) → Ends words told reads writes taken now e
     → (status ≡ status_of e) ⊎ ((status ≡ 5) × (status_of e ≢ 0)) → TakesFront err err_now (line_of e) → status ≡ 5 → TellsNoMemory words told reads writes err err_now
 tells_no_memory words told reads writes taken now err err_now e status ends is front five =
     due_line e ends (omega (arith, is, five)) (line_of e, ends_line words told reads writes taken now e ends (omega (arith, is, five)), front)
   where
-    due_line : (e : Ending) → Ends words told reads writes taken now e → status_of e ≢ 0 → TellsFront words told err err_now (status_of e) → TellsNoMemory words told reads writes err err_now
-    due_line Done ends n told_front = absurd (n refl)
-    due_line NoMemory ends n told_front = inl told_front
-    due_line (Refused word why) ends n told_front = inr (1, inl refl, ends_reason words told reads writes taken now (Refused word why) ends, told_front)
-    due_line Usage ends n told_front = inr (2, inr (inl refl), ends_reason words told reads writes taken now Usage ends, told_front)
-    due_line (ReadFault name) ends n told_front = inr (3, inr (inr (inl refl)), ends_reason words told reads writes taken now (ReadFault name) ends, told_front)
-    due_line WriteFault ends n told_front = inr (4, inr (inr (inr (inl refl))), ends_reason words told reads writes taken now WriteFault ends, told_front)
-    due_line (TooLarge name) ends n told_front = inr (7, inr (inr (inr (inr (inl refl)))), ends_reason words told reads writes taken now (TooLarge name) ends, told_front)
+    other : (due : ℕ) (f : Result (Unit {0}) Stop) → due ≡ status_of f → IsOneOf due (1 ∷ 2 ∷ 3 ∷ 4 ∷ 7 ∷ []) → Ends words told reads writes taken now f → TellsFront words told err err_now (status_of f) → TellsNoMemory words told reads writes err err_now
+    other due f is one ends told_front = inr (due, one, rw is (ends_reason words told reads writes taken now f ends), rw is told_front)
+
+    due_line : (f : Result (Unit {0}) Stop) → Ends words told reads writes taken now f → status_of f ≢ 0 → TellsFront words told err err_now (status_of f) → TellsNoMemory words told reads writes err err_now
+    due_line (Ok done) ends n told_front = absurd (n refl)
+    due_line (Err NoMemory) ends n told_front = inl told_front
+    due_line (Err (Refused file cause spot)) ends n told_front = other 1 (Err (Refused file cause spot)) refl (inl refl) ends told_front
+    due_line (Err Usage) ends n told_front = other 2 (Err Usage) refl (inr (inl refl)) ends told_front
+    due_line (Err (ReadFault file)) ends n told_front = other 3 (Err (ReadFault file)) refl (inr (inr (inl refl))) ends told_front
+    due_line (Err WriteFault) ends n told_front = other 4 (Err WriteFault) refl (inr (inr (inr (inl refl)))) ends told_front
+    due_line (Err (TooLarge file)) ends n told_front = other 7 (Err (TooLarge file)) refl (inr (inr (inr (inr (inl refl))))) ends told_front

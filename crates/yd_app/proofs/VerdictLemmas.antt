@@ -1,150 +1,184 @@
--- What a file is to a command: one thing, and there always is one.
-use Rattle.std.proofs.Common.{◌≡◌, ◌≢◌, ◌⊎◌, ◌^◌, ℕ, List, ◌++◌, length, get_or, arith, Result, Ok, Err, inl, inr, refl, sym, ap, ◌∙◌}
+-- What a file is: one thing, and there always is one; and so of lists of files.
+use Rattle.std.proofs.Common.{◌≡◌, ◌⊎◌, ◌^◌, ◌<◌, ◌≤◌, ℕ, List, [], ◌∷◌, ◌++◌, length, arith, Option, Some, None, Result, Ok, Err, inl, inr, refl, sym, subst, ap, ◌∙◌}
 use Rattle.std.proofs.lemmas.Bool.{cases_lt}
-use Rattle.std.specs.Prelude.{codes}
 use Rattle.yd_parts.specs.Fault.{Fault}
-use Rattle.yd_num.proofs.ReadingLemmas.{ok_value}
+use Rattle.yd_ids.specs.Each.{Each}
+use Rattle.yd_ops.specs.Valid.{IsValidUpdate}
 use Rattle.yd_ops.specs.Value.{UpdateValue}
-use Rattle.yd_app.proofs.FirstFormLemmas.{first_form_stands}
+use Rattle.yd_world.specs.Shelf.{Shelf}
 use Rattle.yd_app.proofs.FormatLemmas.{read_exactly, reading_in}
-use Rattle.yd_app.proofs.FormLemmas.{one_text_found, one_text_only, stands_for_one}
-use Rattle.yd_app.specs.Converted.{converted_bytes}
-use Rattle.yd_app.specs.FormReading.{one_text_at}
+use Rattle.yd_app.proofs.ValidLemmas.{stands_valid}
 use Rattle.yd_app.specs.Law.{FilesAreJudged}
-use Rattle.yd_app.specs.OneText.{OneText, StandsFor, update_of}
 use Rattle.yd_app.specs.Reason.{fault_text}
-use Rattle.yd_app.specs.Verdict.{Accepts, HasFirstFaultIn, IsAccepted, IsInGrammar, IsOutside, IsRefused, Refuses, StandsIn, output_of}
-use Rattle.yd_app.specs.Words.{Asks, Command, Format, convert, prefix_of, show_text, v1, v2, word_of, words_of}
-use Rattle.yd_app.specs.declared.one_text.Unbuilt.{Unbuilt}
+use Rattle.yd_app.specs.Verdict.{AreRead, HasVerdict, IsObjection, IsReached, StopsAt, Verdict, accepted, missing, refused, too_large}
+use Rattle.yd_app.specs.Words.{File, Format}
 
--- ---- files in a format
+-- ---- one file
 
--- no file stands for two updates
-update_unique : (format : Format) (bytes : List ℕ) (u v : UpdateValue) → StandsIn format bytes u → StandsIn format bytes v → u ≡ v
-update_unique format bytes u v a b = ok_value {E = Fault} u v (sym (((read_exactly format).values bytes u).1 a) ∙ ((read_exactly format).values bytes v).1 b)
+-- what a reading makes of a file
+abbrev of_reading : Result UpdateValue Fault → Verdict
+of_reading (Ok update) = accepted update
+of_reading (Err fault) = refused (fault_text fault)
 
--- none has two first faults
-fault_unique : (format : Format) (bytes : List ℕ) (fault other : Fault) → HasFirstFaultIn format bytes fault → HasFirstFaultIn format bytes other → fault ≡ other
-fault_unique format bytes fault other a b =
-    let same : ◌≡◌ {A = Result UpdateValue Fault} (Err fault) (Err other) = sym (((read_exactly format).faults bytes fault).1 a) ∙ ((read_exactly format).faults bytes other).1 b in cc
+-- what bytes are that are there
+abbrev of_sized : Format → (bytes : List ℕ) → (2 ^ 26 < length bytes) ⊎ (length bytes ≤ 2 ^ 26) → Verdict
+of_sized format bytes (inl large) = too_large
+of_sized format bytes (inr within) = of_reading (reading_in format bytes)
 
--- and none has both
-in_or_out : (format : Format) (bytes why : List ℕ) → IsInGrammar format bytes → IsOutside format bytes why → ⊥
-in_or_out format bytes why within outside =
-    let same : ◌≡◌ {A = Result UpdateValue Fault} (Ok within.0) (Err outside.0) = sym (((read_exactly format).values bytes within.0).1 within.1) ∙ ((read_exactly format).faults bytes outside.0).1 outside.1 in cc
+-- what is there under a name
+abbrev of_bytes : Format → Option (List ℕ) → Verdict
+of_bytes format None = missing
+of_bytes format (Some bytes) = of_sized format bytes (cases_lt (2 ^ 26) (length bytes))
 
--- the reason of a file outside the grammar
-outside_unique : (format : Format) (bytes why other : List ℕ) → IsOutside format bytes why → IsOutside format bytes other → why ≡ other
-outside_unique format bytes why other a b = a.2 ∙ ap fault_text (fault_unique format bytes a.0 b.0 a.1 b.1) ∙ sym b.2
+-- what a file is
+abbrev verdict_in : Shelf → File → Verdict
+verdict_in shelf file = of_bytes file.format (shelf.bytes_under file.name)
 
--- every file is in the grammar or outside it
-grammar_cases : (format : Format) (bytes : List ℕ) → IsInGrammar format bytes ⊎ ((why : List ℕ) × IsOutside format bytes why)
-grammar_cases format bytes = by_reading (reading_in format bytes) refl
+-- bytes that are not too large are what reading makes of them
+within_read : (format : Format) (bytes : List ℕ) (size : (2 ^ 26 < length bytes) ⊎ (length bytes ≤ 2 ^ 26)) → length bytes ≤ 2 ^ 26 → of_sized format bytes size ≡ of_reading (reading_in format bytes)
+within_read format bytes (inl large) within = absurd (omega (arith, large, within))
+within_read format bytes (inr small) within = refl
+
+sized_large : (format : Format) (bytes : List ℕ) (size : (2 ^ 26 < length bytes) ⊎ (length bytes ≤ 2 ^ 26)) → 2 ^ 26 < length bytes → of_sized format bytes size ≡ too_large
+sized_large format bytes (inl large) more = refl
+sized_large format bytes (inr small) more = absurd (omega (arith, small, more))
+
+-- there is no other verdict
+verdict_only : (shelf : Shelf) (file : File) (verdict : Verdict) → HasVerdict (Some shelf) file verdict → verdict ≡ verdict_in shelf file
+verdict_only shelf file (accepted update) has =
+    let read : reading_in file.format has.0 ≡ Ok update = ((read_exactly file.format).values has.0 update).1 has.2.1 in
+    sym (ap (of_bytes file.format) has.1 ∙ within_read file.format has.0 (cases_lt (2 ^ 26) (length has.0)) has.2.0 ∙ ap of_reading read)
+verdict_only shelf file (refused why) has =
+    let read : reading_in file.format has.0 ≡ Err has.2.1.0 = ((read_exactly file.format).faults has.0 has.2.1.0).1 has.2.1.1 in
+    ap refused has.2.1.2 ∙ sym (ap (of_bytes file.format) has.1 ∙ within_read file.format has.0 (cases_lt (2 ^ 26) (length has.0)) has.2.0 ∙ ap of_reading read)
+verdict_only shelf file too_large has = sym (ap (of_bytes file.format) has.1 ∙ sized_large file.format has.0 (cases_lt (2 ^ 26) (length has.0)) has.2)
+verdict_only shelf file missing has = sym (ap (of_bytes file.format) has)
+
+-- and there is this one
+verdict_has : (shelf : Shelf) (file : File) → (verdict : Verdict) × HasVerdict (Some shelf) file verdict
+verdict_has shelf file = by_bytes (shelf.bytes_under file.name) refl
   where
-    by_reading : (reading : Result UpdateValue Fault) → reading_in format bytes ≡ reading → IsInGrammar format bytes ⊎ ((why : List ℕ) × IsOutside format bytes why)
-    by_reading (Ok u) is = inl (u, ((read_exactly format).values bytes u).0 is)
-    by_reading (Err fault) is = inr (fault_text fault, (fault, ((read_exactly format).faults bytes fault).0 is, refl))
+    by_reading : (bytes : List ℕ) (reading : Result UpdateValue Fault) → shelf.bytes_under file.name ≡ Some bytes → length bytes ≤ 2 ^ 26 → reading_in file.format bytes ≡ reading → (verdict : Verdict) × HasVerdict (Some shelf) file verdict
+    by_reading bytes (Ok update) is within read = (accepted update, (bytes, is, (within, ((read_exactly file.format).values bytes update).0 read)))
+    by_reading bytes (Err fault) is within read = (refused (fault_text fault), (bytes, is, (within, (fault, ((read_exactly file.format).faults bytes fault).0 read, refl))))
 
--- every file is of the form that `show` has, or of another
-form_cases : (bytes : List ℕ) → ((update : OneText) × StandsFor bytes update) ⊎ ((update : OneText) → ¬ (StandsFor bytes update))
-form_cases bytes = by_reading (one_text_at bytes) refl
+    by_bytes : (found : Option (List ℕ)) → shelf.bytes_under file.name ≡ found → (verdict : Verdict) × HasVerdict (Some shelf) file verdict
+    by_bytes None is = (missing, is)
+    by_bytes (Some bytes) is =
+        elim (cases_lt (2 ^ 26) (length bytes)) [
+          | inl large ↦ (too_large, (bytes, is, large))
+          | inr within ↦ by_reading bytes (reading_in file.format bytes) is within refl
+        ]
+
+-- a file is one thing
+verdict_one : (shelf : Shelf) (file : File) (verdict other : Verdict) → HasVerdict (Some shelf) file verdict → HasVerdict (Some shelf) file other → verdict ≡ other
+verdict_one shelf file verdict other a b = verdict_only shelf file verdict a ∙ sym (verdict_only shelf file other b)
+
+-- what is accepted is not objected to
+objection_apart : (shelf : Shelf) (file : File) (update : UpdateValue) (verdict : Verdict) → HasVerdict (Some shelf) file (accepted update) → HasVerdict (Some shelf) file verdict → IsObjection verdict → ⊥
+objection_apart shelf file update verdict a b objects = by_verdict verdict (verdict_one shelf file (accepted update) verdict a b) objects
   where
-    by_reading : (reading : Result OneText Unbuilt) → one_text_at bytes ≡ reading → ((update : OneText) × StandsFor bytes update) ⊎ ((update : OneText) → ¬ (StandsFor bytes update))
-    by_reading (Ok update) is = inl (update, one_text_found bytes update is)
-    by_reading (Err unbuilt) is = inr (λ update stands. let same : ◌≡◌ {A = Result OneText Unbuilt} (Ok update) (Err unbuilt) = sym (one_text_only bytes update stands) ∙ is in cc)
+    by_verdict : (v : Verdict) → accepted update ≡ v → IsObjection v → ⊥
+    by_verdict (accepted other) e o = o
+    by_verdict (refused why) e o = cc
+    by_verdict too_large e o = cc
+    by_verdict missing e o = cc
 
--- ---- commands
+-- ---- lists of files
 
--- a command writes one output of a file
-output_unique : (command : Command) (format : Format) (bytes out other : List ℕ) → Accepts command format bytes out → Accepts command format bytes other → out ≡ other
-output_unique (show_text root) format bytes out other a b = a.2 ∙ ap (output_of root) (stands_for_one bytes a.0 b.0 a.1 b.1) ∙ sym b.2
-output_unique (convert form) format bytes out other a b = a.2 ∙ ap (converted_bytes form) (update_unique format bytes a.0 b.0 a.1 b.1) ∙ sym b.2
+-- two lists of updates are one
+pub updates_one : (shelf : Shelf) (files : List File) (updates others : List UpdateValue) → AreRead (Some shelf) files updates → AreRead (Some shelf) files others → updates ≡ others
+updates_one shelf [] [] [] a b = refl
+updates_one shelf [] [] (v ∷ vs) a b = absurd b
+updates_one shelf [] (u ∷ us) others a b = absurd a
+updates_one shelf (file ∷ files) [] others a b = absurd a
+updates_one shelf (file ∷ files) (u ∷ us) [] a b = absurd b
+updates_one shelf (file ∷ files) (u ∷ us) (v ∷ vs) a b =
+    let first : accepted u ≡ accepted v = verdict_one shelf file (accepted u) (accepted v) a.0 b.0 in
+    let rest : us ≡ vs = updates_one shelf files us vs a.1 b.1 in
+    let same : u ≡ v = cc in cc
 
--- it refuses a file for one reason
-reason_unique : (command : Command) (format : Format) (bytes why other : List ℕ) → Refuses command format bytes why → Refuses command format bytes other → why ≡ other
-reason_unique (show_text root) format bytes why other (inl a) (inl b) = outside_unique v1 bytes why other a b
-reason_unique (show_text root) format bytes why other (inl a) (inr b) = absurd (in_or_out v1 bytes why b.0 a)
-reason_unique (show_text root) format bytes why other (inr a) (inl b) = absurd (in_or_out v1 bytes other a.0 b)
-reason_unique (show_text root) format bytes why other (inr a) (inr b) = a.2 ∙ sym b.2
-reason_unique (convert form) format bytes why other a b = outside_unique format bytes why other a b
+-- of files that are all accepted none is objected to
+read_apart : (shelf : Shelf) (before behind : List File) (file : File) (updates : List UpdateValue) (verdict : Verdict) → AreRead (Some shelf) (before ++ file ∷ behind) updates → IsObjection verdict → HasVerdict (Some shelf) file verdict → ⊥
+read_apart shelf [] behind file [] verdict a objects has = a
+read_apart shelf [] behind file (u ∷ us) verdict a objects has = objection_apart shelf file u verdict a.0 has objects
+read_apart shelf (other ∷ before) behind file [] verdict a objects has = a
+read_apart shelf (other ∷ before) behind file (u ∷ us) verdict a objects has = read_apart shelf before behind file us verdict a.1 objects has
 
--- it does not do both
-never_both : (command : Command) (format : Format) (bytes output why : List ℕ) → Accepts command format bytes output → Refuses command format bytes why → ⊥
-never_both (show_text root) format bytes output why a (inl r) = in_or_out v1 bytes why (update_of a.0, first_form_stands bytes a.0 a.1) r
-never_both (show_text root) format bytes output why a (inr r) = r.1 a.0 a.1
-never_both (convert form) format bytes output why a r = in_or_out format bytes why (a.0, a.1) r
+pub stops_apart : (shelf : Shelf) (files : List File) (updates : List UpdateValue) (file : File) (verdict : Verdict) → AreRead (Some shelf) files updates → StopsAt (Some shelf) files file verdict → ⊥
+stops_apart shelf files updates file verdict read stops =
+    read_apart shelf stops.reached.before stops.reached.behind file updates verdict (subst (λ fs. AreRead (Some shelf) fs updates) stops.reached.files_are read) stops.objects stops.verdict_is
 
--- and it does one of them
-one_of_both : (command : Command) (format : Format) (bytes : List ℕ) → ((output : List ℕ) × Accepts command format bytes output) ⊎ ((why : List ℕ) × Refuses command format bytes why)
-one_of_both (show_text root) format bytes =
-    elim (grammar_cases v1 bytes) [
-      | inr outside ↦ inr (outside.0, inl outside.1)
-      | inl within ↦ elim (form_cases bytes) [
-        | inl found ↦ inl (output_of root found.0, (found.0, found.1, refl))
-        | inr none ↦ inr (codes "Unbuilt 0", inr (within, none, refl))
-      ]
-    ]
-one_of_both (convert form) format bytes =
-    elim (grammar_cases format bytes) [
-      | inr outside ↦ inr outside
-      | inl within ↦ inl (converted_bytes form within.0, (within.0, within.1, refl))
-    ]
+-- the first that is objected to is one
+first_one : (shelf : Shelf) (before behind others rest : List File) (file other : File) (updates vs : List UpdateValue) (verdict thing : Verdict) → before ++ file ∷ behind ≡ others ++ other ∷ rest
+    → AreRead (Some shelf) before updates → AreRead (Some shelf) others vs → IsObjection verdict → IsObjection thing → HasVerdict (Some shelf) file verdict → HasVerdict (Some shelf) other thing → file ≡ other
+first_one shelf [] behind [] rest file other us vs verdict thing e a b o p has had = cc
+first_one shelf [] behind (f ∷ others) rest file other us [] verdict thing e a b o p has had = absurd b
+first_one shelf [] behind (f ∷ others) rest file other us (v ∷ vs) verdict thing e a b o p has had =
+    let same : f ≡ file = cc in absurd (objection_apart shelf file v verdict (subst (λ g. HasVerdict (Some shelf) g (accepted v)) same b.0) has o)
+first_one shelf (f ∷ before) behind [] rest file other [] vs verdict thing e a b o p has had = absurd a
+first_one shelf (f ∷ before) behind [] rest file other (u ∷ us) vs verdict thing e a b o p has had =
+    let same : f ≡ other = cc in absurd (objection_apart shelf other u thing (subst (λ g. HasVerdict (Some shelf) g (accepted u)) same a.0) had p)
+first_one shelf (f ∷ before) behind (g ∷ others) rest file other [] vs verdict thing e a b o p has had = absurd a
+first_one shelf (f ∷ before) behind (g ∷ others) rest file other (u ∷ us) [] verdict thing e a b o p has had = absurd b
+first_one shelf (f ∷ before) behind (g ∷ others) rest file other (u ∷ us) (v ∷ vs) verdict thing e a b o p has had =
+    let more : before ++ file ∷ behind ≡ others ++ other ∷ rest = cc in
+    first_one shelf before behind others rest file other us vs verdict thing more a.1 b.1 o p has had
 
--- ---- words
+pub stops_one : (shelf : Shelf) (files : List File) (file other : File) (verdict thing : Verdict) → StopsAt (Some shelf) files file verdict → StopsAt (Some shelf) files other thing → (file ≡ other) × (verdict ≡ thing)
+stops_one shelf files file other verdict thing a b =
+    let same : file ≡ other =
+    first_one shelf a.reached.before a.reached.behind b.reached.before b.reached.behind file other a.reached.updates b.reached.updates verdict thing (sym a.reached.files_are ∙ b.reached.files_are) a.reached.are_read b.reached.are_read a.objects b.objects a.verdict_is b.verdict_is in
+    (same, verdict_one shelf other verdict thing (subst (λ f. HasVerdict (Some shelf) f verdict) same a.verdict_is) b.verdict_is)
 
--- words whose second bytes are apart are not one
-second_apart : (word other : List ℕ) → word ≡ other → get_or word 1 0 ≢ get_or other 1 0 → ⊥
-second_apart word other e apart = apart (ap (λ (w : List ℕ). get_or w 1 0) e)
+-- one more file in front of those before one that is reached
+reached_behind : (told : Option Shelf) (files : List File) (first file : File) (update : UpdateValue) → HasVerdict told first (accepted update) → IsReached told files file → IsReached told (first ∷ files) file
+reached_behind told files first file update has r = record {
+  before = first ∷ r.before;
+  behind = r.behind;
+  updates = update ∷ r.updates;
+  files_are = ap (λ fs. first ∷ fs) r.files_are;
+  are_read = (has, r.are_read);
+}
 
--- a word names one format
-named_one : (format form : Format) → word_of format ≡ word_of form → format ≡ form
-named_one v1 v1 e = refl
-named_one v1 v2 e = absurd (second_apart (word_of v1) (word_of v2) e (omega arith))
-named_one v2 v1 e = absurd (second_apart (word_of v2) (word_of v1) e (omega arith))
-named_one v2 v2 e = refl
+-- the first file is reached
+pub reached_first : (told : Option Shelf) (file : File) (files : List File) → IsReached told (file ∷ files) file
+reached_first told file files = record { before = []; behind = files; updates = []; files_are = refl; are_read = tt }
+
+-- all files are accepted, or one is the first that is not
+judged : (shelf : Shelf) (files : List File) → ((updates : List UpdateValue) × AreRead (Some shelf) files updates) ⊎ ((file : File) × (verdict : Verdict) × StopsAt (Some shelf) files file verdict)
+judged shelf [] = inl ([], tt)
+judged shelf (file ∷ files) = by_first (verdict_has shelf file).0 (verdict_has shelf file).1 (judged shelf files)
+  where
+    stop : (verdict : Verdict) → IsObjection verdict → HasVerdict (Some shelf) file verdict → (f : File) × (v : Verdict) × StopsAt (Some shelf) (file ∷ files) f v
+    stop verdict objects has = (file, verdict, record { reached = reached_first (Some shelf) file files; objects = objects; verdict_is = has })
+
+    by_first : (verdict : Verdict) → HasVerdict (Some shelf) file verdict → ((updates : List UpdateValue) × AreRead (Some shelf) files updates) ⊎ ((f : File) × (v : Verdict) × StopsAt (Some shelf) files f v)
+        → ((updates : List UpdateValue) × AreRead (Some shelf) (file ∷ files) updates) ⊎ ((f : File) × (v : Verdict) × StopsAt (Some shelf) (file ∷ files) f v)
+    by_first (accepted update) has (inl read) = inl (update ∷ read.0, (has, read.1))
+    by_first (accepted update) has (inr stops) =
+        inr (stops.0, stops.1, record { reached = reached_behind (Some shelf) files file stops.0 update has stops.2.reached; objects = stops.2.objects; verdict_is = stops.2.verdict_is })
+    by_first (refused why) has rest = inr (stop (refused why) tt has)
+    by_first too_large has rest = inr (stop too_large tt has)
+    by_first missing has rest = inr (stop missing tt has)
+
+-- updates of files are valid
+pub read_valid : (shelf : Shelf) (files : List File) (updates : List UpdateValue) → AreRead (Some shelf) files updates → Each IsValidUpdate updates
+read_valid shelf [] [] a = tt
+read_valid shelf [] (u ∷ us) a = absurd a
+read_valid shelf (file ∷ files) [] a = absurd a
+read_valid shelf (file ∷ files) (u ∷ us) a = (stands_valid file.format a.0.0 u a.0.2.1, read_valid shelf files us a.1)
 
 -- ---- lemmas for callers
 
--- a word names one file in one format
-pub file_same : (format form : Format) (file name : List ℕ) → prefix_of format ++ file ≡ prefix_of form ++ name → (format ≡ form) × (file ≡ name)
-file_same v1 v1 file name e = (refl, cc)
-file_same v1 v2 file name e = absurd (second_apart (prefix_of v1 ++ file) (prefix_of v2 ++ name) e (omega arith))
-file_same v2 v1 file name e = absurd (second_apart (prefix_of v2 ++ file) (prefix_of v1 ++ name) e (omega arith))
-file_same v2 v2 file name e = (refl, cc)
-
--- words ask for one command of one file in one format
-pub asks_same : (words : List (List ℕ)) (command other : Command) (format form : Format) (file name : List ℕ) → Asks words command format file → Asks words other form name → (command ≡ other) × (format ≡ form) × (file ≡ name)
-asks_same words (show_text root) (show_text other) format form file name a b =
-    let e : ◌≡◌ {A = List (List ℕ)} (words_of (show_text root) (prefix_of format ++ file)) (words_of (show_text other) (prefix_of form ++ name)) = sym a.words_are ∙ b.words_are in
-    let same_root : root ≡ other = cc in
-    let same = file_same format form file name cc in
-    (ap show_text same_root, same.0, same.1)
-asks_same words (show_text root) (convert other) format form file name a b =
-    let e : ◌≡◌ {A = List (List ℕ)} (words_of (show_text root) (prefix_of format ++ file)) (words_of (convert other) (prefix_of form ++ name)) = sym a.words_are ∙ b.words_are in
-    absurd cc
-asks_same words (convert to) (show_text other) format form file name a b =
-    let e : ◌≡◌ {A = List (List ℕ)} (words_of (convert to) (prefix_of format ++ file)) (words_of (show_text other) (prefix_of form ++ name)) = sym a.words_are ∙ b.words_are in
-    absurd cc
-asks_same words (convert to) (convert other) format form file name a b =
-    let e : ◌≡◌ {A = List (List ℕ)} (words_of (convert to) (prefix_of format ++ file)) (words_of (convert other) (prefix_of form ++ name)) = sym a.words_are ∙ b.words_are in
-    let same = file_same format form file name cc in
-    (ap convert (named_one to other cc), same.0, same.1)
-
--- a file that is accepted is not refused
-pub accepted_apart : (command : Command) (format : Format) (bytes output why : List ℕ) → IsAccepted command format bytes output → IsRefused command format bytes why → ⊥
-accepted_apart command format bytes output why a r = never_both command format bytes output why a.accepts r.refuses
-
--- every file is one thing to a command
+-- files are judged
 pub files_judged : FilesAreJudged
 files_judged = record {
-  judged = λ command format bytes. elim (cases_lt (2 ^ 26) (length bytes)) [
-    | inl large ↦ inr (inr large)
-    | inr within ↦ elim (one_of_both command format bytes) [
-      | inl accepts ↦ inl (accepts.0, record { within = within; accepts = accepts.1 })
-      | inr refuses ↦ inr (inl (refuses.0, record { within = within; refuses = refuses.1 }))
-    ]
-  ];
-  output = λ command format bytes out other a b. output_unique command format bytes out other a.accepts b.accepts;
-  reason = λ command format bytes why other a b. reason_unique command format bytes why other a.refuses b.refuses;
-  apart = accepted_apart;
+  file = verdict_has;
+  one = verdict_one;
+  files = judged;
+  updates = updates_one;
+  valid = read_valid;
+  first = stops_one;
+  apart = stops_apart;
 }

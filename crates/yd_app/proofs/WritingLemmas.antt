@@ -1,5 +1,5 @@
 -- What a sink took so far, after one more call.
-use Rattle.std.proofs.Common.{◌≡◌, ℕ, ◌+◌, List, ◌++◌, length, take, drop, Option, Some, None, Ok, Err, refl, sym, ap, ◌∙◌, inl, inr, append_assoc, arith}
+use Rattle.std.proofs.Common.{◌≡◌, ℕ, ◌+◌, List, ◌++◌, length, take, drop, Option, Some, None, Result, Ok, Err, OnOk, refl, sym, ap, ◌∙◌, inl, inr, append_assoc, arith}
 use Rattle.std.proofs.Math.Seq.{take-append-add}
 use Rattle.std.proofs.lemmas.Bool.{cases_lt}
 use Rattle.std.proofs.lemmas.List.{take_all, take-append-le, take_at, take-append-drop}
@@ -58,3 +58,8 @@ then_all None now new xs ys t f = tt
 then_all (Some old) None new xs ys t f = absurd t
 then_all (Some old) (Some now) None xs ys t f = absurd f
 then_all (Some old) (Some now) (Some new) xs ys t f = f ∙ ap (λ (l : List ℕ). l ++ ys) t ∙ append_assoc old xs ys
+
+-- what follows after an answer that is Ok
+pub on_ok : {X E P Q : Type 0} (result : Result X E) → (P → Q) → OnOk result P → OnOk result Q
+on_ok (Ok x) weaker p = weaker p
+on_ok (Err e) weaker p = tt

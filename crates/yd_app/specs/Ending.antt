@@ -1,44 +1,39 @@
 -- How the code says that a run ends, in statuses and lines.
-use Rattle.std.specs.Prelude.{◌≡◌, ◌≢◌, ◌⊎◌, ℕ, List, [], ◌++◌, Option, codes}
+use Rattle.std.specs.Prelude.{◌≡◌, ◌⊎◌, ℕ, List, [], ◌++◌, Option, Result, Ok, Err, codes}
 use Rattle.yd_world.specs.Shelf.{Shelf}
-use Rattle.yd_app.specs.Run.{Count, RoseIn, Writes, WritesFront}
-use Rattle.yd_app.specs.Seen.{reason_of, refusal_line}
-use Rattle.yd_app.specs.Verdict.{IsRefused, IsTooLarge, HasBytes, WhereTold}
-use Rattle.yd_app.specs.Words.{AreOfNoForm, Asks, Command, Format, prefix_of}
-use Rattle.yd_app.specs.declared.ending.Ending.{Ending}
-use Rattle.yd_app.specs.declared.ending.Ending.TheVariants.{Done, Refused, Usage, ReadFault, WriteFault, NoMemory, TooLarge}
+use Rattle.yd_app.specs.Run.{Count, WritesFront}
+use Rattle.yd_app.specs.Seen.{refusal_line}
+use Rattle.yd_app.specs.Stopping.{Carries}
+use Rattle.yd_app.specs.Words.{AreOfNoForm, AsksFor}
+use Rattle.yd_app.specs.declared.stop.Stop.{Stop}
+use Rattle.yd_app.specs.declared.stop.Stop.TheVariants.{Usage, Refused, ReadFault, TooLarge, NoMemory, WriteFault}
 
 -- its status
-abbrev pub status_of : Ending → ℕ
-status_of Done = 0
-status_of (Refused file why) = 1
-status_of Usage = 2
-status_of (ReadFault name) = 3
-status_of WriteFault = 4
-status_of NoMemory = 5
-status_of (TooLarge name) = 7
+abbrev pub status_of : Result (Unit {0}) Stop → ℕ
+status_of (Ok done) = 0
+status_of (Err (Refused file cause spot)) = 1
+status_of (Err Usage) = 2
+status_of (Err (ReadFault file)) = 3
+status_of (Err WriteFault) = 4
+status_of (Err NoMemory) = 5
+status_of (Err (TooLarge file)) = 7
 
 -- its line on err
-abbrev pub line_of : Ending → List ℕ
-line_of Done = []
-line_of (Refused file why) = refusal_line file.now why
-line_of Usage = codes "usage: ydoc show|merge|cut|vector|convert|edit|serve|sync|check|generate" ++ [] ++ codes "\n"
-line_of (ReadFault name) = codes "read fault " ++ name.now ++ codes "\n"
-line_of WriteFault = codes "write fault" ++ [] ++ codes "\n"
-line_of NoMemory = codes "no memory" ++ [] ++ codes "\n"
-line_of (TooLarge name) = codes "limit " ++ name.now ++ codes " TooLarge\n"
+abbrev pub line_of : Result (Unit {0}) Stop → List ℕ
+line_of (Ok done) = []
+line_of (Err (Refused file cause spot)) = refusal_line file cause spot
+line_of (Err Usage) = codes "usage: ydoc show|merge|cut|vector|convert|edit|serve|sync|check|generate" ++ [] ++ codes "\n"
+line_of (Err (ReadFault file)) = codes "read fault " ++ file.name.now ++ codes "\n"
+line_of (Err WriteFault) = codes "write fault" ++ [] ++ codes "\n"
+line_of (Err NoMemory) = codes "no memory" ++ [] ++ codes "\n"
+line_of (Err (TooLarge file)) = codes "limit " ++ file.name.now ++ codes " TooLarge\n"
 
--- what each ending says of the words, the file, the counts and the output
-abbrev pub Ends : List (List ℕ) → Option Shelf → Count → Count → Option (List ℕ) → Option (List ℕ) → Ending → Type 0
-Ends words told reads writes taken taken_now Done = Writes words told taken taken_now
-Ends words told reads writes taken taken_now (Refused file why) =
-    (command : Command) × (format : Format) × (name : List ℕ) × Asks words command format name × (file.now ≡ prefix_of format ++ name) × WhereTold told name (λ bytes. IsRefused command format bytes (reason_of why))
-Ends words told reads writes taken taken_now Usage = AreOfNoForm words
-Ends words told reads writes taken taken_now (ReadFault name) = (command : Command) × (format : Format) × Asks words command format name.now × RoseIn reads
-Ends words told reads writes taken taken_now WriteFault = WritesFront words told taken taken_now × RoseIn writes
-Ends words told reads writes taken taken_now NoMemory = (taken_now ≡ taken) ⊎ WritesFront words told taken taken_now
-Ends words told reads writes taken taken_now (TooLarge name) = (command : Command) × (format : Format) × Asks words command format name.now × WhereTold told name.now IsTooLarge
-
--- a file that is there is read, and no fault is counted
-abbrev pub ReadsFile : List (List ℕ) → Option Shelf → Count → ℕ → Type 0
-ReadsFile words told reads status = (command : Command) (format : Format) (file bytes : List ℕ) → Asks words command format file → HasBytes told file bytes → (status ≢ 3) × (reads.now ≡ reads.before)
+-- what each ending says of the words, the files, the counts and the output
+abbrev pub Ends : List (List ℕ) → Option Shelf → Count → Count → Option (List ℕ) → Option (List ℕ) → Result (Unit {0}) Stop → Type 0
+Ends words told reads writes taken now (Ok done) = AsksFor words (λ command files. Carries command files told reads writes taken now (Ok done))
+Ends words told reads writes taken now (Err (Refused file cause spot)) = AsksFor words (λ command files. Carries command files told reads writes taken now (Err (Refused file cause spot)))
+Ends words told reads writes taken now (Err (ReadFault file)) = AsksFor words (λ command files. Carries command files told reads writes taken now (Err (ReadFault file)))
+Ends words told reads writes taken now (Err (TooLarge file)) = AsksFor words (λ command files. Carries command files told reads writes taken now (Err (TooLarge file)))
+Ends words told reads writes taken now (Err WriteFault) = AsksFor words (λ command files. Carries command files told reads writes taken now (Err WriteFault))
+Ends words told reads writes taken now (Err NoMemory) = (now ≡ taken) ⊎ WritesFront words told taken now
+Ends words told reads writes taken now (Err Usage) = AreOfNoForm words

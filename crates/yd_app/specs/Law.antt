@@ -1,26 +1,50 @@
--- Laws over the form that `show` has, and over what a file is to a command.
-use Rattle.std.specs.Prelude.{◌≡◌, ◌⊎◌, ℕ, List}
-use Rattle.yd_v1.specs.Grammar.{StandsForV1}
-use Rattle.yd_app.specs.OneText.{OneText, StandsFor, update_of}
-use Rattle.yd_app.specs.Verdict.{IsAccepted, IsRefused, IsTooLarge}
-use Rattle.yd_app.specs.Words.{Asks, Command, Format}
+-- Laws over words, files, and what is shown of them.
+use Rattle.std.specs.Prelude.{◌≡◌, ◌⊎◌, ℕ, List, Option, Some}
+use Rattle.yd_ids.specs.Each.{Each}
+use Rattle.yd_ops.specs.Valid.{IsValidUpdate}
+use Rattle.yd_ops.specs.Value.{UpdateValue}
+use Rattle.yd_meaning.specs.Received.{Agree, HaveSameContents, operations_of_all}
+use Rattle.yd_world.specs.Shelf.{Shelf}
+use Rattle.yd_app.specs.Output.{output_of}
+use Rattle.yd_app.specs.Run.{Writes}
+use Rattle.yd_app.specs.Verdict.{AreRead, HasVerdict, StopsAt, Verdict}
+use Rattle.yd_app.specs.Words.{Asks, Command, File, show_text}
+use Rattle.yd_app.specs.Writing.{TakesAll}
 
--- no bytes stand for two updates
-abbrev pub StandForOne : Type 0
-StandForOne = (bytes : List ℕ) (update other : OneText) → StandsFor bytes update → StandsFor bytes other → update ≡ other
-
--- an update of the form is an update in V1
-abbrev pub FormIsInGrammar : Type 0
-FormIsInGrammar = (bytes : List ℕ) (update : OneText) → StandsFor bytes update → StandsForV1 bytes (update_of update)
-
--- words ask for one command of one file in one format at most
+-- words ask for one command of one list of files at most
 abbrev pub AskForOne : Type 0
-AskForOne = (words : List (List ℕ)) (command other : Command) (format form : Format) (file name : List ℕ) → Asks words command format file → Asks words other form name →
-    (command ≡ other) × (format ≡ form) × (file ≡ name)
+AskForOne = (words : List (List ℕ)) (command other : Command) (files others : List File) → Asks words command files → Asks words other others → (command ≡ other) × (files ≡ others)
 
--- every file, in either format, is accepted, refused or too large; it has one output or one reason, and never both
+-- every file is one thing; all files of a list are accepted, as updates that are valid, or there is one first that is not, for one
+-- thing that it is; and never both
 pub record FilesAreJudged : Type 0 where
-  pub judged : (command : Command) (format : Format) (bytes : List ℕ) → ((output : List ℕ) × IsAccepted command format bytes output) ⊎ ((why : List ℕ) × IsRefused command format bytes why) ⊎ IsTooLarge bytes
-  pub output : (command : Command) (format : Format) (bytes out other : List ℕ) → IsAccepted command format bytes out → IsAccepted command format bytes other → out ≡ other
-  pub reason : (command : Command) (format : Format) (bytes why other : List ℕ) → IsRefused command format bytes why → IsRefused command format bytes other → why ≡ other
-  pub apart : (command : Command) (format : Format) (bytes output why : List ℕ) → IsAccepted command format bytes output → IsRefused command format bytes why → ⊥
+  pub file : (shelf : Shelf) (file : File) → (verdict : Verdict) × HasVerdict (Some shelf) file verdict
+  pub one : (shelf : Shelf) (file : File) (verdict other : Verdict) → HasVerdict (Some shelf) file verdict → HasVerdict (Some shelf) file other → verdict ≡ other
+  pub files : (shelf : Shelf) (files : List File) → ((updates : List UpdateValue) × AreRead (Some shelf) files updates) ⊎ ((file : File) × (verdict : Verdict) × StopsAt (Some shelf) files file verdict)
+  pub updates : (shelf : Shelf) (files : List File) (updates others : List UpdateValue) → AreRead (Some shelf) files updates → AreRead (Some shelf) files others → updates ≡ others
+  pub valid : (shelf : Shelf) (files : List File) (updates : List UpdateValue) → AreRead (Some shelf) files updates → Each IsValidUpdate updates
+  pub first : (shelf : Shelf) (files : List File) (file other : File) (verdict thing : Verdict) → StopsAt (Some shelf) files file verdict → StopsAt (Some shelf) files other thing → (file ≡ other) × (verdict ≡ thing)
+  pub apart : (shelf : Shelf) (files : List File) (updates : List UpdateValue) (file : File) (verdict : Verdict) → AreRead (Some shelf) files updates → StopsAt (Some shelf) files file verdict → ⊥
+
+-- the updates of both have the same operations and deletions, in any order and repeated, and no two operations with one id differ
+pub record AreOneContents (one other : List UpdateValue) : Type 0 where
+  pub agree : Agree (operations_of_all one)
+  pub same : HaveSameContents one other
+
+-- files in any formats, by any names and in any libraries, show the same text of each root where they have the same contents
+abbrev pub ShowsConverge : Type 0
+ShowsConverge = (shelf other : Shelf) (files others : List File) (one another : List UpdateValue) (root : List ℕ) → AreRead (Some shelf) files one → AreRead (Some other) others another → AreOneContents one another →
+    output_of (show_text root) one ≡ output_of (show_text root) another
+
+-- the words ask to show the root of files that are read as these updates, and what is promised for status 0 was written
+pub record Shows (root : List ℕ) (updates : List UpdateValue) (words : List (List ℕ)) (shelf : Shelf) (taken now : Option (List ℕ)) : Type 0 where
+  pub files : List File
+  pub asks : Asks words (show_text root) files
+  pub are_read : AreRead (Some shelf) files updates
+  pub writes : Writes words (Some shelf) taken now
+
+-- two runs that show a root of the same contents and answer 0 have written the same
+abbrev pub RunsConverge : Type 0
+RunsConverge = (root : List ℕ) (one another : List UpdateValue) (words others : List (List ℕ)) (shelf other : Shelf) (taken now took took_now : Option (List ℕ)) →
+    Shows root one words shelf taken now → Shows root another others other took took_now → AreOneContents one another →
+    (written : List ℕ) × TakesAll taken now written × TakesAll took took_now written

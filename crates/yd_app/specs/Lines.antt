@@ -1,28 +1,25 @@
 -- The lines on err (own).
-use Rattle.std.specs.Prelude.{◌≡◌, ◌-◌, ℕ, List, [], ◌++◌, drop, length, codes, slice_index_or, ◌==◌, Option, if◌then◌else◌}
+use Rattle.std.specs.Prelude.{◌≡◌, ℕ, List, ◌++◌, codes, ◌==◌, Option, if◌then◌else◌}
 use Rattle.yd_world.specs.Shelf.{Shelf}
-use Rattle.yd_app.specs.Verdict.{AsksWhere, IsRefused}
+use Rattle.yd_app.specs.Verdict.{IsReached, StopsAt, refused, too_large}
+use Rattle.yd_app.specs.Words.{AsksFor, File, file_word}
 
--- the word that names the file, as it was given: the last
-abbrev pub file_word : List (List ℕ) → List ℕ
-file_word words = slice_index_or words (length words - 1) []
-
--- the file's name, which stands behind the format
-abbrev pub file_name : List (List ℕ) → List ℕ
-file_name words = drop 3 (file_word words)
-
--- the line of each status but 0, where the file is refused for this reason
-abbrev pub line_of_status : List (List ℕ) → List ℕ → ℕ → List ℕ
-line_of_status words why status =
-    if status == 1 then codes "refused " ++ file_word words ++ codes " " ++ why ++ codes "\n"
+-- the line of each status but 0, which may name this file and this reason
+abbrev pub line_of_status : File → List ℕ → ℕ → List ℕ
+line_of_status file why status =
+    if status == 1 then codes "refused " ++ file_word file ++ codes " " ++ why ++ codes "\n"
     else if status == 2 then codes "usage: ydoc show|merge|cut|vector|convert|edit|serve|sync|check|generate\n"
-    else if status == 3 then codes "read fault " ++ file_name words ++ codes "\n"
+    else if status == 3 then codes "read fault " ++ file.name ++ codes "\n"
     else if status == 4 then codes "write fault\n"
     else if status == 5 then codes "no memory\n"
-    else codes "limit " ++ file_name words ++ codes " TooLarge\n"
+    else codes "limit " ++ file.name ++ codes " TooLarge\n"
 
--- the line is the status's, and the reason in it is the one for which the file is refused
+-- the line is the status's; the file in it is the first of those asked for that is not accepted, for the reason in it, or is too
+-- large; or at a read fault one that was reached
 pub record IsLine (words : List (List ℕ)) (told : Option Shelf) (status : ℕ) (line : List ℕ) : Type 0 where
+  pub file : File
   pub why : List ℕ
-  pub line_is : line ≡ line_of_status words why status
-  pub refused : status ≡ 1 → AsksWhere words told (λ command format bytes. IsRefused command format bytes why)
+  pub line_is : line ≡ line_of_status file why status
+  pub is_refused : status ≡ 1 → AsksFor words (λ command files. StopsAt told files file (refused why))
+  pub is_reached : status ≡ 3 → AsksFor words (λ command files. IsReached told files file)
+  pub is_too_large : status ≡ 7 → AsksFor words (λ command files. StopsAt told files file too_large)

@@ -1,5 +1,6 @@
 -- What the words ask for (own).
-use Rattle.std.specs.Prelude.{◌≡◌, ℕ, ◌<◌, List, [], ◌∷◌, ◌++◌, length, codes}
+use Rattle.std.specs.Prelude.{◌≡◌, ℕ, ◌<◌, List, ◌∷◌, ◌++◌, length, map, codes}
+use Rattle.yd_ids.specs.Each.{Each}
 
 -- how a file spells an update
 pub data Format : Type 0 where
@@ -16,27 +17,47 @@ abbrev pub prefix_of : Format → List ℕ
 prefix_of v1 = codes "v1:"
 prefix_of v2 = codes "v2:"
 
--- what is done with a file: a root's text is shown, or the update is written in a format
+-- a file: its format, and the name of its bytes
+pub record File : Type 0 where
+  pub format : Format
+  pub name : List ℕ
+
+-- the word that names the file
+abbrev pub file_word : File → List ℕ
+file_word file = prefix_of file.format ++ file.name
+
+-- the file's name is not empty
+abbrev pub IsNamed : File → Type 0
+IsNamed file = 0 < length file.name
+
+-- what is done with files: a root's text is shown of all that they hold, or the one file is written in a format
 pub data Command : Type 0 where
   show_text : List ℕ → Command
   convert : Format → Command
 
--- the command's words, and then the word that names the file
-abbrev pub words_of : Command → List ℕ → List (List ℕ)
-words_of (show_text root) word = codes "show" ∷ codes "--text" ∷ root ∷ word ∷ []
-words_of (convert form) word = codes "convert" ∷ word_of form ∷ word ∷ []
+-- the command's words, and then those that name the files
+abbrev pub words_of : Command → List (List ℕ) → List (List ℕ)
+words_of (show_text root) names = codes "show" ∷ codes "--text" ∷ root ∷ names
+words_of (convert form) names = codes "convert" ∷ word_of form ∷ names
 
--- the command is for files in the format: `show` for those in V1 alone, and `convert` for all
-abbrev pub IsFor : Command → Format → Type 0
-IsFor (show_text root) format = format ≡ v1
-IsFor (convert form) format = Unit {0}
+-- how many files the command has: `show` one or more, and `convert` one
+abbrev pub HasFiles : Command → List File → Type 0
+HasFiles (show_text root) files = 0 < length files
+HasFiles (convert form) files = length files ≡ 1
 
--- the words are those of the command and of a file in the format, which has a name
-pub record Asks (words : List (List ℕ)) (command : Command) (format : Format) (file : List ℕ) : Type 0 where
-  pub words_are : words ≡ words_of command (prefix_of format ++ file)
-  pub is_for : IsFor command format
-  pub has_name : 0 < length file
+-- the words are those of the command and of the files, each of which has a name
+pub record Asks (words : List (List ℕ)) (command : Command) (files : List File) : Type 0 where
+  pub words_are : words ≡ words_of command (map file_word files)
+  pub has_files : HasFiles command files
+  pub are_named : Each IsNamed files
 
 -- the words are of none of the forms that run
 abbrev pub AreOfNoForm : List (List ℕ) → Type 0
-AreOfNoForm words = (command : Command) (format : Format) (file : List ℕ) → ¬ (Asks words command format file)
+AreOfNoForm words = (command : Command) (files : List File) → ¬ (Asks words command files)
+
+-- the words ask for a command of files, of which this holds
+pub record AsksFor (words : List (List ℕ)) (Holds : Command → List File → Type 0) : Type 0 where
+  pub command : Command
+  pub files : List File
+  pub asks : Asks words command files
+  pub holds : Holds command files

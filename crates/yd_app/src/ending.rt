@@ -5,34 +5,16 @@ ghost use Rattle.yd_world.specs.Faults.{Rose};
 ghost use Rattle.yd_app.specs.Ending.{status_of, line_of};
 ghost use Rattle.yd_app.specs.Writing.{TakesAll, TakesFront, CountsFault};
 
-use crate::refusal::{Refusal, tell_refusal};
+use crate::refusal::tell_refusal;
+use crate::stop::Stop;
 use crate::writing::write_out;
 use yd_world::{Outage, Sink};
-
-/// How a run ends.
-#[derive(Clone, Copy)]
-pub enum Ending<'a> {
-    /// The output was written.
-    Done,
-    /// The file, as the word gives it, is refused.
-    Refused { file: &'a str, why: Refusal },
-    /// The words are of no form.
-    Usage,
-    /// The library failed at this name.
-    ReadFault(&'a str),
-    /// The output could not be written.
-    WriteFault,
-    /// A growth found no memory.
-    NoMemory,
-    /// The file of this name has more bytes than a file may have.
-    TooLarge(&'a str),
-}
 
 /// The words that run, and those that will.
 const USAGE: &str = "usage: ydoc show|merge|cut|vector|convert|edit|serve|sync|check|generate";
 
 /// Writes the ending's line, and answers the status.
-pub fn report<S: Sink>(ending: Ending<'_>, err: &mut S) -> u8
+pub fn report<S: Sink>(ending: Result<(), Stop<'_>>, err: &mut S) -> u8
     ensures status { (result ≡ status_of ending.entry)
         ⊎ ((result ≡ 5) × (status_of ending.entry ≢ 0)) }
     ensures silent { status_of ending.entry ≡ 0 → err.new ≡ err.old }
@@ -48,7 +30,7 @@ pub fn report<S: Sink>(ending: Ending<'_>, err: &mut S) -> u8
     }
 }
 
-fn tell<S: Sink>(ending: Ending<'_>, err: &mut S) -> Result<(), Outage>
+fn tell<S: Sink>(ending: Result<(), Stop<'_>>, err: &mut S) -> Result<(), Outage>
     ensures silent { status_of ending.entry ≡ 0 → IsOk result × (err.new ≡ err.old) }
     ensures whole { OnOk result (TakesAll (S.bytes_taken err.old) (S.bytes_taken err.new)
         (line_of ending.entry)) }
@@ -57,27 +39,39 @@ fn tell<S: Sink>(ending: Ending<'_>, err: &mut S) -> Result<(), Outage>
     ensures failed { IsErrOf result Outage.Failed → Rose (S.faults err.old) (S.faults err.new) }
 {
     match ending {
-        Ending::Done => Ok(()),
-        Ending::Refused { file, why } => tell_refusal(err, file, why),
-        Ending::Usage => write_line(err, USAGE, "", "\n"),
-        Ending::ReadFault(name) => write_line(err, "read fault ", name, "\n"),
-        Ending::WriteFault => write_line(err, "write fault", "", "\n"),
-        Ending::NoMemory => write_line(err, "no memory", "", "\n"),
-        Ending::TooLarge(name) => write_line(err, "limit ", name, " TooLarge\n"),
+        Ok(()) => Ok(()),
+        Err(stop) => tell_stop(stop, err),
     }
 }
 
-fn status(ending: Ending<'_>) -> u8
+fn tell_stop<S: Sink>(stop: Stop<'_>, err: &mut S) -> Result<(), Outage>
+    ensures whole { OnOk result (TakesAll (S.bytes_taken err.old) (S.bytes_taken err.new)
+        (line_of (Err stop.entry))) }
+    ensures front { TakesFront (S.bytes_taken err.old) (S.bytes_taken err.new)
+        (line_of (Err stop.entry)) }
+    ensures failed { IsErrOf result Outage.Failed → Rose (S.faults err.old) (S.faults err.new) }
+{
+    match stop {
+        Stop::Usage => write_line(err, USAGE, "", "\n"),
+        Stop::Refused { file, cause, spot } => tell_refusal(err, file, cause, spot),
+        Stop::ReadFault(file) => write_line(err, "read fault ", file.name, "\n"),
+        Stop::TooLarge(file) => write_line(err, "limit ", file.name, " TooLarge\n"),
+        Stop::NoMemory => write_line(err, "no memory", "", "\n"),
+        Stop::WriteFault => write_line(err, "write fault", "", "\n"),
+    }
+}
+
+fn status(ending: Result<(), Stop<'_>>) -> u8
     ensures { result ≡ status_of ending.entry }
 {
     match ending {
-        Ending::Done => 0,
-        Ending::Refused { .. } => 1,
-        Ending::Usage => 2,
-        Ending::ReadFault(_) => 3,
-        Ending::WriteFault => 4,
-        Ending::NoMemory => 5,
-        Ending::TooLarge(_) => 7,
+        Ok(()) => 0,
+        Err(Stop::Refused { .. }) => 1,
+        Err(Stop::Usage) => 2,
+        Err(Stop::ReadFault(_)) => 3,
+        Err(Stop::WriteFault) => 4,
+        Err(Stop::NoMemory) => 5,
+        Err(Stop::TooLarge(_)) => 7,
     }
 }
 

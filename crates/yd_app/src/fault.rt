@@ -3,7 +3,7 @@
 ghost use Rattle.std.specs.Prelude.{◌≡◌};
 ghost use Rattle.yd_app.specs.declared.fault.LoadFault.TheVariants.{NoMemory as LoadNoMemory, ReadFault};
 
-use std::alloc::AllocError;
+use std::alloc::{AllocError, AllocFailed};
 use yd_world::Failed;
 
 /// A growth found no memory.
@@ -34,5 +34,37 @@ impl From<Failed> for LoadFault {
 
     fn from(_error: Failed) -> LoadFault {
         LoadFault::ReadFault
+    }
+}
+
+impl<T: Drop> From<AllocFailed<T>> for NoMemory {
+    ghost from_gives = { λ _ e. e ≡ record {} };
+
+    fn from(_refused: AllocFailed<T>) -> NoMemory {
+        NoMemory
+    }
+}
+
+impl From<yd_any::NoMemory> for NoMemory {
+    ghost from_gives = { λ _ e. e ≡ record {} };
+
+    fn from(_refused: yd_any::NoMemory) -> NoMemory {
+        NoMemory
+    }
+}
+
+impl From<yd_units::NoMemory> for NoMemory {
+    ghost from_gives = { λ _ e. e ≡ record {} };
+
+    fn from(_refused: yd_units::NoMemory) -> NoMemory {
+        NoMemory
+    }
+}
+
+impl From<yd_view::NoMemory> for NoMemory {
+    ghost from_gives = { λ _ e. e ≡ record {} };
+
+    fn from(_refused: yd_view::NoMemory) -> NoMemory {
+        NoMemory
     }
 }

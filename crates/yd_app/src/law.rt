@@ -4,7 +4,7 @@
 ghost use Rattle.std.specs.Prelude.{◌≡◌, [], Some};
 ghost use Rattle.yd_world.specs.MemoryLibrary.{shelf_of};
 ghost use Rattle.yd_world.specs.MemorySink.{IsCalm};
-ghost use Rattle.yd_app.specs.Law.{AskForOne, FilesAreJudged, FormIsInGrammar, StandForOne};
+ghost use Rattle.yd_app.specs.Law.{AskForOne, FilesAreJudged, RunsConverge, ShowsConverge};
 ghost use Rattle.yd_app.specs.Run.{Follows, Writes};
 
 use crate::program::run;
@@ -12,29 +12,30 @@ use crate::word::Word;
 use std::alloc::Global;
 use yd_world::{MemoryLibrary, MemorySink, ScriptBoard};
 
-/// No bytes stand for two updates.
-pub fn bytes_stand_for_one()
-    ensures { StandForOne }
-{}
-
-/// Bytes of the form that `show` has stand for an update in V1.
-pub fn form_is_in_grammar()
-    ensures { FormIsInGrammar }
-{}
-
-/// Words ask for one command of one file in one format at most.
+/// Words ask for one command of one list of files at most.
 pub fn words_ask_for_one()
     ensures { AskForOne }
 {}
 
-/// Every file, in either format, is accepted, refused or too large, with one output or one reason,
-/// and never both.
+/// Every file, in either format, is accepted as one update, refused for one reason, too large or
+/// missing; and of files that are not all accepted there is one first.
 pub fn files_are_judged()
     ensures { FilesAreJudged }
 {}
 
-/// The program over things in memory: where no failure is set and the library has the file that the
-/// words ask for, the command is done or the file refused, as its bytes say, or memory is wanted.
+/// Files of updates with the same contents show the same, in any order, repeated or translated.
+pub fn shows_converge()
+    ensures { ShowsConverge }
+{}
+
+/// Two runs of `show` over the same contents that answer 0 have written the same.
+pub fn runs_converge()
+    ensures { RunsConverge }
+{}
+
+/// The program over things in memory: where no failure is set and the library has the files that
+/// the words ask for, the command is done or the first file that is not accepted is told, as its
+/// bytes say, or memory is wanted.
 pub fn run_in_memory(
     alloc: Global,
     words: &[Word],

@@ -1,8 +1,10 @@
 //! The program: what the words ask for, what is written, and how it ends.
 //!
 //! [`run`] is the whole program over the traits of the outside. Its contract says which status
-//! comes when, what stands on `out` and on `err` then, and that what is written is what the file's
-//! update alone defines, whoever wrote it and however its bytes spell it.
+//! comes when, what stands on `out` and on `err` then, and that what is written is what the updates
+//! of the files define, whoever made them and however their bytes spell them. So files with the
+//! same operations and deletions, in any order, repeated or in another format, show the same
+//! ([`law`]).
 //!
 //! ```rust
 //! let status = run(rt.alloc(), &words, &mut library, &mut out, &mut err, &mut board);
@@ -10,15 +12,16 @@
 //! ```
 #![tactic(auto)]
 
-mod carrying;
 mod converting;
 mod ending;
 mod fault;
+mod file;
 mod format;
 pub mod law;
 mod loading;
-mod one_text;
 mod program;
+mod reading;
+mod receiving;
 mod refusal;
 mod request;
 mod showing;

@@ -1,23 +1,24 @@
 //! The program over the traits of the outside.
 
 ghost use Rattle.std.specs.Prelude.{◌≡◌, ◌≢◌, ◌∷◌, []};
-ghost use Rattle.yd_app.specs.Ending.{status_of, Ends, ReadsFile};
-ghost use Rattle.yd_app.specs.Run.{IsOneOf, count_of, HasReason, Comes, Completes, Writes, CutsOff, TellsErr};
+ghost use Rattle.yd_app.specs.Ending.{Ends, status_of};
+ghost use Rattle.yd_app.specs.Run.{Comes, Completes, CutsOff, HasReason, IsOneOf, TellsErr, Writes, count_of};
+ghost use Rattle.yd_app.specs.Seen.{command_of, files_of};
+ghost use Rattle.yd_app.specs.Stopping.{Carries, ReadsAsked, ReadsCalmly};
 
-use crate::carrying::carry_out;
-use crate::ending::{Ending, report};
-use crate::fault::LoadFault;
-use crate::loading::read_all;
-use crate::request::request_of;
+use crate::converting::convert;
+use crate::ending::report;
+use crate::request::{Request, request_of};
+use crate::showing::show;
 use crate::stop::Stop;
 use crate::word::Word;
 use std::alloc::Global;
 use yd_world::{Library, Sink, Switchboard};
 
 /// Does what the words ask for, and answers the status. The words that run are
-/// `show --text NAME v1:FILE`, and `convert FORM FILE` where FORM is `v1` or `v2` and FILE is
-/// `v1:NAME` or `v2:NAME`. A file outside the grammar of its format is refused by its first fault,
-/// and `show` refuses as `Unbuilt 0` bytes that do not spell one string in a root.
+/// `show --text NAME FILE..` with one or more files, and `convert FORM FILE`, where FORM is `v1` or
+/// `v2` and FILE is `v1:NAME` or `v2:NAME`. Files are read and judged one by one, and nothing is
+/// written to out before all are accepted.
 pub fn run<L: Library, S: Sink, B: Switchboard>(
     alloc: Global,
     words: &[Word],
@@ -36,7 +37,7 @@ pub fn run<L: Library, S: Sink, B: Switchboard>(
         (count_of (L.faults library.old) (L.faults library.new))
         (count_of (S.faults out.old) (S.faults out.new)) result }
 
-    // What is written is what the file's update alone defines.
+    // What is written is what the updates of the files define.
     ensures converges { result ≡ 0 → Writes words.now (L.told library.old)
         (S.bytes_taken out.old) (S.bytes_taken out.new) }
     ensures cuts_off { CutsOff words.now (L.told library.old)
@@ -61,33 +62,40 @@ fn answer<'a, L: Library, S: Sink>(
     words: &'a [Word],
     library: &mut L,
     out: &mut S,
-) -> Ending<'a>
+) -> Result<(), Stop<'a>>
     ensures ends { Ends words.now (L.told library.old)
         (count_of (L.faults library.old) (L.faults library.new))
         (count_of (S.faults out.old) (S.faults out.new))
         (S.bytes_taken out.old) (S.bytes_taken out.new) result }
     ensures untouched { IsOneOf (status_of result) (1 ∷ 2 ∷ 3 ∷ 7 ∷ []) → out.new ≡ out.old }
-    ensures reads { L.is_calm library.old → ReadsFile words.now (L.told library.old)
-        (count_of (L.faults library.old) (L.faults library.new)) (status_of result) }
+    ensures reads { L.is_calm library.old → ReadsAsked words.now (L.told library.old)
+        (count_of (L.faults library.old) (L.faults library.new)) result }
     ensures writes { S.is_calm out.old → status_of result ≢ 4 }
     ensures written { status_of result ≢ 4 → S.faults out.new ≡ S.faults out.old }
 {
-    let Some(request) = request_of(words) else {
-        return Ending::Usage;
-    };
-    let bytes = match read_all(alloc, library, request.name) {
-        Ok(bytes) => bytes,
-        Err(LoadFault::NoMemory) => return Ending::NoMemory,
-        Err(LoadFault::ReadFault) => return Ending::ReadFault(request.name),
-        Err(LoadFault::TooLarge) => return Ending::TooLarge(request.name),
-    };
-    match carry_out(alloc, request.command, request.format, &bytes, out) {
-        Ok(()) => Ending::Done,
-        Err(Stop::Refused(why)) => Ending::Refused {
-            file: request.file,
-            why,
-        },
-        Err(Stop::NoMemory) => Ending::NoMemory,
-        Err(Stop::WriteFault) => Ending::WriteFault,
+    let request = request_of(alloc, words)?;
+    carry_out(alloc, &request, library, out)
+}
+
+// Does what is asked for.
+fn carry_out<'a, L: Library, S: Sink>(
+    alloc: Global,
+    request: &Request<'a>,
+    library: &mut L,
+    out: &mut S,
+) -> Result<(), Stop<'a>>
+    ensures carries { Carries (command_of request.now) (files_of request.now) (L.told library.old)
+        (count_of (L.faults library.old) (L.faults library.new))
+        (count_of (S.faults out.old) (S.faults out.new))
+        (S.bytes_taken out.old) (S.bytes_taken out.new) result }
+    ensures untouched { IsOneOf (status_of result) (1 ∷ 2 ∷ 3 ∷ 7 ∷ []) → out.new ≡ out.old }
+    ensures reads { L.is_calm library.old → ReadsCalmly (L.told library.old)
+        (files_of request.now) (count_of (L.faults library.old) (L.faults library.new)) result }
+    ensures writes { S.is_calm out.old → status_of result ≢ 4 }
+    ensures written { status_of result ≢ 4 → S.faults out.new ≡ S.faults out.old }
+{
+    match request {
+        Request::ShowText { root, files } => show(alloc, root, files.as_slice(), library, out),
+        Request::Convert { form, file } => convert(alloc, *form, *file, library, out),
     }
 }

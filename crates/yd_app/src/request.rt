@@ -1,67 +1,72 @@
 //! What the words ask for.
 
-ghost use Rattle.std.specs.Prelude.{◌≡◌, ◌≢◌, ◌++◌, ◌<◌, length, IfSome, IfNone, ℕ, List};
-ghost use Rattle.std.specs.Bool.{OnFalse, OnTrue};
-ghost use Rattle.yd_app.specs.Seen.{command_of, format_of};
-ghost use Rattle.yd_app.specs.Words.{Command as AskedCommand, Format as FileFormat, Asks, AreOfNoForm, IsFor, prefix_of, word_of, words_of};
+ghost use Rattle.std.specs.Prelude.{◌≡◌, ◌≢◌, ◌<◌, ◌∷◌, [], length, map, IfSome, IfNone, IfOk, IfErr, ℕ, List};
+ghost use Rattle.yd_ids.specs.Each.{Each};
+ghost use Rattle.yd_app.specs.Asking.{StopsAsking, StopsNaming};
+ghost use Rattle.yd_app.specs.Seen.{command_of, file_of as seen, files_of, format_of};
+ghost use Rattle.yd_app.specs.Words.{Asks, Format as AskedFormat, IsNamed, convert, file_word, show_text, word_of, words_of};
 
+use crate::file::{File, file_of};
 use crate::format::Format;
+use crate::stop::Stop;
 use crate::word::Word;
+use std::alloc::Global;
 
-/// What is done with a file.
-#[derive(Clone, Copy)]
-pub enum Command<'a> {
-    /// The text of the root of this name is shown.
-    ShowText(&'a str),
-    /// The update is written in this format.
-    Convert(Format),
-}
-
-/// A command of a file.
-#[derive(Clone, Copy)]
-pub struct Request<'a> {
-    pub command: Command<'a>,
-    /// The word that names the file, as it was given.
-    pub file: &'a str,
-    /// The file's format.
-    pub format: Format,
-    /// The file's name.
-    pub name: &'a str,
+/// A command of files.
+#[derive(Drop)]
+pub enum Request<'a> {
+    /// The text of the root of this name is shown of all that the files hold.
+    ShowText { root: &'a str, files: Vec<File<'a>> },
+    /// The file's update is written in this format.
+    Convert { form: Format, file: File<'a> },
 }
 
 /// What the words ask for, if they are of a form.
-pub fn request_of(words: &[Word]) -> Option<Request<'_>>
-    ensures found { IfSome result (λ request.
-        Asks words.now (command_of request.command) (format_of request.format) request.name.now
-        × (request.file.now ≡ prefix_of (format_of request.format) ++ request.name.now)) }
-    ensures none { IfNone result (AreOfNoForm words.now) }
+pub fn request_of(alloc: Global, words: &[Word]) -> Result<Request<'_>, Stop<'_>>
+    ensures found { IfOk result (λ request.
+        Asks words.now (command_of request) (files_of request)) }
+    ensures stops { IfErr result (StopsAsking words.now) }
 {
-    let (command, file) = command_and_file(words)?;
-    let (format, name) = format_and_name(file)?;
-    if !is_for(command, format) {
-        return None;
+    if let Some((root, names)) = show_words(words) {
+        let files = named_files(alloc, names)?;
+        return Ok(Request::ShowText { root, files });
     }
-    Some(Request {
-        command,
-        file,
-        format,
-        name,
-    })
+    let Some((form, name)) = convert_words(words) else {
+        return Err(Stop::Usage);
+    };
+    let Some(file) = file_of(name) else {
+        return Err(Stop::Usage);
+    };
+    Ok(Request::Convert { form, file })
 }
 
-// The command, and the word that stands where a file does.
-fn command_and_file(words: &[Word]) -> Option<(Command<'_>, &str)>
-    ensures found { IfSome result (λ both. words.now ≡ words_of (command_of both.0) both.1.now) }
-    ensures none { IfNone result ((command : AskedCommand) (file : List ℕ)
-        → words.now ≡ words_of command file → ⊥) }
+// The root, and the words that stand where files do.
+fn show_words(words: &[Word]) -> Option<(&str, &[Word])>
+    ensures found { IfSome result (λ both. (words.now ≡ words_of (show_text both.0.now) both.1.now)
+        × (0 < length both.1.now)) }
+    ensures none { IfNone result ((root : List ℕ) (names : List (List ℕ)) → 0 < length names
+        → words.now ≢ words_of (show_text root) names) }
 {
     match words {
-        [show, mode, root, file] if show.as_str() == "show" && mode.as_str() == "--text" => {
-            Some((Command::ShowText(root.as_str()), file.as_str()))
+        [show, mode, root, names @ ..]
+            if show.as_str() == "show" && mode.as_str() == "--text" && !names.is_empty() => {
+            Some((root.as_str(), names))
         }
+        _ => None,
+    }
+}
+
+// The format, and the word that stands where a file does.
+fn convert_words(words: &[Word]) -> Option<(Format, &str)>
+    ensures found { IfSome result (λ both.
+        words.now ≡ words_of (convert (format_of both.0)) (both.1.now ∷ [])) }
+    ensures none { IfNone result ((form : AskedFormat) (name : List ℕ)
+        → words.now ≢ words_of (convert form) (name ∷ [])) }
+{
+    match words {
         [convert, form, file] if convert.as_str() == "convert" => {
             let form = format_named(form.as_str())?;
-            Some((Command::Convert(form), file.as_str()))
+            Some((form, file.as_str()))
         }
         _ => None,
     }
@@ -70,7 +75,7 @@ fn command_and_file(words: &[Word]) -> Option<(Command<'_>, &str)>
 // The format that the word names.
 fn format_named(word: &str) -> Option<Format>
     ensures found { IfSome result (λ format. word.now ≡ word_of (format_of format)) }
-    ensures none { IfNone result ((format : FileFormat) → word.now ≢ word_of format) }
+    ensures none { IfNone result ((format : AskedFormat) → word.now ≢ word_of format) }
 {
     if word == "v1" {
         return Some(Format::V1);
@@ -81,30 +86,18 @@ fn format_named(word: &str) -> Option<Format>
     None
 }
 
-// The format, and the name behind it, which is not empty.
-fn format_and_name(file: &str) -> Option<(Format, &str)>
-    ensures found { IfSome result (λ both. (file.now ≡ prefix_of (format_of both.0) ++ both.1.now)
-        × (0 < length both.1.now)) }
-    ensures none { IfNone result ((format : FileFormat) (name : List ℕ) → 0 < length name
-        → file.now ≡ prefix_of format ++ name → ⊥) }
+// The files that the words name, if each names one.
+fn named_files(alloc: Global, words: &[Word]) -> Result<Vec<File<'_>>, Stop<'_>>
+    ensures found { IfOk result (λ files. (words.now ≡ map file_word (map seen files.items))
+        × Each IsNamed (map seen files.items)) }
+    ensures stops { IfErr result (StopsNaming words.now) }
 {
-    let (format, name) = match file.strip_prefix("v1:") {
-        Some(name) => (Format::V1, name),
-        None => (Format::V2, file.strip_prefix("v2:")?),
-    };
-    if name.is_empty() {
-        return None;
+    let mut files = Vec::new(alloc);
+    for word in words {
+        let Some(file) = file_of(word.as_str()) else {
+            return Err(Stop::Usage);
+        };
+        files.push(file)?;
     }
-    Some((format, name))
-}
-
-// Whether the command is for files in the format.
-fn is_for(command: Command<'_>, format: Format) -> bool
-    ensures runs { OnTrue result (IsFor (command_of command.entry) (format_of format)) }
-    ensures none { OnFalse result (¬ (IsFor (command_of command.entry) (format_of format))) }
-{
-    match command {
-        Command::ShowText(_) => matches!(format, Format::V1),
-        Command::Convert(_) => true,
-    }
+    Ok(files)
 }

@@ -1,57 +1,72 @@
-//! Why a command stopped.
+//! Why the program stopped.
 
 ghost use Rattle.std.specs.Prelude.{◌≡◌};
-ghost use Rattle.yd_app.specs.Carrying.{stop_of_outage, stop_of_read};
-ghost use Rattle.yd_app.specs.declared.refusal.Refusal.TheVariants.{Unbuilt as UnbuiltRefusal};
-ghost use Rattle.yd_app.specs.declared.stop.Stop.TheVariants.{NoMemory as NoRoom, Refused as RefusedFor};
+ghost use Rattle.yd_app.specs.Stopping.{stop_of_outage};
+ghost use Rattle.yd_app.specs.declared.stop.Stop.TheVariants.{NoMemory as NoRoom};
 
-use crate::one_text::Unbuilt;
-use crate::refusal::Refusal;
-use yd_parts::{NoMemory, ReadError};
+use crate::fault::NoMemory;
+use crate::file::File;
+use std::alloc::AllocFailed;
+use yd_parts::{Cause, Spot};
 use yd_world::Outage;
 
-/// Why a command stopped before its output was written.
+/// Why the program stopped before all of its output was written.
 #[derive(Clone, Copy)]
-pub enum Stop {
-    /// The file is refused.
-    Refused(Refusal),
+pub enum Stop<'a> {
+    /// The words are of no form.
+    Usage,
+    /// The file is outside its grammar: what is wrong first, and where.
+    Refused {
+        file: File<'a>,
+        cause: Cause,
+        spot: Spot,
+    },
+    /// The library failed at this file.
+    ReadFault(File<'a>),
+    /// The file has more bytes than a file may have.
+    TooLarge(File<'a>),
     /// A growth found no memory.
     NoMemory,
     /// The output could not be written.
     WriteFault,
 }
 
-impl From<ReadError> for Stop {
-    ghost from_gives = { λ error stop. stop ≡ stop_of_read error };
-
-    fn from(error: ReadError) -> Stop {
-        match error {
-            ReadError::NoMemory => Stop::NoMemory,
-            ReadError::Fault { cause, spot } => Stop::Refused(Refusal::Fault { cause, spot }),
-        }
-    }
-}
-
-impl From<Unbuilt> for Stop {
-    ghost from_gives = { λ _ stop. stop ≡ RefusedFor UnbuiltRefusal };
-
-    fn from(_unbuilt: Unbuilt) -> Stop {
-        Stop::Refused(Refusal::Unbuilt)
-    }
-}
-
-impl From<NoMemory> for Stop {
+impl<'a> From<NoMemory> for Stop<'a> {
     ghost from_gives = { λ _ stop. stop ≡ NoRoom };
 
-    fn from(_refused: NoMemory) -> Stop {
+    fn from(_refused: NoMemory) -> Stop<'a> {
         Stop::NoMemory
     }
 }
 
-impl From<Outage> for Stop {
+impl<'a, T: Drop> From<AllocFailed<T>> for Stop<'a> {
+    ghost from_gives = { λ _ stop. stop ≡ NoRoom };
+
+    fn from(_refused: AllocFailed<T>) -> Stop<'a> {
+        Stop::NoMemory
+    }
+}
+
+impl<'a> From<yd_parts::NoMemory> for Stop<'a> {
+    ghost from_gives = { λ _ stop. stop ≡ NoRoom };
+
+    fn from(_refused: yd_parts::NoMemory) -> Stop<'a> {
+        Stop::NoMemory
+    }
+}
+
+impl<'a> From<yd_doc::NoMemory> for Stop<'a> {
+    ghost from_gives = { λ _ stop. stop ≡ NoRoom };
+
+    fn from(_refused: yd_doc::NoMemory) -> Stop<'a> {
+        Stop::NoMemory
+    }
+}
+
+impl<'a> From<Outage> for Stop<'a> {
     ghost from_gives = { λ outage stop. stop ≡ stop_of_outage outage };
 
-    fn from(outage: Outage) -> Stop {
+    fn from(outage: Outage) -> Stop<'a> {
         match outage {
             Outage::NoMemory => Stop::NoMemory,
             Outage::Failed => Stop::WriteFault,

@@ -1,11 +1,31 @@
-use Rattle.yd_ops.specs.View.{update_value}
-use Rattle.yd_app.proofs.CarryingLemmas.{outside_unshown, unbuilt_refused}
+use Rattle.std.proofs.Common.{map, ◌∙◌}
+use Rattle.yd_doc.specs.Kept.{received_of}
+use Rattle.yd_app.specs.Run.{count_of}
+use Rattle.yd_app.specs.Seen.{file_of}
+use Rattle.yd_app.specs.Words.{show_text}
+use Rattle.yd_app.proofs.CarryingLemmas.{carried, cut_short, line_is}
 use Rattle.yd_app.proofs.showing.show.Goals as goal
 
-pub returns-in_err-read_v1-clause-carries : goal.returns-in_err-read_v1-clause-carries
-returns-in_err-read_v1-clause-carries g c = λ format.
-    outside_unshown c.args.root.now format c.args.bytes.now _ c.from_residual.result c.in_err-read_v1.field-0.0 c.from_residual.ensures c.in_err-read_v1.ensures.exact.rightly
+pub returns-in_err-write_out-clause-carries : goal.returns-in_err-write_out-clause-carries
+returns-in_err-write_out-clause-carries g c =
+    let root = c.args.root.now in
+    let told = g.L.Library.told c.args.library.now in
+    let files = map file_of c.args.files.now in
+    let reads = count_of (g.L.Library.faults c.args.library.now) (g.L.Library.faults c.receive_files.new.library) in
+    let all = c.in_ok-replica.ensures.received in
+    let line = c.deref.result.now in
+    let failed = c.in_err-write_out in
+    cut_short (show_text root) files told reads (g.S.Sink.faults c.args.out.now) (g.S.Sink.faults c.write_out.new.out) (g.S.Sink.bytes_taken c.args.out.now) (g.S.Sink.bytes_taken c.write_out.new.out) all.updates line c.from_residual-in_err-write_out.result failed.field-0.0
+    c.from_residual-in_err-write_out.ensures all.are_read (line_is told files (received_of c.in_ok-replica.replica) root line all (c.deref.ensures.value ∙ c.in_ok-line.ensures)) failed.ensures.front failed.ensures.cause
 
-pub returns-in_err-update-clause-carries : goal.returns-in_err-update-clause-carries
-returns-in_err-update-clause-carries g c = λ format.
-    unbuilt_refused c.args.root.now format c.args.bytes.now _ c.from_residual-in_err-update.result c.from_residual-in_err-update.ensures (update_value c.in_ok-read_v1.field-0, c.in_ok-read_v1.ensures.exact.rightly) c.in_err-update.ensures.none
+pub returns-clause-carries : goal.returns-clause-carries
+returns-clause-carries g c =
+    let root = c.args.root.now in
+    let told = g.L.Library.told c.args.library.now in
+    let files = map file_of c.args.files.now in
+    let reads = count_of (g.L.Library.faults c.args.library.now) (g.L.Library.faults c.receive_files.new.library) in
+    let writes = count_of (g.S.Sink.faults c.args.out.now) (g.S.Sink.faults c.write_out.new.out) in
+    let all = c.in_ok-replica.ensures.received in
+    let line = c.deref.result.now in
+    carried (show_text root) files told reads writes (g.S.Sink.bytes_taken c.args.out.now) (g.S.Sink.bytes_taken c.write_out.new.out) all.updates line
+    all.are_read (line_is told files (received_of c.in_ok-replica.replica) root line all (c.deref.ensures.value ∙ c.in_ok-line.ensures)) c.in_ok-write_out.ensures.whole tt

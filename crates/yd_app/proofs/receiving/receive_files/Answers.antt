@@ -1,0 +1,26 @@
+use Rattle.std.proofs.Common.{◌∙◌}
+use Rattle.yd_app.proofs.ReceivingLemmas.{named_at, so_far_more, stops_at, stops_passed}
+use Rattle.yd_app.specs.Stopping.{IsNoReadFault}
+use Rattle.yd_app.proofs.receiving.receive_files.Goals as goal
+
+pub returns-in_err-receive_file-clause-stops : goal.returns-in_err-receive_file-clause-stops
+returns-in_err-receive_file-clause-stops g c =
+    let loop = c.loop-file in
+    let failed = c.in_err-receive_file in
+    stops_passed _ c.from_residual-in_err-receive_file.result failed.field-0.0 c.from_residual-in_err-receive_file.ensures
+    (stops_at c.args.files.now loop.file-index _ _ failed.field-0.0 c.loop-file-test.true loop.invariant failed.ensures.counts failed.ensures.stops)
+
+pub returns-in_err-receive_file-clause-calm : goal.returns-in_err-receive_file-clause-calm
+returns-in_err-receive_file-clause-calm g c = λ calmly is_told none.
+    let loop = c.loop-file in
+    let failed = c.in_err-receive_file in
+    let before = loop.invariant.calm calmly is_told none in
+    let after = failed.ensures.calm before.0 (named_at c.args.files.now loop.file-index _ c.loop-file-test.true loop.invariant is_told none) in
+    (stops_passed IsNoReadFault c.from_residual-in_err-receive_file.result failed.field-0.0 c.from_residual-in_err-receive_file.ensures after.1, after.2 ∙ before.1)
+
+pub loop-file-preserved : goal.loop-file-preserved
+loop-file-preserved g c =
+    let loop = c.loop-file in
+    let done = c.in_ok-receive_file in
+    so_far_more c.args.files.now loop.file-index _ c.loop-file-test.true loop.invariant done.ensures.received done.ensures.files done.ensures.counts
+    (λ calm named. let after = done.ensures.calm calm named in (after.0, after.2))
