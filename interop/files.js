@@ -10,6 +10,11 @@ function fileOf(session, update, form) {
   return { name: `${session.name}/${update.name}.${form}`, form, bytes: update[form] };
 }
 
+/** Updates as files, each in a format by chance. */
+function mixedFiles(session, updates) {
+  return updates.map((update) => fileOf(session, update, session.chance.pick(FORMS)));
+}
+
 /** Several updates as one, merged by Yjs. */
 function mergeOf(name, updates) {
   const v1 = Y.mergeUpdates(updates.map((update) => update.v1));
@@ -21,4 +26,4 @@ function stateOf(name, doc) {
   return { name, v1: Y.encodeStateAsUpdate(doc), v2: Y.encodeStateAsUpdateV2(doc) };
 }
 
-module.exports = { FORMS, fileOf, mergeOf, stateOf };
+module.exports = { FORMS, fileOf, mergeOf, mixedFiles, stateOf };

@@ -10,10 +10,11 @@ const { parseArgs } = require('node:util');
 const { convertCases } = require('./convert.js');
 const { answersOf } = require('./program.js');
 const { sessions } = require('./sessions.js');
+const { showCases } = require('./show.js');
 
 /** The cases whose names have the word. */
 function casesWith(word) {
-  const all = sessions().flatMap(convertCases);
+  const all = sessions().flatMap((session) => [...convertCases(session), ...showCases(session)]);
   const cases = all.filter(({ name }) => name.includes(word));
   if (cases.length === 0) {
     throw new Error(`no name of a case has ${word}`);

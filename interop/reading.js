@@ -57,6 +57,11 @@ function isWhole(form, bytes) {
   }
 }
 
+/** The clocks that the clients have reached in a document. */
+function vectorOf(doc) {
+  return Y.decodeStateVector(Y.encodeStateVector(doc));
+}
+
 /** What a document shows in its roots, and what it holds and lets wait, for comparing. */
 function holdings(doc, roots) {
   const shown = Object.keys(roots).map((name) => {
@@ -65,15 +70,22 @@ function holdings(doc, roots) {
   });
   return {
     shown,
-    vector: Y.decodeStateVector(Y.encodeStateVector(doc)),
+    vector: vectorOf(doc),
     parts: partsOf('v1', Y.encodeStateAsUpdate(doc)),
   };
 }
 
-/** A document with these roots that has taken the files, one after another. */
+/**
+ * A document with these roots that has taken the files, one after another, and again until it takes
+ * nothing more: Yjs may let a struct wait although all that it needs has come.
+ */
 function documentOf(roots, files) {
   const doc = newDocument(roots);
-  files.forEach(({ form, bytes }) => APPLIED[form](doc, bytes));
+  let before;
+  do {
+    before = vectorOf(doc);
+    files.forEach(({ form, bytes }) => APPLIED[form](doc, bytes));
+  } while (written(vectorOf(doc)) !== written(before));
   return doc;
 }
 

@@ -1,0 +1,81 @@
+'use strict';
+
+// The cases of `ydoc show --text`: it prints the text that Yjs has once it took the same files.
+
+const assert = require('node:assert');
+const { FORMS, fileOf, mergeOf, mixedFiles, stateOf } = require('./files.js');
+const { documentOf } = require('./reading.js');
+const { isWaiting } = require('./session.js');
+
+/** The text that Yjs has in a root once it has taken the files. */
+function textOf(session, root, files) {
+  return documentOf(session.roots, files).getText(root).toString();
+}
+
+/** The ways in which all updates of a session are handed in. */
+function wholes(session) {
+  const { chance, updates, passedOn, documents } = session;
+  const halves = [0, 1].map((half) => updates.filter((_, at) => at % 2 === half));
+  const merges = halves.map((half, at) => mergeOf(`merge-${at + 1}`, half));
+  const states = documents.map((doc, at) => stateOf(`state-${at + 1}`, doc));
+  const twice = [...updates, ...updates.slice(0, 4), ...passedOn.slice(0, 8)];
+  return {
+    'in-order-v1': updates.map((update) => fileOf(session, update, 'v1')),
+    'in-order-v2': updates.map((update) => fileOf(session, update, 'v2')),
+    shuffled: mixedFiles(session, chance.shuffled(updates)),
+    repeated: mixedFiles(session, chance.shuffled(twice)),
+    'merged-v1': [fileOf(session, mergeOf('merge', updates), 'v1')],
+    'merged-v2': [fileOf(session, mergeOf('merge', updates), 'v2')],
+    'merged-in-two': merges.map((merge, at) => fileOf(session, merge, FORMS[at])),
+    states: mixedFiles(session, chance.shuffled(states)),
+  };
+}
+
+/** Some updates of a session, in any order, such that something waits for those left out. */
+function waitingPart(session) {
+  const { chance, name, roots, updates } = session;
+  for (let draw = 0; draw < 100; draw += 1) {
+    const count = Math.max(1, updates.length - 1 - chance.below(3));
+    const files = mixedFiles(session, chance.shuffled(updates).slice(0, count));
+    if (isWaiting(documentOf(roots, files))) {
+      return files;
+    }
+  }
+  throw new Error(`${name}: nothing waits`);
+}
+
+/** The case that ydoc shows of these files what Yjs shows of them. */
+function showCase(session, name, root, files) {
+  const output = `${textOf(session, root, files)}\n`;
+  return {
+    name: `${session.name}.show.${name}`,
+    words: ['show', '--text', root],
+    files,
+    output,
+    judge({ how, status, compared }) {
+      if (how === 'ended' && status === 0 && compared === 'expected') {
+        return null;
+      }
+      const expected = `ended, status 0, output ${JSON.stringify(output)}`;
+      return { expected, came: `${how}, status ${status}, output ${compared}` };
+    },
+  };
+}
+
+/** The cases of a session: each way of handing in updates is tried on one of its texts in turn. */
+function showCases(session) {
+  const texts = session.texts();
+  const ways = wholes(session);
+  for (const [name, root] of Object.keys(ways).flatMap((way) => texts.map((text) => [way, text]))) {
+    const settled = session.documents[0].getText(root).toString();
+    assert.equal(textOf(session, root, ways[name]), settled, `${session.name}: ${name}`);
+  }
+  if (session.updates.length > 1) {
+    ways['waiting-1'] = waitingPart(session);
+    ways['waiting-2'] = waitingPart(session);
+  }
+  const turns = texts.length === 0 ? [] : Object.entries(ways);
+  return turns.map(([name, files], at) => showCase(session, name, texts[at % texts.length], files));
+}
+
+module.exports = { showCases };
