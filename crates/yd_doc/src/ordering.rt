@@ -17,7 +17,7 @@ use yd_order::{Stretch, arrange_stretches};
 use yd_received::Taken;
 
 /// The ids of each list in the order that their origins give. A list without a mark keeps its
-/// order; the others are arranged anew, each in the square of how many units it has.
+/// order; the others are arranged anew (`arrange_stretches`).
 pub(crate) fn arranged(
     alloc: Global,
     runs: &[Run],

@@ -3,6 +3,7 @@ pub mod ArrangementLemmas
 pub mod AscendingLemmas
 pub mod CountingLemmas
 pub mod FillingLemmas
+pub mod HeadLemmas
 pub mod LinkedLemmas
 pub mod LinkingLemmas
 pub mod NumberingLemmas
@@ -10,4 +11,7 @@ pub mod PairLemmas
 pub mod PermutedLemmas
 pub mod RowLemmas
 pub mod RunLemmas
+pub mod SeatedLemmas
+pub mod SeatingLemmas
 pub mod SortedLemmas
+pub mod StandingLemmas

@@ -1,8 +1,10 @@
 pub mod Counting
 pub mod Filling
 pub mod Law
+pub mod Line
 pub mod Linking
 pub mod Numbering
 pub mod Rows
 pub mod Runs
+pub mod Seating
 pub mod Stretch

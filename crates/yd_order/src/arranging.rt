@@ -1,48 +1,35 @@
 //! The order of a list that origins alone give.
 
-ghost use Rattle.std.specs.Prelude.{◌≡◌, ◌*◌, length, map, IfOk};
+ghost use Rattle.std.specs.Prelude.{◌≡◌, ◌*◌, length, map, IfOk, IfSome};
 ghost use Rattle.yd_ids.specs.Each.{Each};
-ghost use Rattle.yd_meaning.specs.Order.{rows_of};
-ghost use Rattle.yd_ops.specs.View.{run_value};
 ghost use Rattle.yd_origins.specs.Sorted.{origin_order};
 ghost use Rattle.yd_origins.specs.Table.{IsTable};
 ghost use Rattle.yd_order.specs.Counting.{id_of_place};
 ghost use Rattle.yd_order.specs.Filling.{AreFilled};
-ghost use Rattle.yd_order.specs.Linking.{AreLinked, table_of_linked};
+ghost use Rattle.yd_order.specs.Linking.{AreLinked, id_at, table_of_linked};
+ghost use Rattle.yd_order.specs.Numbering.{IsNumbering};
 ghost use Rattle.yd_order.specs.Rows.{AreAscending, table_of};
-ghost use Rattle.yd_order.specs.Runs.{operations_of_runs, RunEndsAtClock};
+ghost use Rattle.yd_order.specs.Seating.{AllBelow};
 ghost use Rattle.yd_order.specs.Stretch.{EndsAtClock, rows_of_stretches, among_rows};
 
 use crate::counting::{Place, counted};
 use crate::fault::NoMemory;
 use crate::filling::filled;
+use crate::heading::heads_of;
 use crate::linking::{LinkedRow, linked};
 use crate::numbering::numbered;
 use crate::rows::{OriginRow, ascending};
-use crate::runs::stretches_of;
+use crate::scanning::scanned;
+use crate::seating::{all_stand, are_seated, seats_of};
 use crate::stretch::Stretch;
 use std::alloc::Global;
 use yd_ids::Id;
-use yd_ops::Run;
-
-/// The ids of the runs' operations in the order that their origins give, where a right origin that
-/// is not one of these operations counts as absent. It takes time with the square of how many
-/// operations there are, and as many bytes.
-pub fn arrange(alloc: Global, runs: &[Run]) -> Result<Vec<Id>, NoMemory>
-    requires clocks { Each RunEndsAtClock (map run_value runs.now) }
-    requires table { let operations = operations_of_runs (map run_value runs.now) in
-        IsTable (among_rows (rows_of operations)) }
-    ensures { let operations = operations_of_runs (map run_value runs.now) in
-        IfOk result (λ order. order.items ≡ origin_order (among_rows (rows_of operations))) }
-{
-    let stretches = stretches_of(alloc, runs)?;
-    let order = arrange_stretches(alloc, &stretches)?;
-    Ok(order)
-}
 
 /// The ids of the stretches in the order that their origins give, where a right origin that is not
-/// the id of one of them counts as absent. It takes time with the square of how many units there
-/// are, and as many bytes.
+/// the id of one of them counts as absent. Where the integration scan finds this order, as it does
+/// for units that keep the edit rules, it takes the sorting of the units, at most a few steps for
+/// each unit and stretch, and bytes with the units; else time and bytes with the square of how many
+/// units there are.
 pub fn arrange_stretches(alloc: Global, stretches: &[Stretch]) -> Result<Vec<Id>, NoMemory>
     requires clocks { Each EndsAtClock stretches.now }
     requires table { IsTable (among_rows (rows_of_stretches stretches.now)) }
@@ -65,14 +52,61 @@ fn arrange_rows(alloc: Global, rows: &[OriginRow]) -> Result<Vec<Id>, NoMemory>
     Ok(order)
 }
 
-/// The ids of linked rows in the order that their links give.
+/// The ids of linked rows in the order that their links give: what the scan proposes, if it passes
+/// the check.
 fn arrange_linked(alloc: Global, rows: &[LinkedRow]) -> Result<Vec<Id>, NoMemory>
     requires links { AreLinked rows.now }
     requires table { IsTable (table_of_linked rows.now) }
     ensures { IfOk result (λ order. order.items ≡ origin_order (table_of_linked rows.now)) }
 {
     let numbers = numbered(alloc, rows)?;
-    let cells = filled(alloc, rows, &numbers)?;
+    let order = scanned(alloc, rows, &numbers)?;
+    if let Some(ids) = taken(alloc, rows, &order)? {
+        return Ok(ids);
+    }
+    let ids = arrange_pairs(alloc, rows, &numbers)?;
+    Ok(ids)
+}
+
+/// The ids of rows in this order, if they stand there as their links ask.
+fn taken(alloc: Global, rows: &[LinkedRow], order: &[usize]) -> Result<Option<Vec<Id>>, NoMemory>
+    requires links { AreLinked rows.now }
+    requires table { IsTable (table_of_linked rows.now) }
+    ensures { IfOk result (λ taken. IfSome taken (λ ids.
+        ids.items ≡ origin_order (table_of_linked rows.now))) }
+{
+    let seats = seats_of(alloc, order)?;
+    if !are_seated(rows.len(), order, &seats) {
+        return Ok(None);
+    }
+    let heads = heads_of(alloc, rows, order, &seats)?;
+    if !all_stand(rows, order, &seats, &heads) {
+        return Ok(None);
+    }
+    let ids = ids_at(alloc, rows, order)?;
+    Ok(Some(ids))
+}
+
+/// The ids of the rows at places.
+fn ids_at(alloc: Global, rows: &[LinkedRow], order: &[usize]) -> Result<Vec<Id>, NoMemory>
+    requires { AllBelow (length rows.now) order.now }
+    ensures { IfOk result (λ ids. ids.items ≡ map (id_at rows.now) order.now) }
+{
+    let mut ids = Vec::new(alloc);
+    for at in order {
+        ids.push(rows[*at].id)?;
+    }
+    Ok(ids)
+}
+
+/// The ids of linked rows in the order that a table over all pairs of rows gives.
+fn arrange_pairs(alloc: Global, rows: &[LinkedRow], numbers: &[usize]) -> Result<Vec<Id>, NoMemory>
+    requires links { AreLinked rows.now }
+    requires table { IsTable (table_of_linked rows.now) }
+    requires numbering { IsNumbering rows.now numbers.now }
+    ensures { IfOk result (λ order. order.items ≡ origin_order (table_of_linked rows.now)) }
+{
+    let cells = filled(alloc, rows, numbers)?;
     let order = sorted(alloc, rows, &cells)?;
     Ok(order)
 }

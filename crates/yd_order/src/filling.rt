@@ -137,7 +137,7 @@ fn reaches_place(cells: &[bool], count: usize, a: usize, b: usize) -> bool
 }
 
 /// Both links are absent, or both are there and one.
-fn is_same_link(a: Option<usize>, b: Option<usize>) -> bool
+pub fn is_same_link(a: Option<usize>, b: Option<usize>) -> bool
     ensures { result ≡ is_same_link a b }
 {
     match a {

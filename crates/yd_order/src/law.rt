@@ -1,6 +1,6 @@
 //! The laws of the order and of the integration scan, each the contract of an empty function.
 
-ghost use Rattle.yd_order.specs.Law.{CountsDecide};
+ghost use Rattle.yd_order.specs.Law.{CountsDecide, SeatsDecide};
 ghost use Rattle.yd_origins.specs.Law.{LinesDecide, OneIsBefore, OrderIsStrict, PartKeepsOrder, ScanKeepsOrder, ScansGiveOrder, SortingGivesOrder};
 
 use yd_origins::law;
@@ -8,6 +8,12 @@ use yd_origins::law;
 /// In every table how many rows are before each decides the order, and ties go by id.
 pub fn counts_decide()
     ensures { CountsDecide }
+{}
+
+/// In every table the rows stand in its order where seats say for each two which is in front, and
+/// each stands behind its left, in front of its right, and for a reason in front of each later one.
+pub fn seats_decide()
+    ensures { SeatsDecide }
 {}
 
 /// Of two rows of a table the first of the six lines that applies decides which is before.

@@ -2,9 +2,10 @@
 //!
 //! [`arrange`] takes runs, and [`arrange_stretches`] what the order sees of them. Both answer the
 //! ids exactly as `origin_order` (yd_origins) defines it, whether the units keep the edit rules or
-//! not, in time and bytes with the square of how many units there are. Where they keep them, the
-//! integration scan gives the same list ([`law`]). A call that finds no memory answers
-//! [`NoMemory`].
+//! not. Where they keep them, the integration scan gives the same list ([`law`]). So the scan
+//! proposes an order, and if each unit stands there as its origins ask, it is the answer. Otherwise
+//! a table over all pairs of units gives the order, in time and bytes with the square of how many
+//! there are. A call that finds no memory answers [`NoMemory`].
 //!
 //! ```rust
 //! let order = arrange_stretches(alloc, &stretches)?;
@@ -15,14 +16,18 @@ mod arranging;
 mod counting;
 mod fault;
 mod filling;
+mod heading;
 mod ids;
 pub mod law;
 mod linking;
 mod numbering;
 mod rows;
 mod runs;
+mod scanning;
+mod seating;
 mod stretch;
 
-pub use arranging::{arrange, arrange_stretches};
+pub use arranging::arrange_stretches;
 pub use fault::NoMemory;
+pub use runs::arrange;
 pub use stretch::Stretch;

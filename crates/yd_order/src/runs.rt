@@ -1,16 +1,39 @@
-//! Runs as stretches.
+//! The order of the operations of runs.
 
 ghost use Rattle.std.specs.Prelude.{◌≡◌, map, IfOk};
+ghost use Rattle.yd_ids.specs.Each.{Each};
+ghost use Rattle.yd_meaning.specs.Order.{rows_of};
 ghost use Rattle.yd_ops.specs.View.{run_value};
-ghost use Rattle.yd_order.specs.Runs.{stretch_of};
+ghost use Rattle.yd_order.specs.Runs.{operations_of_runs, RunEndsAtClock, stretch_of};
+ghost use Rattle.yd_order.specs.Stretch.{among_rows};
+ghost use Rattle.yd_origins.specs.Sorted.{origin_order};
+ghost use Rattle.yd_origins.specs.Table.{IsTable};
 
+use crate::arranging::arrange_stretches;
 use crate::fault::NoMemory;
 use crate::stretch::Stretch;
 use std::alloc::Global;
+use yd_ids::Id;
 use yd_ops::Run;
 
+/// The ids of the runs' operations in the order that their origins give, where a right origin that
+/// is not one of these operations counts as absent. Where the integration scan finds this order, it
+/// takes the sorting of the operations, at most a few steps for each operation and run, and bytes
+/// with the operations; else time and bytes with the square of how many operations there are.
+pub fn arrange(alloc: Global, runs: &[Run]) -> Result<Vec<Id>, NoMemory>
+    requires clocks { Each RunEndsAtClock (map run_value runs.now) }
+    requires table { let operations = operations_of_runs (map run_value runs.now) in
+        IsTable (among_rows (rows_of operations)) }
+    ensures { let operations = operations_of_runs (map run_value runs.now) in
+        IfOk result (λ order. order.items ≡ origin_order (among_rows (rows_of operations))) }
+{
+    let stretches = stretches_of(alloc, runs)?;
+    let order = arrange_stretches(alloc, &stretches)?;
+    Ok(order)
+}
+
 /// What the order sees of the runs.
-pub fn stretches_of(alloc: Global, runs: &[Run]) -> Result<Vec<Stretch>, NoMemory>
+fn stretches_of(alloc: Global, runs: &[Run]) -> Result<Vec<Stretch>, NoMemory>
     ensures { IfOk result (λ stretches.
         stretches.items ≡ map stretch_of (map run_value runs.now)) }
 {

@@ -5,7 +5,7 @@ use Rattle.yd_origins.specs.Sorted.{origin_order}
 use Rattle.yd_origins.specs.Table.{IsTable}
 use Rattle.yd_order.specs.Stretch.{EndsAtClock, rows_of_stretches, among_rows}
 use Rattle.yd_order.proofs.RunLemmas.{rows_of_runs, stretches_end}
-use Rattle.yd_order.proofs.arranging.arrange.Goals as goal
+use Rattle.yd_order.proofs.runs.arrange.Goals as goal
 
 pub arrange_stretches-requires-clause-clocks : goal.arrange_stretches-requires-clause-clocks
 arrange_stretches-requires-clause-clocks c =

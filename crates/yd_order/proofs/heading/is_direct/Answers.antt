@@ -1,0 +1,10 @@
+use Rattle.std.proofs.Common.{ℕ, ap, ◌∙◌, nat_eq}
+use Rattle.yd_order.specs.Seating.{seat_of}
+use Rattle.yd_order.proofs.LinkedLemmas.{left_read}
+use Rattle.yd_order.proofs.SeatedLemmas.{seated_below}
+use Rattle.yd_order.proofs.heading.is_direct.Goals as goal
+
+pub returns : goal.returns
+returns c =
+    ap (λ (n : ℕ). nat_eq n c.args.number) (c.seat_of.ensures ∙ ap (seat_of c.args.seats.now)
+    (left_read c.args.rows.now _ _ (seated_below _ c.args.order.now c.args.seats.now c.requires.seated c.args.number c.requires.inside)))

@@ -1,0 +1,21 @@
+use Rattle.std.proofs.Common.{◌-◌, arith, sym, ◌∙◌}
+use Rattle.yd_order.proofs.HeadLemmas.{reasons_back, reasons_all}
+use Rattle.yd_order.proofs.seating.have_reasons.Goals as goal
+
+pub loop-number-preserved : goal.loop-number-preserved
+loop-number-preserved c =
+    let high = (c.requires.seated.each c.args.at c.requires.inside).high in
+    let head = (c.requires.heads.each (c.loop-number.number - 1) (omega (arith, c.loop-number-test.true, c.loop-number.invariant.0, high))).up_to in (
+      omega (arith, head, c.loop-number-test.true, c.loop-number.invariant.0, c.max-head.ensures),
+      reasons_back c.args.rows.now c.args.order.now c.args.seats.now c.args.heads.now c.args.at _ c.loop-number.number _ _ _ c.requires.heads c.requires.inside c.seat_of-first.ensures
+          (omega (arith, c.loop-number-test.true))
+          (omega (arith, c.loop-number.invariant.0, high))
+          c.max-head.ensures
+          (sym c.has_reason.ensures ∙ c.if-not-has_reason.false)
+          c.loop-number.invariant.1,
+    )
+
+pub returns : goal.returns
+returns c =
+    reasons_all c.args.rows.now c.args.order.now c.args.seats.now c.args.at _ c.loop-number.number _ c.requires.inside c.seat_of-first.ensures c.loop-number-test.false
+    c.loop-number.invariant.1
