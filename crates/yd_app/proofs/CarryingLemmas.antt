@@ -34,9 +34,9 @@ carried_err command files told reads writes taken now (Err other) stop is carrie
 pub stopped : (command : Command) (files : List File) (told : Option Shelf) (reads writes : Count) (taken : Option (List ℕ)) (stop : Stop) → StopsAmong told files reads stop → Carries command files told reads writes taken taken (Err stop)
 stopped command files told reads writes taken stop (inl none) = subst (λ (s : Stop). Carries command files told reads writes taken taken (Err s)) (sym none) (inl refl)
 stopped command files told reads writes taken (Refused other cause spot) (inr s) =
-    record { reached = moved (IsReached told files) (file_of other) s.0 s.2.0 s.1; objects = tt; verdict_is = moved (λ f. HasVerdict told f (refused (fault_text (record { cause = cause; spot = spot })))) (file_of other) s.0 s.2.0 s.2.1 }
+    record { reached = moved (IsReached told files) (file_of other) s.0 s.2.0 s.1; not_accepted = tt; verdict_is = moved (λ f. HasVerdict told f (refused (fault_text (record { cause = cause; spot = spot })))) (file_of other) s.0 s.2.0 s.2.1 }
 stopped command files told reads writes taken (ReadFault other) (inr s) = (moved (IsReached told files) (file_of other) s.0 s.2.0 s.1, s.2.1)
-stopped command files told reads writes taken (TooLarge other) (inr s) = record { reached = moved (IsReached told files) (file_of other) s.0 s.2.0 s.1; objects = tt; verdict_is = moved (λ f. HasVerdict told f too_large) (file_of other) s.0 s.2.0 s.2.1 }
+stopped command files told reads writes taken (TooLarge other) (inr s) = record { reached = moved (IsReached told files) (file_of other) s.0 s.2.0 s.1; not_accepted = tt; verdict_is = moved (λ f. HasVerdict told f too_large) (file_of other) s.0 s.2.0 s.2.1 }
 stopped command files told reads writes taken NoMemory (inr s) = inl refl
 stopped command files told reads writes taken WriteFault (inr s) = absurd s.2
 stopped command files told reads writes taken Usage (inr s) = absurd s.2

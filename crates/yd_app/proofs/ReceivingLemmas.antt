@@ -60,7 +60,7 @@ named_here (Some told) None files file keeps is_told none reached = absurd keeps
 named_here (Some told) (Some now) files file keeps is_told none reached = by_bytes (told.bytes_under file.name) refl
   where
     by_bytes : (found : Option (List ℕ)) → told.bytes_under file.name ≡ found → HasName (Some now) file.name
-    by_bytes None is = absurd (none file (record { reached = reached; objects = tt; verdict_is = is }))
+    by_bytes None is = absurd (none file (record { reached = reached; not_accepted = tt; verdict_is = is }))
     by_bytes (Some bytes) is = (bytes, ap (λ (f : List ℕ → Option (List ℕ)). f file.name) keeps ∙ is)
 
 -- a count that rose later rose

@@ -10,7 +10,7 @@ use Rattle.yd_app.proofs.FormatLemmas.{read_exactly, reading_in}
 use Rattle.yd_app.proofs.ValidLemmas.{stands_valid}
 use Rattle.yd_app.specs.Law.{FilesAreJudged}
 use Rattle.yd_app.specs.Reason.{fault_text}
-use Rattle.yd_app.specs.Verdict.{AreRead, HasVerdict, IsObjection, IsReached, StopsAt, Verdict, accepted, missing, refused, too_large}
+use Rattle.yd_app.specs.Verdict.{AreRead, HasVerdict, IsNotAccepted, IsReached, StopsAt, Verdict, accepted, missing, refused, too_large}
 use Rattle.yd_app.specs.Words.{File, Format}
 
 -- ---- one file
@@ -75,10 +75,10 @@ verdict_one : (shelf : Shelf) (file : File) (verdict other : Verdict) → HasVer
 verdict_one shelf file verdict other a b = verdict_only shelf file verdict a ∙ sym (verdict_only shelf file other b)
 
 -- what is accepted is not objected to
-objection_apart : (shelf : Shelf) (file : File) (update : UpdateValue) (verdict : Verdict) → HasVerdict (Some shelf) file (accepted update) → HasVerdict (Some shelf) file verdict → IsObjection verdict → ⊥
-objection_apart shelf file update verdict a b objects = by_verdict verdict (verdict_one shelf file (accepted update) verdict a b) objects
+accepted_apart : (shelf : Shelf) (file : File) (update : UpdateValue) (verdict : Verdict) → HasVerdict (Some shelf) file (accepted update) → HasVerdict (Some shelf) file verdict → IsNotAccepted verdict → ⊥
+accepted_apart shelf file update verdict a b objects = by_verdict verdict (verdict_one shelf file (accepted update) verdict a b) objects
   where
-    by_verdict : (v : Verdict) → accepted update ≡ v → IsObjection v → ⊥
+    by_verdict : (v : Verdict) → accepted update ≡ v → IsNotAccepted v → ⊥
     by_verdict (accepted other) e o = o
     by_verdict (refused why) e o = cc
     by_verdict too_large e o = cc
@@ -99,26 +99,26 @@ updates_one shelf (file ∷ files) (u ∷ us) (v ∷ vs) a b =
     let same : u ≡ v = cc in cc
 
 -- of files that are all accepted none is objected to
-read_apart : (shelf : Shelf) (before behind : List File) (file : File) (updates : List UpdateValue) (verdict : Verdict) → AreRead (Some shelf) (before ++ file ∷ behind) updates → IsObjection verdict → HasVerdict (Some shelf) file verdict → ⊥
+read_apart : (shelf : Shelf) (before behind : List File) (file : File) (updates : List UpdateValue) (verdict : Verdict) → AreRead (Some shelf) (before ++ file ∷ behind) updates → IsNotAccepted verdict → HasVerdict (Some shelf) file verdict → ⊥
 read_apart shelf [] behind file [] verdict a objects has = a
-read_apart shelf [] behind file (u ∷ us) verdict a objects has = objection_apart shelf file u verdict a.0 has objects
+read_apart shelf [] behind file (u ∷ us) verdict a objects has = accepted_apart shelf file u verdict a.0 has objects
 read_apart shelf (other ∷ before) behind file [] verdict a objects has = a
 read_apart shelf (other ∷ before) behind file (u ∷ us) verdict a objects has = read_apart shelf before behind file us verdict a.1 objects has
 
 pub stops_apart : (shelf : Shelf) (files : List File) (updates : List UpdateValue) (file : File) (verdict : Verdict) → AreRead (Some shelf) files updates → StopsAt (Some shelf) files file verdict → ⊥
 stops_apart shelf files updates file verdict read stops =
-    read_apart shelf stops.reached.before stops.reached.behind file updates verdict (subst (λ fs. AreRead (Some shelf) fs updates) stops.reached.files_are read) stops.objects stops.verdict_is
+    read_apart shelf stops.reached.before stops.reached.behind file updates verdict (subst (λ fs. AreRead (Some shelf) fs updates) stops.reached.files_are read) stops.not_accepted stops.verdict_is
 
 -- the first that is objected to is one
 first_one : (shelf : Shelf) (before behind others rest : List File) (file other : File) (updates vs : List UpdateValue) (verdict thing : Verdict) → before ++ file ∷ behind ≡ others ++ other ∷ rest
-    → AreRead (Some shelf) before updates → AreRead (Some shelf) others vs → IsObjection verdict → IsObjection thing → HasVerdict (Some shelf) file verdict → HasVerdict (Some shelf) other thing → file ≡ other
+    → AreRead (Some shelf) before updates → AreRead (Some shelf) others vs → IsNotAccepted verdict → IsNotAccepted thing → HasVerdict (Some shelf) file verdict → HasVerdict (Some shelf) other thing → file ≡ other
 first_one shelf [] behind [] rest file other us vs verdict thing e a b o p has had = cc
 first_one shelf [] behind (f ∷ others) rest file other us [] verdict thing e a b o p has had = absurd b
 first_one shelf [] behind (f ∷ others) rest file other us (v ∷ vs) verdict thing e a b o p has had =
-    let same : f ≡ file = cc in absurd (objection_apart shelf file v verdict (subst (λ g. HasVerdict (Some shelf) g (accepted v)) same b.0) has o)
+    let same : f ≡ file = cc in absurd (accepted_apart shelf file v verdict (subst (λ g. HasVerdict (Some shelf) g (accepted v)) same b.0) has o)
 first_one shelf (f ∷ before) behind [] rest file other [] vs verdict thing e a b o p has had = absurd a
 first_one shelf (f ∷ before) behind [] rest file other (u ∷ us) vs verdict thing e a b o p has had =
-    let same : f ≡ other = cc in absurd (objection_apart shelf other u thing (subst (λ g. HasVerdict (Some shelf) g (accepted u)) same a.0) had p)
+    let same : f ≡ other = cc in absurd (accepted_apart shelf other u thing (subst (λ g. HasVerdict (Some shelf) g (accepted u)) same a.0) had p)
 first_one shelf (f ∷ before) behind (g ∷ others) rest file other [] vs verdict thing e a b o p has had = absurd a
 first_one shelf (f ∷ before) behind (g ∷ others) rest file other (u ∷ us) [] verdict thing e a b o p has had = absurd b
 first_one shelf (f ∷ before) behind (g ∷ others) rest file other (u ∷ us) (v ∷ vs) verdict thing e a b o p has had =
@@ -128,7 +128,7 @@ first_one shelf (f ∷ before) behind (g ∷ others) rest file other (u ∷ us) 
 pub stops_one : (shelf : Shelf) (files : List File) (file other : File) (verdict thing : Verdict) → StopsAt (Some shelf) files file verdict → StopsAt (Some shelf) files other thing → (file ≡ other) × (verdict ≡ thing)
 stops_one shelf files file other verdict thing a b =
     let same : file ≡ other =
-    first_one shelf a.reached.before a.reached.behind b.reached.before b.reached.behind file other a.reached.updates b.reached.updates verdict thing (sym a.reached.files_are ∙ b.reached.files_are) a.reached.are_read b.reached.are_read a.objects b.objects a.verdict_is b.verdict_is in
+    first_one shelf a.reached.before a.reached.behind b.reached.before b.reached.behind file other a.reached.updates b.reached.updates verdict thing (sym a.reached.files_are ∙ b.reached.files_are) a.reached.are_read b.reached.are_read a.not_accepted b.not_accepted a.verdict_is b.verdict_is in
     (same, verdict_one shelf other verdict thing (subst (λ f. HasVerdict (Some shelf) f verdict) same a.verdict_is) b.verdict_is)
 
 -- one more file in front of those before one that is reached
@@ -150,14 +150,14 @@ judged : (shelf : Shelf) (files : List File) → ((updates : List UpdateValue) �
 judged shelf [] = inl ([], tt)
 judged shelf (file ∷ files) = by_first (verdict_has shelf file).0 (verdict_has shelf file).1 (judged shelf files)
   where
-    stop : (verdict : Verdict) → IsObjection verdict → HasVerdict (Some shelf) file verdict → (f : File) × (v : Verdict) × StopsAt (Some shelf) (file ∷ files) f v
-    stop verdict objects has = (file, verdict, record { reached = reached_first (Some shelf) file files; objects = objects; verdict_is = has })
+    stop : (verdict : Verdict) → IsNotAccepted verdict → HasVerdict (Some shelf) file verdict → (f : File) × (v : Verdict) × StopsAt (Some shelf) (file ∷ files) f v
+    stop verdict objects has = (file, verdict, record { reached = reached_first (Some shelf) file files; not_accepted = objects; verdict_is = has })
 
     by_first : (verdict : Verdict) → HasVerdict (Some shelf) file verdict → ((updates : List UpdateValue) × AreRead (Some shelf) files updates) ⊎ ((f : File) × (v : Verdict) × StopsAt (Some shelf) files f v)
         → ((updates : List UpdateValue) × AreRead (Some shelf) (file ∷ files) updates) ⊎ ((f : File) × (v : Verdict) × StopsAt (Some shelf) (file ∷ files) f v)
     by_first (accepted update) has (inl read) = inl (update ∷ read.0, (has, read.1))
     by_first (accepted update) has (inr stops) =
-        inr (stops.0, stops.1, record { reached = reached_behind (Some shelf) files file stops.0 update has stops.2.reached; objects = stops.2.objects; verdict_is = stops.2.verdict_is })
+        inr (stops.0, stops.1, record { reached = reached_behind (Some shelf) files file stops.0 update has stops.2.reached; not_accepted = stops.2.not_accepted; verdict_is = stops.2.verdict_is })
     by_first (refused why) has rest = inr (stop (refused why) tt has)
     by_first too_large has rest = inr (stop too_large tt has)
     by_first missing has rest = inr (stop missing tt has)

@@ -67,14 +67,22 @@ pub record Completes (ReadsCalmly WritesCalmly : Type 0) (words : List (List ℕ
 
 -- ---- output
 
--- all that the command makes of the updates that its files stand for was written, whoever made them and however their bytes spell them; what
+-- all that the command makes of the updates that the files stand for was written, whoever made them and however their bytes spell them; what
 -- `convert` wrote stands for the update again
-abbrev pub Writes : List (List ℕ) → Option Shelf → Option (List ℕ) → Option (List ℕ) → Type 0
-Writes words told taken now = AsksFor words (λ command files. (updates : List UpdateValue) × AreRead told files updates × TakesAll taken now (output_of command updates) × StandsForAgain command updates)
+abbrev pub TakesAllOf : Command → List File → Option Shelf → Option (List ℕ) → Option (List ℕ) → Type 0
+TakesAllOf command files told taken now = (updates : List UpdateValue) × AreRead told files updates × TakesAll taken now (output_of command updates) × StandsForAgain command updates
 
 -- a front of that was written
+abbrev pub TakesFrontOf : Command → List File → Option Shelf → Option (List ℕ) → Option (List ℕ) → Type 0
+TakesFrontOf command files told taken now = (updates : List UpdateValue) × AreRead told files updates × TakesFront taken now (output_of command updates)
+
+-- so it is of what the words ask for
+abbrev pub Writes : List (List ℕ) → Option Shelf → Option (List ℕ) → Option (List ℕ) → Type 0
+Writes words told taken now = AsksFor words (λ command files. TakesAllOf command files told taken now)
+
+-- and so is a front of it
 abbrev pub WritesFront : List (List ℕ) → Option Shelf → Option (List ℕ) → Option (List ℕ) → Type 0
-WritesFront words told taken now = AsksFor words (λ command files. (updates : List UpdateValue) × AreRead told files updates × TakesFront taken now (output_of command updates))
+WritesFront words told taken now = AsksFor words (λ command files. TakesFrontOf command files told taken now)
 
 -- what stands on out where the run ended within its output
 pub record CutsOff (words : List (List ℕ)) (told : Option Shelf) (taken now : Option (List ℕ)) (status : ℕ) : Type 0 where

@@ -1,16 +1,13 @@
 -- Why a command stops, and what it has written by then.
 use Rattle.std.specs.Prelude.{◌≡◌, ◌⊎◌, ℕ, List, Option, Result, Ok, Err, IfErr}
-use Rattle.yd_ops.specs.Value.{UpdateValue}
 use Rattle.yd_world.specs.Shelf.{Shelf}
 use Rattle.yd_world.specs.declared.fault.Outage.{Outage}
 use Rattle.yd_world.specs.declared.fault.Outage.TheVariants as outages
-use Rattle.yd_app.specs.Output.{StandsForAgain, output_of}
 use Rattle.yd_app.specs.Reason.{fault_text}
-use Rattle.yd_app.specs.Run.{Count, RoseIn}
+use Rattle.yd_app.specs.Run.{Count, RoseIn, TakesAllOf, TakesFrontOf}
 use Rattle.yd_app.specs.Seen.{file_of}
-use Rattle.yd_app.specs.Verdict.{AreRead, HasVerdict, IsReached, IsTold, NoneIsMissing, StopsAt, refused, too_large}
+use Rattle.yd_app.specs.Verdict.{HasVerdict, IsReached, IsTold, NoneIsMissing, StopsAt, refused, too_large}
 use Rattle.yd_app.specs.Words.{Asks, Command, File}
-use Rattle.yd_app.specs.Writing.{TakesAll, TakesFront}
 use Rattle.yd_app.specs.declared.stop.Stop.{Stop}
 use Rattle.yd_app.specs.declared.stop.Stop.TheVariants.{Usage, Refused, ReadFault, TooLarge, NoMemory, WriteFault}
 
@@ -27,14 +24,9 @@ StopsReading told file reads Usage = ⊥
 abbrev pub StopsAmong : Option Shelf → List File → Count → Stop → Type 0
 StopsAmong told files reads stop = (stop ≡ NoMemory) ⊎ ((file : File) × IsReached told files file × StopsReading told file reads stop)
 
--- a front of what the command writes of its files was written
-abbrev pub TakesFrontOf : Command → List File → Option Shelf → Option (List ℕ) → Option (List ℕ) → Type 0
-TakesFrontOf command files told taken now = (updates : List UpdateValue) × AreRead told files updates × TakesFront taken now (output_of command updates)
-
--- all of it was written, or why the command stopped and what stands on out then
+-- all that the command makes of its files was written, or why it stopped and what stands on out then
 abbrev pub Carries : Command → List File → Option Shelf → Count → Count → Option (List ℕ) → Option (List ℕ) → Result (Unit {0}) Stop → Type 0
-Carries command files told reads writes taken now (Ok done) =
-    (updates : List UpdateValue) × AreRead told files updates × TakesAll taken now (output_of command updates) × StandsForAgain command updates
+Carries command files told reads writes taken now (Ok done) = TakesAllOf command files told taken now
 Carries command files told reads writes taken now (Err (Refused file cause spot)) = StopsAt told files (file_of file) (refused (fault_text (record { cause = cause; spot = spot })))
 Carries command files told reads writes taken now (Err (ReadFault file)) = IsReached told files (file_of file) × RoseIn reads
 Carries command files told reads writes taken now (Err (TooLarge file)) = StopsAt told files (file_of file) too_large

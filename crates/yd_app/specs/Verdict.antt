@@ -66,11 +66,11 @@ HasVerdict told file too_large = WhereTold told file.name IsTooLarge
 HasVerdict told file missing = LacksName told file.name
 
 -- the file is not accepted
-abbrev pub IsObjection : Verdict → Type 0
-IsObjection (accepted update) = ⊥
-IsObjection (refused why) = Unit {0}
-IsObjection too_large = Unit {0}
-IsObjection missing = Unit {0}
+abbrev pub IsNotAccepted : Verdict → Type 0
+IsNotAccepted (accepted update) = ⊥
+IsNotAccepted (refused why) = Unit {0}
+IsNotAccepted too_large = Unit {0}
+IsNotAccepted missing = Unit {0}
 
 -- all files are accepted, as these updates
 abbrev pub AreRead : Option Shelf → List File → List UpdateValue → Type 0
@@ -90,7 +90,7 @@ pub record IsReached (told : Option Shelf) (files : List File) (file : File) : T
 -- the first of the files that is not accepted is this one, for what it is
 pub record StopsAt (told : Option Shelf) (files : List File) (file : File) (verdict : Verdict) : Type 0 where
   pub reached : IsReached told files file
-  pub objects : IsObjection verdict
+  pub not_accepted : IsNotAccepted verdict
   pub verdict_is : HasVerdict told file verdict
 
 -- the first that is not accepted, if there is one, is there

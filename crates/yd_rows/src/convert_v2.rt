@@ -1,17 +1,10 @@
 //! `convert` with V2 on either side, and files in V2 that are refused, each in its column.
 
-use crate::stage::Stage;
+use crate::stage::{ABC_V2, Stage};
 use std::alloc::Global;
 use std::process::Abort;
 use std::test::Fail;
 use yd_samples::{ABC, BOARD};
-
-/// `ABC` in V2: a flag and nine columns, each behind its length, of which clients (1), infos (4),
-/// strings ("tabc" as 1 and 3 units) and parents (1) have bytes; then the rest, which is one block
-/// of one struct from clock 0 on, and no deletes.
-const ABC_V2: [u8; 24] = [
-    0, 0, 1, 1, 0, 0, 1, 4, 7, 4, 0x74, 0x61, 0x62, 0x63, 1, 3, 1, 1, 0, 0, 1, 1, 0, 0,
-];
 
 /// `BOARD` as Yjs writes it in V2: its three keys have the numbers 0, 1 and 2, though two are
 /// `bold`.

@@ -8,4 +8,8 @@ mod convert_v2;
 #[cfg(test)]
 mod show;
 #[cfg(test)]
+mod show_files;
+#[cfg(test)]
+mod show_refusals;
+#[cfg(test)]
 mod stage;

@@ -8,6 +8,9 @@ use yd_samples::{ABC, BOARD};
 /// "abc" in the root whose name is empty.
 const NAMELESS_ABC: [u8; 12] = [1, 1, 1, 0, 4, 1, 0, 3, 97, 98, 99, 0];
 
+/// An update of no structs and no deletes, in V2.
+const EMPTY_V2: [u8; 13] = [0, 0, 0, 0, 0, 0, 1, 0, 0, 0, 0, 0, 0];
+
 const SHOW: [&str; 4] = ["show", "--text", "t", "v1:F"];
 
 const USAGE: (u8, &str, &str) = (
@@ -34,18 +37,17 @@ fn each_front_of_an_update_is_refused(rt: HostRuntime) -> Result<(), Fail> {
 }
 
 #[test]
-fn an_update_of_another_form_is_unbuilt(rt: HostRuntime) -> Result<(), Fail> {
+fn an_empty_update_shows_an_empty_line(rt: HostRuntime) -> Result<(), Fail> {
     let mut stage = Stage::with_file(rt.alloc(), &[0, 0])?;
-    stage.expect_fault(&rt, &SHOW, ("Unbuilt", 0))?;
-    let mut stage = Stage::with_file(rt.alloc(), &BOARD)?;
-    stage.expect_fault(&rt, &SHOW, ("Unbuilt", 0))
+    stage.expect(&rt, &SHOW, (0, "\n", ""))?;
+    let mut stage = Stage::with_file(rt.alloc(), &EMPTY_V2)?;
+    stage.expect(&rt, &["show", "--text", "t", "v2:F"], (0, "\n", ""))
 }
 
 #[test]
-fn a_client_of_no_deletes_is_unbuilt(rt: HostRuntime) -> Result<(), Fail> {
-    let bytes = [1, 1, 1, 0, 4, 1, 1, 0x74, 3, 97, 98, 99, 1, 5, 0];
-    let mut stage = Stage::with_file(rt.alloc(), &bytes)?;
-    stage.expect_fault(&rt, &SHOW, ("Unbuilt", 0))
+fn a_file_without_the_root_shows_an_empty_line(rt: HostRuntime) -> Result<(), Fail> {
+    let mut stage = Stage::with_file(rt.alloc(), &BOARD)?;
+    stage.expect(&rt, &SHOW, (0, "\n", ""))
 }
 
 #[test]
@@ -53,10 +55,11 @@ fn words_of_no_form_are_told_the_usage(rt: HostRuntime) -> Result<(), Fail> {
     wants_usage(&rt, &[])?;
     wants_usage(&rt, &["show", "--text", "t"])?;
     wants_usage(&rt, &["show", "--text", "t", "v1:"])?;
-    wants_usage(&rt, &["show", "--text", "t", "v2:F"])?;
+    wants_usage(&rt, &["show", "--text", "t", "v3:F"])?;
     wants_usage(&rt, &["show", "--delta", "t", "v1:F"])?;
     wants_usage(&rt, &["hide", "--text", "t", "v1:F"])?;
-    wants_usage(&rt, &["show", "--text", "t", "v1:F", "v1:F"])
+    wants_usage(&rt, &["show", "--text", "t", "v1:F", "F"])?;
+    wants_usage(&rt, &["show", "--text", "t", "v2:", "v1:F"])
 }
 
 fn wants_usage(rt: &(impl Abort + AllocGlobal), words: &[&str]) -> Result<(), Fail> {

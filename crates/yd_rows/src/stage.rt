@@ -11,6 +11,13 @@ use yd_world::{MemoryLibrary, MemorySink, ScriptBoard};
 /// `ABC` with its first number and the client's number padded.
 pub(crate) const PADDED_ABC: [u8; 15] = [0x81, 0, 1, 0x81, 0, 0, 4, 1, 1, 116, 3, 97, 98, 99, 0];
 
+/// `ABC` in V2: a flag and nine columns, each behind its length, of which clients (1), infos (4),
+/// strings ("tabc" as 1 and 3 units) and parents (1) have bytes; then the rest, which is one block
+/// of one struct from clock 0 on, and no deletes.
+pub(crate) const ABC_V2: [u8; 24] = [
+    0, 0, 1, 1, 0, 0, 1, 4, 7, 4, 0x74, 0x61, 0x62, 0x63, 1, 3, 1, 1, 0, 0, 1, 1, 0, 0,
+];
+
 /// Wants each front of `ABC` refused, at the part that it cuts.
 pub(crate) fn each_front_is_short(
     rt: &(impl Abort + AllocGlobal),
@@ -38,14 +45,40 @@ pub struct Stage {
 impl Stage {
     /// A library with one file, `F`.
     pub(crate) fn with_file(alloc: Global, bytes: &[u8]) -> Result<Stage, Fail> {
-        let mut library = MemoryLibrary::new(alloc);
-        library.add("F", bytes)?;
-        Ok(Stage {
-            library,
+        let mut stage = Stage::empty(alloc);
+        stage.library.add("F", bytes)?;
+        Ok(stage)
+    }
+
+    /// A library with these files.
+    pub(crate) fn with_files(alloc: Global, files: &[(&str, &[u8])]) -> Result<Stage, Fail> {
+        let mut stage = Stage::empty(alloc);
+        for (name, bytes) in files {
+            stage.library.add(name, bytes)?;
+        }
+        Ok(stage)
+    }
+
+    fn empty(alloc: Global) -> Stage {
+        Stage {
+            library: MemoryLibrary::new(alloc),
             out: MemorySink::new(alloc),
             err: MemorySink::new(alloc),
             board: ScriptBoard::new(alloc),
-        })
+        }
+    }
+
+    /// Shows the root `t` of these files, and wants this status, this on out and this on err.
+    pub(crate) fn expect_shown(
+        &mut self,
+        rt: &(impl Abort + AllocGlobal),
+        files: &[&str],
+        want: (u8, &str, &str),
+    ) -> Result<(), Fail> {
+        let mut words = Vec::new(rt.alloc());
+        words.extend_from_slice(&["show", "--text", "t"])?;
+        words.extend_from_slice(files)?;
+        self.expect(rt, words.as_slice(), want)
     }
 
     /// Runs the words, and wants this status, this on out and this on err.
