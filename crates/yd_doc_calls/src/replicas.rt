@@ -1,8 +1,6 @@
 //! Calls of `yd_doc`.
 
-use crate::samples::{
-    A, ARRAY, B, CHILD, DELETION, FIRST_VALUE, LATER, OTHER_VALUE, PAIR,
-};
+use crate::samples::{A, ARRAY, B, CHILD, DELETION, FIRST_VALUE, LATER, OTHER_VALUE, PAIR};
 use std::alloc::Global;
 use std::process::Abort;
 use std::test::Fail;
@@ -45,7 +43,13 @@ fn a_new_replica_has_nothing(rt: HostRuntime) -> Result<(), Fail> {
     assert!(rt; !replica.is_behind());
     assert_eq!(rt; replica.vector().iter().next(), None);
     assert_eq!(rt; replica.deletes().spans().next(), None);
-    assert_eq!(rt; replica.waiting(), Waiting { structs: 0, deletes: 0 });
+    assert_eq!(rt;
+        replica.waiting(),
+        Waiting {
+            structs: 0,
+            deletes: 0
+        }
+    );
     assert!(rt; replica.list(&list).next().is_none());
     assert_eq!(rt; replica.last_of(&list), None);
     Ok(())
@@ -83,11 +87,23 @@ fn a_list_lends_its_units(rt: HostRuntime) -> Result<(), Fail> {
 #[test]
 fn what_waits_is_taken_up(rt: HostRuntime) -> Result<(), Fail> {
     let mut replica = replica_of(rt.alloc(), &[&LATER, &DELETION])?;
-    assert_eq!(rt; replica.waiting(), Waiting { structs: 2, deletes: 1 });
+    assert_eq!(rt;
+        replica.waiting(),
+        Waiting {
+            structs: 2,
+            deletes: 1
+        }
+    );
     assert_eq!(rt; replica.vector().get(Client(1)), 0);
     let update = read_v1(rt.alloc(), &A)?;
     replica.apply(&update)?;
-    assert_eq!(rt; replica.waiting(), Waiting { structs: 0, deletes: 0 });
+    assert_eq!(rt;
+        replica.waiting(),
+        Waiting {
+            structs: 0,
+            deletes: 0
+        }
+    );
     assert_eq!(rt; replica.vector().get(Client(1)), 3);
     assert!(rt; replica.deletes().has(id(1, 0)));
     Ok(())

@@ -9,17 +9,11 @@ pub const LATER: [u8; 11] = [1, 1, 1, 1, 0x84, 1, 0, 2, 0x62, 0x63, 0];
 /// A deletion of client 1's unit 0.
 pub const DELETION: [u8; 6] = [0, 1, 1, 1, 0, 1];
 /// Client 1: one character of two units in the root `t`.
-pub const PAIR: [u8; 14] = [
-    1, 1, 1, 0, 4, 1, 1, 0x74, 4, 0xf0, 0x9f, 0x98, 0x80, 0,
-];
+pub const PAIR: [u8; 14] = [1, 1, 1, 0, 4, 1, 1, 0x74, 4, 0xf0, 0x9f, 0x98, 0x80, 0];
 /// Client 1: 1 under the key `k` of the root `m`.
-pub const FIRST_VALUE: [u8; 14] = [
-    1, 1, 1, 0, 0x28, 1, 1, 0x6d, 1, 0x6b, 1, 0x7d, 1, 0,
-];
+pub const FIRST_VALUE: [u8; 14] = [1, 1, 1, 0, 0x28, 1, 1, 0x6d, 1, 0x6b, 1, 0x7d, 1, 0];
 /// Client 2: 2 under the key `k` of the root `m`.
-pub const OTHER_VALUE: [u8; 14] = [
-    1, 1, 2, 0, 0x28, 1, 1, 0x6d, 1, 0x6b, 1, 0x7d, 2, 0,
-];
+pub const OTHER_VALUE: [u8; 14] = [1, 1, 2, 0, 0x28, 1, 1, 0x6d, 1, 0x6b, 1, 0x7d, 2, 0];
 /// Client 1: an array in the root `r`.
 pub const ARRAY: [u8; 10] = [1, 1, 1, 0, 7, 1, 1, 0x72, 0, 0];
 /// Client 2: 5 in that array.

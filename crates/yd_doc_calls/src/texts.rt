@@ -47,30 +47,54 @@ fn three_clients_come_in_any_order(rt: HostRuntime) -> Result<(), Fail> {
 
 /// The three show `CBA`, in this order and in another.
 fn are_cba(rt: &(impl Abort + AllocGlobal), x: &[u8], y: &[u8], z: &[u8]) -> Result<(), Fail> {
-    assert_eq!(rt; shown(rt.alloc(), &[x, y, z])?.as_slice(), b"CBA".as_slice());
-    assert_eq!(rt; shown(rt.alloc(), &[x, z, y])?.as_slice(), b"CBA".as_slice());
+    assert_eq!(rt;
+        shown(rt.alloc(), &[x, y, z])?.as_slice(),
+        b"CBA".as_slice()
+    );
+    assert_eq!(rt;
+        shown(rt.alloc(), &[x, z, y])?.as_slice(),
+        b"CBA".as_slice()
+    );
     Ok(())
 }
 
 #[test]
 fn what_waits_is_not_shown(rt: HostRuntime) -> Result<(), Fail> {
     assert_eq!(rt; shown(rt.alloc(), &[&LATER])?.as_slice(), b"".as_slice());
-    assert_eq!(rt; shown(rt.alloc(), &[&LATER, &A])?.as_slice(), b"abc".as_slice());
-    assert_eq!(rt; shown(rt.alloc(), &[&DELETION, &LATER, &A])?.as_slice(), b"bc".as_slice());
+    assert_eq!(rt;
+        shown(rt.alloc(), &[&LATER, &A])?.as_slice(),
+        b"abc".as_slice()
+    );
+    assert_eq!(rt;
+        shown(rt.alloc(), &[&DELETION, &LATER, &A])?.as_slice(),
+        b"bc".as_slice()
+    );
     Ok(())
 }
 
 #[test]
 fn a_half_whose_partner_is_deleted_is_replaced(rt: HostRuntime) -> Result<(), Fail> {
-    assert_eq!(rt; shown(rt.alloc(), &[&PAIR])?.as_slice(), "\u{1F600}".as_bytes());
-    assert_eq!(rt; shown(rt.alloc(), &[&PAIR, &DELETION])?.as_slice(), "\u{FFFD}".as_bytes());
-    assert_eq!(rt; shown(rt.alloc(), &[&DELETION, &PAIR])?.as_slice(), "\u{FFFD}".as_bytes());
+    assert_eq!(rt;
+        shown(rt.alloc(), &[&PAIR])?.as_slice(),
+        "\u{1F600}".as_bytes()
+    );
+    assert_eq!(rt;
+        shown(rt.alloc(), &[&PAIR, &DELETION])?.as_slice(),
+        "\u{FFFD}".as_bytes()
+    );
+    assert_eq!(rt;
+        shown(rt.alloc(), &[&DELETION, &PAIR])?.as_slice(),
+        "\u{FFFD}".as_bytes()
+    );
     Ok(())
 }
 
 #[test]
 fn a_half_whose_partner_came_otherwise_is_replaced(rt: HostRuntime) -> Result<(), Fail> {
-    assert_eq!(rt; shown(rt.alloc(), &[&A, &PAIR])?.as_slice(), "a\u{FFFD}".as_bytes());
+    assert_eq!(rt;
+        shown(rt.alloc(), &[&A, &PAIR])?.as_slice(),
+        "a\u{FFFD}".as_bytes()
+    );
     Ok(())
 }
 
