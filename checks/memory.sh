@@ -1,6 +1,6 @@
 #!/usr/bin/env bash
-# An update that found no memory is taken in when it is applied once more: whichever growth is
-# refused, yd_retry prints the same text, or ends as without memory and prints nothing.
+# An update that found no memory is taken in when it is applied once more: where one of a dozen
+# growths is refused, yd_retry prints the same text, or ends as without memory and prints nothing.
 set -u
 cd "$(dirname "$0")/../crates/yd_retry" || exit 1
 work=$(mktemp -d) && trap 'rm -rf "$work"' EXIT
@@ -13,7 +13,7 @@ for growth in $(seq 1 "${GROWTHS:-12}"); do
   rt try --fail-alloc "$refused" >"$work/out" 2>"$work/err"
   status=$?
   if [ "$status" -eq 0 ] && cmp -s "$work/out" stdout; then
-    again=$((again + 1))
+    grep -qx again "$work/err" && again=$((again + 1))
   elif [ "$status" -ne 5 ] || [ -s "$work/out" ]; then
     echo "checks/memory.sh: growth $refused: status $status"
     failed=1

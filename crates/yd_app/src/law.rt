@@ -23,12 +23,14 @@ pub fn files_are_judged()
     ensures { FilesAreJudged }
 {}
 
-/// Files of updates with the same contents show the same, in any order, repeated or translated.
+/// Files of updates with the same contents show the same, in any order, repeated or translated,
+/// where no two operations with one id differ.
 pub fn shows_converge()
     ensures { ShowsConverge }
 {}
 
-/// Two runs of `show` over the same contents that answer 0 have written the same.
+/// Two runs of `show` over the same contents that answer 0 have written the same, where no two
+/// operations with one id differ.
 pub fn runs_converge()
     ensures { RunsConverge }
 {}

@@ -3,8 +3,8 @@
 //! [`run`] is the whole program over the traits of the outside. Its contract says which status
 //! comes when, what stands on `out` and on `err` then, and that what is written is what the updates
 //! of the files define, whoever made them and however their bytes spell them. So files with the
-//! same operations and deletions, in any order, repeated or in another format, show the same
-//! ([`law`]).
+//! same operations and deletions, in any order, repeated or in another format, show the same, where
+//! no two operations with one id differ ([`law`]).
 //!
 //! ```rust
 //! let status = run(rt.alloc(), &words, &mut library, &mut out, &mut err, &mut board);

@@ -22,7 +22,8 @@ use yd_received::Taken;
 /// The ids of held units that are deleted: those that a received deletion names, those that do not
 /// stand last under their key, and those of a list whose item is deleted. Spans of deletions are
 /// cut at the clocks that are reached, and not walked. It takes a look-up for each span and for each
-/// list of an item, and an insertion for each span and for each row of ids that a list deletes.
+/// list of an item, an insertion for each span and for each row of ids that a list deletes, and a
+/// step for each id of such a row.
 pub(crate) fn delete_set(
     alloc: Global,
     runs: &[Run],

@@ -2,7 +2,7 @@
 //!
 //! All that it tells is what the operations and deletions that it received define (`yd_meaning`),
 //! in whatever order and however often they came ([`Replica`]). An `apply` that finds no memory has
-//! received nothing, and leaves what the replica tells as it was.
+//! received nothing: the replica tells what it told before, and that it is behind.
 //!
 //! ```rust
 //! let mut replica = Replica::new(alloc, Client(1))?;

@@ -55,8 +55,8 @@ impl<'a> Model for ListView<'a> {
 }
 
 impl<'a> ListView<'a> {
-    /// The next units, at least one, or none where no unit is left. It takes no memory, and time
-    /// with the logarithm of how many runs were received.
+    /// The next units, at least one, or none where no unit is left. It takes no memory, and a few
+    /// look-ups by bisection for the first unit and one for each unit that it lends.
     pub fn next(&mut self) -> Option<RunView<'a>>
         ensures lends { MatchOption result (units_left self.old ≡ [])
             (λ view. units_left self.old ≡ units_of_view view ++ units_left self.new) }

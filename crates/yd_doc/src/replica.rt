@@ -51,7 +51,7 @@ impl Model for Replica {
 }
 
 impl Replica {
-    /// A replica of this client that has received nothing. It takes no memory.
+    /// A replica of this client that has received nothing.
     pub fn new(alloc: Global, client: Client) -> Result<Replica, NoMemory>
         requires { IsClient client }
         ensures received { IfOk result (λ replica. received_of replica ≡ nothing_received) }
@@ -122,7 +122,8 @@ impl Replica {
         &self.state.deletes
     }
 
-    /// How much was received that is not held yet. It takes time with the numbers of runs and of spans.
+    /// How much was received that is not held yet: units of runs, and deleted ids. It takes a look-up
+    /// for each part of a run that was received and for each span of deletions.
     pub fn waiting(&self) -> Waiting
         ensures { counts_of result ≡ waiting_counts (received_of self.now) }
     {

@@ -1,12 +1,7 @@
-//! Each public call of the order, of replicas and of views once, and what replicas have to tell of
-//! some updates.
+//! Public calls of replicas and of views, and what they tell of small updates.
 #![tactic(auto)]
 
-#[cfg(test)]
-mod order;
 #[cfg(test)]
 mod replicas;
 #[cfg(test)]
 mod samples;
-#[cfg(test)]
-mod texts;

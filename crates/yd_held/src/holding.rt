@@ -18,10 +18,9 @@ use yd_ids::Vector;
 use yd_ops::{List, Run};
 use yd_received::Taken;
 
-/// Holds what can be held, and answers a mark for each list, set where units were added to it. The
-/// names of new lists go behind the others; where memory ends nothing else is promised. It takes
-/// the time of sorting what the waiting entries lack, and of a few look-ups for each entry, however
-/// long the chains are in which they wait for one another.
+/// Holds what can be held, and answers a mark for each list: one without a mark got no units. The
+/// names of new lists go behind the others; where memory ends nothing else is promised. What waits
+/// is sorted by what it lacks and woken by it, which is for speed alone: no clause speaks of it.
 pub fn hold_all(
     alloc: Global,
     runs: &[Run],

@@ -12,7 +12,7 @@ pub fn received_is_all()
     ensures { ReceivedIsAll }
 {}
 
-/// Neither the order in which updates come nor a repeat changes what is received.
+/// Under agreement neither the order in which updates come nor a repeat changes what is received.
 pub fn received_is_one()
     ensures { ReceivedIsOne }
 {}
@@ -47,7 +47,7 @@ pub fn deleted_follows_items()
     ensures { DeletedFollowsItems }
 {}
 
-/// Replicas that received the same operations and deletions show the same document.
+/// Under agreement, updates with the same operations and deletions define the same document.
 pub fn documents_converge()
     ensures { DocumentsConverge }
 {}

@@ -1,5 +1,5 @@
 //! A program for the check of refused memory: updates are applied to a replica, and one that finds
-//! no memory is applied once more. Whatever growth is refused, it prints the same text or ends as
+//! no memory is applied once more, and then `again` is said on err. It prints the text, or ends as
 //! without memory.
 #![tactic(auto)]
 
@@ -22,9 +22,13 @@ const UPDATES: [&[u8]; 4] = [
 ];
 
 fn main(rt: HostRuntime) -> ExitCode {
-    let Some(bytes) = shown(rt.alloc()) else {
+    let mut again = false;
+    let Some(bytes) = shown(rt.alloc(), &mut again) else {
         return ExitCode::from(5);
     };
+    if again {
+        let _ = StdSink::err(&rt).write(b"again\n");
+    }
     let mut out = StdSink::out(&rt);
     match out.write(&bytes) {
         Ok(_) => ExitCode::from(0),
@@ -32,13 +36,14 @@ fn main(rt: HostRuntime) -> ExitCode {
     }
 }
 
-/// The text of the root `t` after all updates, and a line feed.
-fn shown(alloc: Global) -> Option<Vec<u8>> {
+/// The text of the root `t` after all updates, and a line feed; and whether one was applied again.
+fn shown(alloc: Global, again: &mut bool) -> Option<Vec<u8>> {
     let mut replica = Replica::new(alloc, Client(9)).ok()?;
     for bytes in UPDATES {
         let update = read_v1(alloc, bytes).ok()?;
         if replica.apply(&update).is_err() {
             replica.apply(&update).ok()?;
+            *again = true;
         }
     }
     let list = List {
