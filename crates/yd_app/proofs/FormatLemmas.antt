@@ -1,6 +1,6 @@
 -- Files in a format are read exactly.
 use Rattle.std.proofs.Common.{ℕ, List, Result, None, Some}
-use Rattle.yd_fields.specs.Law.{FilesAreRead}
+use Rattle.yd_reading.specs.Files.{FilesAreRead}
 use Rattle.yd_fields.specs.UpdatePlan.{update_plan}
 use Rattle.yd_ops.specs.Value.{UpdateValue}
 use Rattle.yd_parts.specs.Fault.{Fault}

@@ -1,6 +1,6 @@
 -- What a file stands for is a valid update.
 use Rattle.std.proofs.Common.{ℕ, List, None, Some, sym, subst, arith}
-use Rattle.yd_fields.proofs.UpdateFitLemmas.{update_read_valid}
+use Rattle.yd_reading.proofs.UpdateFitLemmas.{update_read_valid}
 use Rattle.yd_fields.specs.UpdatePlan.{update_plan}
 use Rattle.yd_ops.specs.Valid.{IsValidUpdate}
 use Rattle.yd_ops.specs.Value.{UpdateValue}

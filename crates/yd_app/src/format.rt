@@ -1,7 +1,7 @@
 //! The formats of files: updates, read and written in each.
 
 ghost use Rattle.std.specs.Prelude.{◌≡◌, IfOk};
-ghost use Rattle.yd_fields.specs.Answer.{ReadsWhole};
+ghost use Rattle.yd_reading.specs.Answer.{ReadsWhole};
 ghost use Rattle.yd_ops.specs.Valid.{IsValidUpdate};
 ghost use Rattle.yd_ops.specs.View.{update_value};
 ghost use Rattle.yd_app.specs.Converted.{StandsAgain, converted_bytes};

@@ -3,13 +3,11 @@
 use std::process::Abort;
 use std::test::Fail;
 use yd_any::{Any, AnyList, AnyPairs, Blob, Json, Text};
-use yd_fields::{
-    FieldWriter, NoMemory, flag_of, range_of, read_any_field, value_of_text, write_any,
-    write_update,
-};
+use yd_fields::{FieldWriter, NoMemory, write_any, write_update};
 use yd_ids::{Client, Id};
 use yd_num::Bytes;
 use yd_parts::{Cause, Column, ReadError, Spot, counted};
+use yd_reading::{flag_of, range_of, read_any_field, value_of_text};
 use yd_v1::{V1Reader, V1Writer, read_v1};
 
 #[test]

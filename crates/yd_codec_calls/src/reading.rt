@@ -4,12 +4,11 @@ use std::alloc::Global;
 use std::process::Abort;
 use std::test::Fail;
 use yd_any::Any;
-use yd_fields::{
-    Cause, Column, FieldReader, Parts, ReadError, Spot, read_any, read_any_field, read_update,
-};
+use yd_fields::{Cause, Column, FieldReader, Parts, ReadError, Spot, read_any};
 use yd_ids::{Client, Id};
 use yd_num::Signed;
 use yd_ops::{Content, Parent, Struct};
+use yd_reading::{read_any_field, read_update};
 use yd_samples::{ABC, BOARD, BOARD_PARTS, EDITS, EDITS_PARTS};
 use yd_v1::{V1Reader, read_v1, read_vector};
 

@@ -1,10 +1,9 @@
--- The laws of fields, and what it is to read whole files exactly, whatever the format.
-use Rattle.std.specs.Prelude.{◌≡◌, ◌↔◌, ℕ, List, Option, Result, Ok, Err}
+-- The laws of fields, whatever the format.
+use Rattle.std.specs.Prelude.{ℕ, List, Option}
 use Rattle.yd_ids.specs.declared.id.Client.{Client}
 use Rattle.yd_ids.specs.Vector.{IsVector}
 use Rattle.yd_ops.specs.Valid.{IsValidUpdate}
 use Rattle.yd_ops.specs.Value.{UpdateValue}
-use Rattle.yd_parts.specs.Fault.{Fault}
 use Rattle.yd_parts.specs.Plan.{Expects, Found, give, LeadsTo, things_in}
 use Rattle.yd_fields.specs.Field.{FieldPlan, FieldValue}
 use Rattle.yd_fields.specs.UpdateFields.{fields_of_update}
@@ -22,14 +21,3 @@ pub record FieldsComeBack : Type 0 where
 pub record PlacesDoNotMatter : Type 0 where
   pub wanted : (most : Option ℕ) (found : List (Found FieldValue)) (u : UpdateValue) → LeadsTo (update_plan most) found (give u) → Expects (update_plan most) (things_in found) u
   pub leads : (plan : FieldPlan UpdateValue) (found : List (Found FieldValue)) (u : UpdateValue) → Expects plan (things_in found) u → LeadsTo plan found (give u)
-
--- a file stands for what is read of it, has the first fault that is read, and never both
-pub record FilesAreRead {Y : Type 0} (reading : List ℕ → Result Y Fault) (Fills : List ℕ → Y → Type 0) (Fails : List ℕ → Fault → Type 0) : Type 0 where
-  pub values : (bytes : List ℕ) (y : Y) → (reading bytes ≡ Ok y) ↔ Fills bytes y
-  pub faults : (bytes : List ℕ) (fault : Fault) → (reading bytes ≡ Err fault) ↔ Fails bytes fault
-
--- no file stands for two values, none has two first faults, and none has both a value and a fault
-pub record FilesAreOne {Y : Type 0} (Fills : List ℕ → Y → Type 0) (Fails : List ℕ → Fault → Type 0) : Type 0 where
-  pub values : (bytes : List ℕ) (y other : Y) → Fills bytes y → Fills bytes other → y ≡ other
-  pub faults : (bytes : List ℕ) (fault other : Fault) → Fails bytes fault → Fails bytes other → fault ≡ other
-  pub apart : (bytes : List ℕ) (y : Y) (fault : Fault) → Fills bytes y → Fails bytes fault → ⊥

@@ -1,10 +1,6 @@
-pub mod Answer
 pub mod Field
 pub mod JsonPlan
-pub mod Judged
 pub mod Law
-pub mod RangesView
-pub mod ReadView
 pub mod StructPlan
 pub mod TypeNumber
 pub mod UpdateFields

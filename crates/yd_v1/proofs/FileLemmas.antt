@@ -8,7 +8,7 @@ use Rattle.yd_parts.specs.Plan.{and_then, read_by}
 use Rattle.yd_parts.specs.declared.fault.Cause.TheVariants.{Trailing}
 use Rattle.yd_parts.specs.declared.fault.Spot.{Spot}
 use Rattle.yd_fields.specs.Field.{FieldPlan}
-use Rattle.yd_fields.specs.Law.{FilesAreRead}
+use Rattle.yd_reading.specs.Files.{FilesAreRead}
 use Rattle.yd_v1.proofs.ExactLemmas.{fields_exact}
 use Rattle.yd_v1.specs.Grammar.{BeginsV1, FailsField, FailsV1, FillsV1, StandsField}
 use Rattle.yd_v1.specs.Reading.{V1Left, nothing_left, v1_at, v1_end, v1_spot, v1_start, v1_whole}

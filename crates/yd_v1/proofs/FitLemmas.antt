@@ -2,8 +2,8 @@
 use Rattle.std.proofs.Common.{◌≡◌, ◌<◌, ℕ, List, Result, Ok, Err, IsTrue, refl, ap, subst, arith}
 use Rattle.yd_any.specs.Tree.{AnyTree}
 use Rattle.yd_any.specs.Valid.{is_valid_json}
-use Rattle.yd_fields.proofs.JsonFitLemmas.{value_at_valid}
-use Rattle.yd_fields.proofs.JudgedFitLemmas.{EndAtClock, flag_judged, range_judged}
+use Rattle.yd_reading.proofs.JsonFitLemmas.{value_at_valid}
+use Rattle.yd_reading.proofs.JudgedFitLemmas.{EndAtClock, flag_judged, range_judged}
 use Rattle.yd_fields.specs.Field.{FieldType, FieldValue, Fits, ReadsFit}
 use Rattle.yd_fields.specs.Field as field
 use Rattle.yd_fields.specs.JsonPlan.{value_at}

@@ -5,7 +5,7 @@ use Rattle.yd_parts.specs.Fault.{Fault}
 use Rattle.yd_fields.specs.Field.{FieldPlan, FieldType, FieldValue}
 use Rattle.yd_fields.specs.Field as field
 use Rattle.yd_fields.specs.JsonPlan.{value_at}
-use Rattle.yd_fields.specs.Judged.{flag_at, range_at}
+use Rattle.yd_reading.specs.Judged.{flag_at, range_at}
 use Rattle.yd_parts.specs.Part.{PartPlan, Unread, all_of, here, last_spot, part_at}
 use Rattle.yd_parts.specs.Part as part
 use Rattle.yd_parts.specs.Plan.{give, want, of_made, and_then, read_by}

@@ -1,6 +1,6 @@
 //! The laws of V1, each the contract of an empty function.
 
-ghost use Rattle.yd_fields.specs.Law.{FilesAreOne, FilesAreRead};
+ghost use Rattle.yd_reading.specs.Files.{FilesAreOne, FilesAreRead};
 ghost use Rattle.yd_fields.specs.UpdatePlan.{vector_plan};
 ghost use Rattle.yd_v1.specs.Grammar.{FailsV1, FillsV1, HasFirstFaultV1, StandsForV1};
 ghost use Rattle.yd_v1.specs.Law.{FieldsAreRead, FieldsComeBackV1};

@@ -11,9 +11,10 @@ ghost use Rattle.yd_v1.specs.Reading.{IsSoundV1, flag_plan, id_plan, json_text_p
 use std::alloc::Global;
 use std::marker::Model;
 use yd_any::{Any, Json};
-use yd_fields::{FieldReader, flag_of, range_of, value_of_text};
+use yd_fields::FieldReader;
 use yd_ids::{Client, Id};
 use yd_parts::{Cause, Column, Parts, ReadError, Spot, read_any};
+use yd_reading::{flag_of, range_of, value_of_text};
 
 /// Reads the fields of an update in format V1, in which they stand one after another (Yjs 13,
 /// UpdateDecoderV1).

@@ -4,15 +4,16 @@ ghost use Rattle.std.specs.Prelude.{IfOk};
 ghost use Rattle.yd_ops.specs.Valid.{IsValidUpdate};
 ghost use Rattle.yd_ops.specs.View.{update_value};
 ghost use Rattle.yd_parts.specs.Fault.{Makes};
-ghost use Rattle.yd_fields.specs.Answer.{ReadsWhole};
+ghost use Rattle.yd_reading.specs.Answer.{ReadsWhole};
 ghost use Rattle.yd_v1.specs.Grammar.{HasFirstFaultV1, StandsForV1};
 ghost use Rattle.yd_v1.specs.Reading.{v1_reading};
 
 use crate::reader::V1Reader;
 use std::alloc::Global;
-use yd_fields::{FieldReader, read_update};
+use yd_fields::FieldReader;
 use yd_ops::Update;
 use yd_parts::ReadError;
+use yd_reading::read_update;
 
 /// Reads an update in format V1: the one update that the bytes stand for, or the first fault in
 /// them (Yjs 13, decodeUpdate).

@@ -4,7 +4,7 @@ ghost use Rattle.std.specs.Prelude.{◌≡◌, [], Ok, IfOk, OnOk};
 ghost use Rattle.yd_ids.specs.Vector.{IsVector};
 ghost use Rattle.yd_parts.specs.Fault.{FailsAs, Gives, Makes};
 ghost use Rattle.yd_parts.specs.Plan.{read_by, repeated};
-ghost use Rattle.yd_fields.specs.Answer.{ReadsWhole};
+ghost use Rattle.yd_reading.specs.Answer.{ReadsWhole};
 ghost use Rattle.yd_fields.specs.UpdatePlan.{entries_step, vector_plan};
 ghost use Rattle.yd_v1.specs.Grammar.{FailsV1, FillsV1};
 ghost use Rattle.yd_v1.specs.Reading.{v1_at, v1_spot, vector_reading};
@@ -37,7 +37,7 @@ fn read_vector_v1(alloc: Global, bytes: &[u8]) -> Result<Vector, ReadError>
     Ok(vector)
 }
 
-#[tactic(auto, using(yd_fields::proofs::VectorPlanLemmas::read_vector_plan))]
+#[tactic(auto, using(yd_reading::proofs::VectorPlanLemmas::read_vector_plan))]
 fn read_entries(alloc: Global, reader: &mut V1Reader<'_>) -> Result<Vector, ReadError>
     ensures given { Gives (λ vector. vector) result reader.new
         (read_by v1_at v1_spot vector_plan reader.old) }

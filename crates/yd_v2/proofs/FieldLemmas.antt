@@ -5,7 +5,7 @@ use Rattle.yd_any.specs.Tree.{AnyTree}
 use Rattle.yd_cols.specs.Reading.{BytesLeft, DiffsLeft, StringsLeft, next_byte, next_diff, next_string}
 use Rattle.yd_cols.specs.declared.fault.ColFault.{ColFault}
 use Rattle.yd_fields.specs.Field as field
-use Rattle.yd_fields.specs.Judged.{flag_at, range_at}
+use Rattle.yd_reading.specs.Judged.{flag_at, range_at}
 use Rattle.yd_fields.specs.JsonPlan.{made_at}
 use Rattle.yd_parts.proofs.PlanLemmas.{read_by_bind}
 use Rattle.yd_parts.specs.AnyPlan.{any_plan}

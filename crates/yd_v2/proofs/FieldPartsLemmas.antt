@@ -9,7 +9,7 @@ use Rattle.yd_any.specs.Valid.{is_in_range, is_json, is_valid_json}
 use Rattle.yd_fields.specs.Field.{Field, FieldType, FieldValue}
 use Rattle.yd_fields.specs.Field as field
 use Rattle.yd_fields.specs.JsonPlan.{made_at}
-use Rattle.yd_fields.specs.Judged.{flag_at, range_at}
+use Rattle.yd_reading.specs.Judged.{flag_at, range_at}
 use Rattle.yd_num.proofs.ShortestLemmas.{unsigned_spells}
 use Rattle.yd_num.proofs.WrittenLemmas.{blob_spells}
 use Rattle.yd_num.specs.Writing.{shortest, shortest_blob}

@@ -1,7 +1,7 @@
 -- Whole files in V2 are read exactly, for any plan.
 use Rattle.std.proofs.Common.{◌≡◌, ◌∙◌, ℕ, List, Result, Ok, Err, inl, inr, refl, ap, subst}
 use Rattle.yd_fields.specs.Field.{FieldPlan}
-use Rattle.yd_fields.specs.Law.{FilesAreRead}
+use Rattle.yd_reading.specs.Files.{FilesAreRead}
 use Rattle.yd_num.proofs.ReadingLemmas.{ok_value}
 use Rattle.yd_parts.proofs.ExactLemmas.{failed_read, given_read, plan_fails, plan_gives}
 use Rattle.yd_parts.specs.Fault.{Fault}

@@ -5,7 +5,7 @@ use Rattle.yd_any.specs.Tree.{AnyTree}
 use Rattle.yd_any.specs.declared.fault.JsonFault.{JsonFault}
 use Rattle.yd_fields.specs.Field.{FieldType, FieldValue}
 use Rattle.yd_fields.specs.Field as field
-use Rattle.yd_fields.specs.Judged.{flag_at, range_at}
+use Rattle.yd_reading.specs.Judged.{flag_at, range_at}
 use Rattle.yd_fields.specs.JsonPlan.{made_at}
 use Rattle.yd_parts.proofs.AlikeLemmas.{AreAlike, alike_bind, alike_give, alike_refuse, alike_want}
 use Rattle.yd_parts.specs.AnyPlan.{any_plan}

@@ -15,7 +15,7 @@ use Rattle.yd_cols.specs.Taking.{TakesRun}
 use Rattle.yd_cols.specs.declared.fault.ColFault.{ColFault}
 use Rattle.yd_fields.specs.Field.{FieldType, FieldValue, Fits, ReadsFit}
 use Rattle.yd_fields.specs.Field as field
-use Rattle.yd_fields.specs.Judged.{flag_at, range_at}
+use Rattle.yd_reading.specs.Judged.{flag_at, range_at}
 use Rattle.yd_fields.specs.JsonPlan.{made_at}
 use Rattle.yd_any.specs.declared.fault.JsonFault.TheVariants.{NumberNotCarried}
 use Rattle.yd_ids.specs.Each.{Each}

@@ -5,7 +5,7 @@ use Rattle.yd_any.specs.Tree.{AnyTree}
 use Rattle.yd_fields.specs.Field.{FieldType, FieldValue}
 use Rattle.yd_fields.specs.Field as field
 use Rattle.yd_fields.specs.JsonPlan.{made_at}
-use Rattle.yd_fields.specs.Judged.{flag_at, range_at}
+use Rattle.yd_reading.specs.Judged.{flag_at, range_at}
 use Rattle.yd_parts.specs.AnyPlan.{any_plan}
 use Rattle.yd_parts.specs.Part as part
 use Rattle.yd_parts.specs.Part.{PartPlan}

@@ -1,6 +1,6 @@
 //! The laws of V2, each the contract of an empty function.
 
-ghost use Rattle.yd_fields.specs.Law.{FilesAreOne, FilesAreRead};
+ghost use Rattle.yd_reading.specs.Files.{FilesAreOne, FilesAreRead};
 ghost use Rattle.yd_v2.specs.Columns.{FilesAreColumns};
 ghost use Rattle.yd_v2.specs.Grammar.{HasFirstFaultV2, StandsForV2};
 ghost use Rattle.yd_v2.specs.Law.{FieldsAreRead, FieldsComeBackV2};

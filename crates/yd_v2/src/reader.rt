@@ -13,9 +13,10 @@ use std::alloc::Global;
 use std::marker::Model;
 use yd_any::{Any, Json};
 use yd_cols::{ByteReader, IntDiffReader, StringReader, UintReader};
-use yd_fields::{FieldReader, flag_of, range_of};
+use yd_fields::FieldReader;
 use yd_ids::{Client, Id};
 use yd_parts::{Cause, Column, Parts, ReadError, Spot, read_any};
+use yd_reading::{flag_of, range_of};
 
 /// How many structs a file may declare: runs of equal values could make any number of them out of
 /// a few bytes (own).

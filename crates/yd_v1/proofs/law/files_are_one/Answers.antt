@@ -1,5 +1,5 @@
 use Rattle.std.proofs.Common.{None}
-use Rattle.yd_fields.proofs.AnswerLemmas.{files_one}
+use Rattle.yd_reading.proofs.AnswerLemmas.{files_one}
 use Rattle.yd_fields.specs.UpdatePlan.{update_plan, vector_plan}
 use Rattle.yd_v1.proofs.FileLemmas.{files_read}
 use Rattle.yd_v1.specs.Grammar.{FailsV1, FillsV1, HasFirstFaultV1, StandsForV1}

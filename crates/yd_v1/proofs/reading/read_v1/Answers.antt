@@ -1,6 +1,6 @@
 use Rattle.std.proofs.Common.{None}
 use Rattle.yd_ops.specs.View.{update_value}
-use Rattle.yd_fields.proofs.AnswerLemmas.{reads_whole}
+use Rattle.yd_reading.proofs.AnswerLemmas.{reads_whole}
 use Rattle.yd_fields.specs.UpdatePlan.{update_plan}
 use Rattle.yd_v1.proofs.FileLemmas.{files_read}
 use Rattle.yd_v1.specs.Grammar.{HasFirstFaultV1, StandsForV1}

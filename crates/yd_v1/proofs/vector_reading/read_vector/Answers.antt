@@ -1,4 +1,4 @@
-use Rattle.yd_fields.proofs.AnswerLemmas.{reads_whole}
+use Rattle.yd_reading.proofs.AnswerLemmas.{reads_whole}
 use Rattle.yd_fields.specs.UpdatePlan.{vector_plan}
 use Rattle.yd_v1.proofs.FileLemmas.{files_read}
 use Rattle.yd_v1.specs.Grammar.{FailsV1, FillsV1}

@@ -1,5 +1,5 @@
 use Rattle.std.specs.Prelude.{Some}
-use Rattle.yd_fields.proofs.AnswerLemmas.{files_one}
+use Rattle.yd_reading.proofs.AnswerLemmas.{files_one}
 use Rattle.yd_fields.specs.UpdatePlan.{update_plan}
 use Rattle.yd_v2.proofs.FileLemmas.{files_read}
 use Rattle.yd_v2.proofs.law.files_are_one.Goals as goal

@@ -1,0 +1,13 @@
+pub mod AnswerLemmas
+pub mod BlockPlanLemmas
+pub mod ContentPlanLemmas
+pub mod DeletesFitLemmas
+pub mod DeletesPlanLemmas
+pub mod ItemPlanLemmas
+pub mod JsonFitLemmas
+pub mod JudgedFitLemmas
+pub mod StructFitLemmas
+pub mod StructPlanLemmas
+pub mod UpdateFitLemmas
+pub mod UpdatePlanLemmas
+pub mod VectorPlanLemmas

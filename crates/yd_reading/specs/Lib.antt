@@ -1,0 +1,5 @@
+pub mod Answer
+pub mod Files
+pub mod Judged
+pub mod RangesView
+pub mod ReadView
