@@ -20,40 +20,40 @@ pub record V2Left : Type 0 where
 
 -- this is left of the numbers of keys
 abbrev pub with_keys : V2Left → DiffsLeft → V2Left
-with_keys left next = record { keys = next; clients = left.clients; lefts = left.lefts; rights = left.rights; infos = left.infos; strings = left.strings; parents = left.parents; kinds = left.kinds; lengths = left.lengths; rest = left.rest }
+with_keys left next = record left { keys = next }
 
 -- this is left of the clients
 abbrev pub with_clients : V2Left → RunsLeft ℕ → V2Left
-with_clients left next = record { keys = left.keys; clients = next; lefts = left.lefts; rights = left.rights; infos = left.infos; strings = left.strings; parents = left.parents; kinds = left.kinds; lengths = left.lengths; rest = left.rest }
+with_clients left next = record left { clients = next }
 
 -- this is left of the clocks of left origins
 abbrev pub with_lefts : V2Left → DiffsLeft → V2Left
-with_lefts left next = record { keys = left.keys; clients = left.clients; lefts = next; rights = left.rights; infos = left.infos; strings = left.strings; parents = left.parents; kinds = left.kinds; lengths = left.lengths; rest = left.rest }
+with_lefts left next = record left { lefts = next }
 
 -- this is left of the clocks of right origins
 abbrev pub with_rights : V2Left → DiffsLeft → V2Left
-with_rights left next = record { keys = left.keys; clients = left.clients; lefts = left.lefts; rights = next; infos = left.infos; strings = left.strings; parents = left.parents; kinds = left.kinds; lengths = left.lengths; rest = left.rest }
+with_rights left next = record left { rights = next }
 
 -- this is left of the info bytes
 abbrev pub with_infos : V2Left → BytesLeft → V2Left
-with_infos left next = record { keys = left.keys; clients = left.clients; lefts = left.lefts; rights = left.rights; infos = next; strings = left.strings; parents = left.parents; kinds = left.kinds; lengths = left.lengths; rest = left.rest }
+with_infos left next = record left { infos = next }
 
 -- this is left of the strings
 abbrev pub with_strings : V2Left → StringsLeft → V2Left
-with_strings left next = record { keys = left.keys; clients = left.clients; lefts = left.lefts; rights = left.rights; infos = left.infos; strings = next; parents = left.parents; kinds = left.kinds; lengths = left.lengths; rest = left.rest }
+with_strings left next = record left { strings = next }
 
 -- this is left of the flags of parents
 abbrev pub with_parents : V2Left → BytesLeft → V2Left
-with_parents left next = record { keys = left.keys; clients = left.clients; lefts = left.lefts; rights = left.rights; infos = left.infos; strings = left.strings; parents = next; kinds = left.kinds; lengths = left.lengths; rest = left.rest }
+with_parents left next = record left { parents = next }
 
 -- this is left of the numbers of types
 abbrev pub with_kinds : V2Left → RunsLeft ℕ → V2Left
-with_kinds left next = record { keys = left.keys; clients = left.clients; lefts = left.lefts; rights = left.rights; infos = left.infos; strings = left.strings; parents = left.parents; kinds = next; lengths = left.lengths; rest = left.rest }
+with_kinds left next = record left { kinds = next }
 
 -- this is left of the lengths
 abbrev pub with_lengths : V2Left → RunsLeft ℕ → V2Left
-with_lengths left next = record { keys = left.keys; clients = left.clients; lefts = left.lefts; rights = left.rights; infos = left.infos; strings = left.strings; parents = left.parents; kinds = left.kinds; lengths = next; rest = left.rest }
+with_lengths left next = record left { lengths = next }
 
 -- this is left of the rest
 abbrev pub with_rest : V2Left → Unread → V2Left
-with_rest left next = record { keys = left.keys; clients = left.clients; lefts = left.lefts; rights = left.rights; infos = left.infos; strings = left.strings; parents = left.parents; kinds = left.kinds; lengths = left.lengths; rest = next }
+with_rest left next = record left { rest = next }

@@ -73,7 +73,9 @@ v2_begin columns strings rest = record {
 
 -- the head of a file, and the text that joins its strings
 unfoldable pub v2_start : List ℕ → Result V2Now Fault
-v2_start bytes = and_then (read_by part_at last_spot head_plan (all_of Head bytes)) (λ head. and_then (in_column Strings (strings_in head.0.strings)) (λ strings. Ok (v2_begin head.0 strings head.1.bytes)))
+v2_start bytes =
+    and_then (read_by part_at last_spot head_plan (all_of Head bytes)) (λ head.
+    and_then (in_column Strings (strings_in head.0.strings)) (λ strings. Ok (v2_begin head.0 strings head.1.bytes)))
 
 -- where the parts of the next field begin
 abbrev pub turn_of : V2Now → V2Turn

@@ -26,49 +26,61 @@ pub record V2Written : Type 0 where
 
 -- no field is written
 abbrev pub no_fields : V2Written
-no_fields = record { keys = no_diffs; clients = no_runs; lefts = no_diffs; rights = no_diffs; infos = no_runs; strings = no_strings; parents = no_runs; kinds = no_runs; lengths = no_runs; rest = []; known = 0 }
+no_fields = record {
+  keys = no_diffs;
+  clients = no_runs;
+  lefts = no_diffs;
+  rights = no_diffs;
+  infos = no_runs;
+  strings = no_strings;
+  parents = no_runs;
+  kinds = no_runs;
+  lengths = no_runs;
+  rest = [];
+  known = 0;
+}
 
 -- ---- one more of a column
 
 -- one more client
 abbrev pub more_clients : ℕ → V2Written → V2Written
-more_clients v w = record { keys = w.keys; clients = put_uint v w.clients; lefts = w.lefts; rights = w.rights; infos = w.infos; strings = w.strings; parents = w.parents; kinds = w.kinds; lengths = w.lengths; rest = w.rest; known = w.known }
+more_clients v w = record w { clients = put_uint v w.clients }
 
 -- one more clock of a left origin
 abbrev pub more_lefts : ℕ → V2Written → V2Written
-more_lefts v w = record { keys = w.keys; clients = w.clients; lefts = put_diff v w.lefts; rights = w.rights; infos = w.infos; strings = w.strings; parents = w.parents; kinds = w.kinds; lengths = w.lengths; rest = w.rest; known = w.known }
+more_lefts v w = record w { lefts = put_diff v w.lefts }
 
 -- one more clock of a right origin
 abbrev pub more_rights : ℕ → V2Written → V2Written
-more_rights v w = record { keys = w.keys; clients = w.clients; lefts = w.lefts; rights = put_diff v w.rights; infos = w.infos; strings = w.strings; parents = w.parents; kinds = w.kinds; lengths = w.lengths; rest = w.rest; known = w.known }
+more_rights v w = record w { rights = put_diff v w.rights }
 
 -- one more info byte
 abbrev pub more_infos : ℕ → V2Written → V2Written
-more_infos v w = record { keys = w.keys; clients = w.clients; lefts = w.lefts; rights = w.rights; infos = put_byte v w.infos; strings = w.strings; parents = w.parents; kinds = w.kinds; lengths = w.lengths; rest = w.rest; known = w.known }
+more_infos v w = record w { infos = put_byte v w.infos }
 
 -- one more string
 abbrev pub more_strings : List ℕ → V2Written → V2Written
-more_strings v w = record { keys = w.keys; clients = w.clients; lefts = w.lefts; rights = w.rights; infos = w.infos; strings = put_string v w.strings; parents = w.parents; kinds = w.kinds; lengths = w.lengths; rest = w.rest; known = w.known }
+more_strings v w = record w { strings = put_string v w.strings }
 
 -- one more flag of a parent
 abbrev pub more_parents : ℕ → V2Written → V2Written
-more_parents v w = record { keys = w.keys; clients = w.clients; lefts = w.lefts; rights = w.rights; infos = w.infos; strings = w.strings; parents = put_byte v w.parents; kinds = w.kinds; lengths = w.lengths; rest = w.rest; known = w.known }
+more_parents v w = record w { parents = put_byte v w.parents }
 
 -- one more number of a type
 abbrev pub more_kinds : ℕ → V2Written → V2Written
-more_kinds v w = record { keys = w.keys; clients = w.clients; lefts = w.lefts; rights = w.rights; infos = w.infos; strings = w.strings; parents = w.parents; kinds = put_uint v w.kinds; lengths = w.lengths; rest = w.rest; known = w.known }
+more_kinds v w = record w { kinds = put_uint v w.kinds }
 
 -- one more length
 abbrev pub more_lengths : ℕ → V2Written → V2Written
-more_lengths v w = record { keys = w.keys; clients = w.clients; lefts = w.lefts; rights = w.rights; infos = w.infos; strings = w.strings; parents = w.parents; kinds = w.kinds; lengths = put_uint v w.lengths; rest = w.rest; known = w.known }
+more_lengths v w = record w { lengths = put_uint v w.lengths }
 
 -- a key: its number, which is how many keys came before it, and its text; a key is never named again, as in Yjs
 abbrev pub more_keys : List ℕ → V2Written → V2Written
-more_keys text w = record { keys = put_diff w.known w.keys; clients = w.clients; lefts = w.lefts; rights = w.rights; infos = w.infos; strings = put_string text w.strings; parents = w.parents; kinds = w.kinds; lengths = w.lengths; rest = w.rest; known = suc w.known }
+more_keys text w = record w { keys = put_diff w.known w.keys; strings = put_string text w.strings; known = suc w.known }
 
 -- more bytes in the rest
 abbrev pub more_rest : List ℕ → V2Written → V2Written
-more_rest bytes w = record { keys = w.keys; clients = w.clients; lefts = w.lefts; rights = w.rights; infos = w.infos; strings = w.strings; parents = w.parents; kinds = w.kinds; lengths = w.lengths; rest = w.rest ++ bytes; known = w.known }
+more_rest bytes w = record w { rest = w.rest ++ bytes }
 
 -- ---- fields
 
@@ -116,7 +128,8 @@ columns_written w = record {
 -- the columns, each a byte string, and the rest behind them
 abbrev pub columns_bytes : Columns → List ℕ → List ℕ
 columns_bytes columns rest =
-    shortest_blob columns.keys ++ (shortest_blob columns.clients ++ (shortest_blob columns.lefts ++ (shortest_blob columns.rights ++ (shortest_blob columns.infos ++ (shortest_blob columns.strings ++ (shortest_blob columns.parents ++ (shortest_blob columns.kinds ++ (shortest_blob columns.lengths ++ rest))))))))
+    shortest_blob columns.keys ++ (shortest_blob columns.clients ++ (shortest_blob columns.lefts ++ (shortest_blob columns.rights
+    ++ (shortest_blob columns.infos ++ (shortest_blob columns.strings ++ (shortest_blob columns.parents ++ (shortest_blob columns.kinds ++ (shortest_blob columns.lengths ++ rest))))))))
 
 -- the flag, the columns and the rest
 abbrev pub file_bytes : Columns → List ℕ → List ℕ
