@@ -10,6 +10,7 @@ use Rattle.yd_fields.specs.Field.{Field, FieldType, FieldValue}
 use Rattle.yd_fields.specs.Field as field
 use Rattle.yd_fields.specs.JsonPlan.{made_at}
 use Rattle.yd_reading.specs.Judged.{flag_at, range_at}
+use Rattle.yd_ids.specs.declared.id.Id.{Id}
 use Rattle.yd_num.proofs.ShortestLemmas.{unsigned_spells}
 use Rattle.yd_num.proofs.WrittenLemmas.{blob_spells}
 use Rattle.yd_num.specs.Writing.{shortest, shortest_blob}
@@ -19,7 +20,7 @@ use Rattle.yd_parts.specs.Part.{Part, PartValue}
 use Rattle.yd_parts.specs.PartGrammar.{SpellsPart}
 use Rattle.yd_parts.specs.Plan.{of_made, ◌>>=◌}
 use Rattle.yd_v2.proofs.AnyPartsLemmas.{AnyParts, any_parts}
-use Rattle.yd_v2.proofs.PutLemmas.{PartsFit, PartsPut, put_then, fit_then, rest_fit, rest_put}
+use Rattle.yd_v2.proofs.PutLemmas.{PartsFit, PartsPut, columns_put, put_then, fit_then, rest_fit, rest_put}
 use Rattle.yd_v2.proofs.WantLemmas.{Wants, in_file, made_wants, rest_wants}
 use Rattle.yd_v2.specs.Part.{client, flag, info, key_number, kind, left_clock, len, mark, right_clock, string}
 use Rattle.yd_v2.specs.Plan.{FieldRead, any_field_plan, as_read, json_field_plan, key_of_number, key_plan, range_plan, v2_plan}
@@ -50,13 +51,58 @@ new_key : (keys : List (List ℕ)) (known : ℕ) → length keys ≡ known → k
 new_key [] known is = refl
 new_key (key ∷ keys) known is = rw (sym is) (new_key keys (length keys) refl)
 
+-- an info byte
+info_parts : (v : ℕ) (w : V2Written) → FieldParts (field.info, v) w
+info_parts v w = record {
+  things = (info, v) ∷ [];
+  wanted = λ keys known. (v, refl, λ spot. record { value_is = refl; known_is = known });
+  put = columns_put ((info, v) ∷ []) w.known w refl;
+  fit = record { keys = tt; clients = tt; lefts = tt; rights = tt; kinds = tt; lengths = tt; strings = tt };
+}
+
+-- a client
+client_parts : (v : ℕ) (w : V2Written) → V2Spells (field.client, v) → FieldParts (field.client, v) w
+client_parts v w spells = record {
+  things = (client, v) ∷ [];
+  wanted = λ keys known. (v, refl, λ spot. record { value_is = refl; known_is = known });
+  put = columns_put ((client, v) ∷ []) w.known w refl;
+  fit = record { keys = tt; clients = (spells, tt); lefts = tt; rights = tt; kinds = tt; lengths = tt; strings = tt };
+}
+
+-- a left origin
+left_parts : (id : Id) (w : V2Written) → V2Spells (field.left, id) → FieldParts (field.left, id) w
+left_parts id w spells = record {
+  things = (client, id.client.0) ∷ (left_clock, id.clock) ∷ [];
+  wanted = λ keys known. (id.client.0, refl, λ spot. (id.clock, refl, λ at. record { value_is = refl; known_is = known }));
+  put = columns_put ((client, id.client.0) ∷ (left_clock, id.clock) ∷ []) w.known w refl;
+  fit = record { keys = tt; clients = (spells.client, tt); lefts = (spells.clock, tt); rights = tt; kinds = tt; lengths = tt; strings = tt };
+}
+
+-- a right origin
+right_parts : (id : Id) (w : V2Written) → V2Spells (field.right, id) → FieldParts (field.right, id) w
+right_parts id w spells = record {
+  things = (client, id.client.0) ∷ (right_clock, id.clock) ∷ [];
+  wanted = λ keys known. (id.client.0, refl, λ spot. (id.clock, refl, λ at. record { value_is = refl; known_is = known }));
+  put = columns_put ((client, id.client.0) ∷ (right_clock, id.clock) ∷ []) w.known w refl;
+  fit = record { keys = tt; clients = (spells.client, tt); lefts = tt; rights = (spells.clock, tt); kinds = tt; lengths = tt; strings = tt };
+}
+
 -- a flag
 flag_parts : (v : ℕ) (w : V2Written) → v < 2 → FieldParts (field.flag, v) w
 flag_parts v w lt = record {
   things = (flag, v) ∷ [];
   wanted = λ keys known. (v, refl, λ spot. made_wants (flag_at spot v) (λ f. as_read keys f spot) v (IsField field.flag v w.known) (rw (lt-ltb v 2 lt) refl) (record { value_is = refl; known_is = known }));
-  put = record { keys = refl; clients = refl; lefts = refl; rights = refl; infos = refl; strings = refl; parents = refl; kinds = refl; lengths = refl; more = []; rest = sym (append-nil w.rest); spelled = refl };
+  put = columns_put ((flag, v) ∷ []) w.known w refl;
   fit = record { keys = tt; clients = tt; lefts = tt; rights = tt; kinds = tt; lengths = tt; strings = tt };
+}
+
+-- a string
+string_parts : (text : List ℕ) (w : V2Written) → V2Spells (field.string, text) → FieldParts (field.string, text) w
+string_parts text w spells = record {
+  things = (string, text) ∷ [];
+  wanted = λ keys known. (text, refl, λ spot. record { value_is = refl; known_is = known });
+  put = columns_put ((string, text) ∷ []) w.known w refl;
+  fit = record { keys = tt; clients = tt; lefts = tt; rights = tt; kinds = tt; lengths = tt; strings = (spells, tt) };
 }
 
 -- a key
@@ -65,8 +111,26 @@ unfolding key_plan
 key_parts text w utf8 lt = record {
   things = (key_number, w.known) ∷ (string, text) ∷ [];
   wanted = λ keys known. (w.known, refl, λ spot. rw (new_key keys w.known known) (text, refl, λ at. record { value_is = refl; known_is = omega (arith, length-append keys (text ∷ []), known) }));
-  put = record { keys = refl; clients = refl; lefts = refl; rights = refl; infos = refl; strings = refl; parents = refl; kinds = refl; lengths = refl; more = []; rest = sym (append-nil w.rest); spelled = refl };
+  put = columns_put ((key_number, w.known) ∷ (string, text) ∷ []) (suc w.known) w refl;
   fit = record { keys = (lt, tt); clients = tt; lefts = tt; rights = tt; kinds = tt; lengths = tt; strings = (utf8, tt) };
+}
+
+-- the number of a type
+kind_parts : (v : ℕ) (w : V2Written) → V2Spells (field.kind, v) → FieldParts (field.kind, v) w
+kind_parts v w spells = record {
+  things = (kind, v) ∷ [];
+  wanted = λ keys known. (v, refl, λ spot. record { value_is = refl; known_is = known });
+  put = columns_put ((kind, v) ∷ []) w.known w refl;
+  fit = record { keys = tt; clients = tt; lefts = tt; rights = tt; kinds = (spells, tt); lengths = tt; strings = tt };
+}
+
+-- a length
+length_parts : (v : ℕ) (w : V2Written) → V2Spells (field.len, v) → FieldParts (field.len, v) w
+length_parts v w spells = record {
+  things = (len, v) ∷ [];
+  wanted = λ keys known. (v, refl, λ spot. record { value_is = refl; known_is = known });
+  put = columns_put ((len, v) ∷ []) w.known w refl;
+  fit = record { keys = tt; clients = tt; lefts = tt; rights = tt; kinds = tt; lengths = (spells, tt); strings = tt };
 }
 
 -- ---- fields in the rest
@@ -134,7 +198,7 @@ range_parts before r w is =
 
 -- the spot of a value is marked
 mark_put : (w : V2Written) → PartsPut ((mark, tt) ∷ []) w w
-mark_put w = record { keys = refl; clients = refl; lefts = refl; rights = refl; infos = refl; strings = refl; parents = refl; kinds = refl; lengths = refl; more = []; rest = sym (append-nil w.rest); spelled = refl }
+mark_put w = columns_put ((mark, tt) ∷ []) w.known w refl
 
 mark_fit : PartsFit ((mark, tt) ∷ [])
 mark_fit = record { keys = tt; clients = tt; lefts = tt; rights = tt; kinds = tt; lengths = tt; strings = tt }
@@ -169,50 +233,15 @@ json_parts t w valid any = record {
 
 -- a field that can be spelled is such parts, where its key has a number in range
 pub field_parts : (t : FieldType) (v : FieldValue t) (w : V2Written) → V2Spells (t, v) → (v2_put (t, v) w).known < 2 ^ 53 → FieldParts (t, v) w
-field_parts field.info v w spells lt = record {
-  things = (info, v) ∷ [];
-  wanted = λ keys known. (v, refl, λ spot. record { value_is = refl; known_is = known });
-  put = record { keys = refl; clients = refl; lefts = refl; rights = refl; infos = refl; strings = refl; parents = refl; kinds = refl; lengths = refl; more = []; rest = sym (append-nil w.rest); spelled = refl };
-  fit = record { keys = tt; clients = tt; lefts = tt; rights = tt; kinds = tt; lengths = tt; strings = tt };
-}
-field_parts field.client v w spells lt = record {
-  things = (client, v) ∷ [];
-  wanted = λ keys known. (v, refl, λ spot. record { value_is = refl; known_is = known });
-  put = record { keys = refl; clients = refl; lefts = refl; rights = refl; infos = refl; strings = refl; parents = refl; kinds = refl; lengths = refl; more = []; rest = sym (append-nil w.rest); spelled = refl };
-  fit = record { keys = tt; clients = (spells, tt); lefts = tt; rights = tt; kinds = tt; lengths = tt; strings = tt };
-}
-field_parts field.left id w spells lt = record {
-  things = (client, id.client.0) ∷ (left_clock, id.clock) ∷ [];
-  wanted = λ keys known. (id.client.0, refl, λ spot. (id.clock, refl, λ at. record { value_is = refl; known_is = known }));
-  put = record { keys = refl; clients = refl; lefts = refl; rights = refl; infos = refl; strings = refl; parents = refl; kinds = refl; lengths = refl; more = []; rest = sym (append-nil w.rest); spelled = refl };
-  fit = record { keys = tt; clients = (spells.client, tt); lefts = (spells.clock, tt); rights = tt; kinds = tt; lengths = tt; strings = tt };
-}
-field_parts field.right id w spells lt = record {
-  things = (client, id.client.0) ∷ (right_clock, id.clock) ∷ [];
-  wanted = λ keys known. (id.client.0, refl, λ spot. (id.clock, refl, λ at. record { value_is = refl; known_is = known }));
-  put = record { keys = refl; clients = refl; lefts = refl; rights = refl; infos = refl; strings = refl; parents = refl; kinds = refl; lengths = refl; more = []; rest = sym (append-nil w.rest); spelled = refl };
-  fit = record { keys = tt; clients = (spells.client, tt); lefts = tt; rights = (spells.clock, tt); kinds = tt; lengths = tt; strings = tt };
-}
+field_parts field.info v w spells lt = info_parts v w
+field_parts field.client v w spells lt = client_parts v w spells
+field_parts field.left id w spells lt = left_parts id w spells
+field_parts field.right id w spells lt = right_parts id w spells
 field_parts field.flag v w spells lt = flag_parts v w spells
-field_parts field.string text w spells lt = record {
-  things = (string, text) ∷ [];
-  wanted = λ keys known. (text, refl, λ spot. record { value_is = refl; known_is = known });
-  put = record { keys = refl; clients = refl; lefts = refl; rights = refl; infos = refl; strings = refl; parents = refl; kinds = refl; lengths = refl; more = []; rest = sym (append-nil w.rest); spelled = refl };
-  fit = record { keys = tt; clients = tt; lefts = tt; rights = tt; kinds = tt; lengths = tt; strings = (spells, tt) };
-}
+field_parts field.string text w spells lt = string_parts text w spells
 field_parts field.key text w spells lt = key_parts text w spells (omega (arith, lt))
-field_parts field.kind v w spells lt = record {
-  things = (kind, v) ∷ [];
-  wanted = λ keys known. (v, refl, λ spot. record { value_is = refl; known_is = known });
-  put = record { keys = refl; clients = refl; lefts = refl; rights = refl; infos = refl; strings = refl; parents = refl; kinds = refl; lengths = refl; more = []; rest = sym (append-nil w.rest); spelled = refl };
-  fit = record { keys = tt; clients = tt; lefts = tt; rights = tt; kinds = (spells, tt); lengths = tt; strings = tt };
-}
-field_parts field.len v w spells lt = record {
-  things = (len, v) ∷ [];
-  wanted = λ keys known. (v, refl, λ spot. record { value_is = refl; known_is = known });
-  put = record { keys = refl; clients = refl; lefts = refl; rights = refl; infos = refl; strings = refl; parents = refl; kinds = refl; lengths = refl; more = []; rest = sym (append-nil w.rest); spelled = refl };
-  fit = record { keys = tt; clients = tt; lefts = tt; rights = tt; kinds = tt; lengths = (spells, tt); strings = tt };
-}
+field_parts field.kind v w spells lt = kind_parts v w spells
+field_parts field.len v w spells lt = length_parts v w spells
 field_parts field.any t w spells lt = value_parts t w (any_parts t (leb-true (depth t) 100 (and_parts (nat_le (depth t) 100) (is_in_range t) spells.0).0) spells.1)
 field_parts field.blob bytes w spells lt = blob_parts bytes w spells
 field_parts field.json t w spells lt = json_parts t w spells.0 (any_parts t (leb-true (depth t) 100 (and_parts (nat_le (depth t) 100) (is_json t) spells.0).0) spells.1)

@@ -102,9 +102,42 @@ fit_then things others first later = record {
   strings = fits_then strings_of IsUtf8 things others first.strings later.strings;
 }
 
+-- these parts are in their columns behind what is written, and so many keys are known
+abbrev pub in_columns : List V2Thing → ℕ → V2Written → V2Written
+in_columns things known w = record {
+  keys = put_all put_diff (among keys_of things) w.keys;
+  clients = put_all put_uint (among clients_of things) w.clients;
+  lefts = put_all put_diff (among lefts_of things) w.lefts;
+  rights = put_all put_diff (among rights_of things) w.rights;
+  infos = put_all put_byte (among infos_of things) w.infos;
+  strings = put_all put_string (among strings_of things) w.strings;
+  parents = put_all put_byte (among parents_of things) w.parents;
+  kinds = put_all put_uint (among kinds_of things) w.kinds;
+  lengths = put_all put_uint (among lengths_of things) w.lengths;
+  rest = w.rest;
+  known = known;
+}
+
+-- parts of columns alone
+pub columns_put : (things : List V2Thing) (known : ℕ) (w : V2Written) → among rest_of things ≡ [] → PartsPut things w (in_columns things known w)
+columns_put things known w none = record {
+  keys = refl;
+  clients = refl;
+  lefts = refl;
+  rights = refl;
+  infos = refl;
+  strings = refl;
+  parents = refl;
+  kinds = refl;
+  lengths = refl;
+  more = [];
+  rest = sym (append-nil w.rest);
+  spelled = subst (λ (parts : List RestThing). SpellParts parts []) (sym none) refl;
+}
+
 -- no part
 pub none_put : (w : V2Written) → PartsPut [] w w
-none_put w = record { keys = refl; clients = refl; lefts = refl; rights = refl; infos = refl; strings = refl; parents = refl; kinds = refl; lengths = refl; more = []; rest = sym (append-nil w.rest); spelled = refl }
+none_put w = columns_put [] w.known w refl
 
 pub none_fit : PartsFit []
 none_fit = record { keys = tt; clients = tt; lefts = tt; rights = tt; kinds = tt; lengths = tt; strings = tt }
