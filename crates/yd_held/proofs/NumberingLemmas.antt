@@ -54,6 +54,7 @@ module _ (t : Taken) (n : ℕ) where
   taken_with_number : (runs : List Run) → IsTakenOf runs t → IsTakenOf runs (with_number t n)
   taken_with_number runs k = record {
     run_there = k.run_there;
+    client = k.client;
     has_units = k.has_units;
     within = k.within;
     id = k.id;

@@ -1,5 +1,5 @@
 -- One entry more, at its place: what it adds, and what stays.
-use Rattle.std.proofs.Common.{◌≡◌, ℕ, zero, suc, ◌+◌, ◌<◌, ◌≤◌, true, false, List, [], ◌∷◌, ◌++◌, length, take, drop, Some, ◌⊎◌, inl, inr, refl, sym, ap, ◌∙◌, subst, arith}
+use Rattle.std.proofs.Common.{◌≡◌, ℕ, zero, suc, ◌+◌, ◌<◌, ◌≤◌, Bool, true, false, List, [], ◌∷◌, ◌++◌, length, take, drop, Some, ◌⊎◌, inl, inr, refl, sym, ap, ◌∙◌, subst, arith}
 use Rattle.std.specs.Prelude.{slice_get, filter, IfSome}
 use Rattle.std.proofs.lemmas.List.{take-append-drop}
 use Rattle.std.proofs.lemmas.List.Elements.{filter-append}
@@ -16,7 +16,7 @@ use Rattle.yd_ops.proofs.OperationLemmas.{length-units_of_content}
 use Rattle.yd_meaning.specs.Received.{IsOneOf}
 use Rattle.yd_meaning.proofs.OneOfLemmas.{one_of_front, one_of_back, one_of_parts}
 use Rattle.yd_received.specs.declared.taken.Taken.{Taken}
-use Rattle.yd_received.specs.Taken.{units_of, list_at, operations_of_taken, operations_in, IsTakenOf, StandsBefore, AreInOrder, is_held}
+use Rattle.yd_received.specs.Taken.{units_of, list_at, operations_of_taken, operations_in, IsTakenOf, StandsBefore, AreInOrder}
 use Rattle.yd_received.specs.Taking.{left_at, list_from, half_at, entry_of, IsRun, IsKept, Adds, operations_of_piece, IsRoom}
 use Rattle.yd_received.proofs.TakenLemmas.{operations_in-append, grow_none}
 use Rattle.yd_received.proofs.UnitLemmas.{part_from}
@@ -42,13 +42,13 @@ order_with (s ∷ ts) (suc at) t order before behind = (each_with (StandsBefore 
 pub room_order : (ts : List Taken) (at : ℕ) (t : Taken) → AreInOrder ts → IsRoom ts at t.id t.len → AreInOrder (take at ts ++ t ∷ drop at ts)
 room_order ts at t order room = order_with ts at t order room.before room.behind
 
--- one that waits changes nothing of what is held
-pub held_with : (ts : List Taken) (at : ℕ) (t : Taken) → is_held t ≡ false → filter is_held (take at ts ++ t ∷ drop at ts) ≡ filter is_held ts
-held_with ts at t waits =
-    filter-append is_held (take at ts) (t ∷ drop at ts)
-    ∙ ap (λ us. filter is_held (take at ts) ++ us) (rw waits refl)
-    ∙ sym (filter-append is_held (take at ts) (drop at ts))
-    ∙ ap (λ us. filter is_held us) (take-append-drop at ts)
+-- one that fails a test changes nothing of what passes it
+pub filter_with : (test : Taken → Bool) (ts : List Taken) (at : ℕ) (t : Taken) → test t ≡ false → filter test (take at ts ++ t ∷ drop at ts) ≡ filter test ts
+filter_with test ts at t fails =
+    filter-append test (take at ts) (t ∷ drop at ts)
+    ∙ ap (λ us. filter test (take at ts) ++ us) (rw fails refl)
+    ∙ sym (filter-append test (take at ts) (drop at ts))
+    ∙ ap (λ us. filter test us) (take-append-drop at ts)
 
 -- the operations with one more are those and its own
 pub one_with : (runs : List Run) (ts : List Taken) (at : ℕ) (t : Taken) (o : Operation) → IsOneOf o (operations_in runs (take at ts ++ t ∷ drop at ts)) →
@@ -102,9 +102,11 @@ list_carried run (suc n) is = tt
 
 -- an entry of units of a run that is kept
 entry_is : (runs : List Run) (run : RunValue) (n index offset count : ℕ) (kept : Run) → IsRun run → slice_get runs index ≡ Some kept → 0 < count → n + count ≤ len_of run.content →
-    offset + count ≤ length (units_of_content (content_value kept.content)) → list_from kept.list offset ≡ list_from run.list n → IsTakenOf runs (entry_of run n index offset count)
-entry_is runs run n index offset count kept is there some le within list = record {
+    offset + count ≤ length (units_of_content (content_value kept.content)) → kept.id.client ≡ run.id.client → list_from kept.list offset ≡ list_from run.list n →
+    IsTakenOf runs (entry_of run n index offset count)
+entry_is runs run n index offset count kept is there some le within client list = record {
   run_there = slice_get_within runs index kept there;
+  client = subst (λ r. IfSome r (λ (s : Run). s.id.client ≡ run.id.client)) (sym there) client;
   has_units = some;
   within = subst (λ r. offset + count ≤ length (units_of r)) (sym there) within;
   id = record { client = is.client; clock = omega (arith, is.end) };
@@ -136,7 +138,7 @@ module _ (runs : List Run) (ts : List Taken) (run : RunValue) (at from : ℕ) (i
         entry = entry_of run from index from count;
         placed = placed;
         of_run = entry_is runs run from index from count kept.kept is kept.there some le
-            (omega (arith, ap (λ c. length (units_of_content c)) content, length-units_of_content run.content)) list;
+            (omega (arith, ap (λ c. length (units_of_content c)) content, length-units_of_content run.content)) (ap (λ (r : RunValue). r.id.client) kept.same) list;
         first = refl;
         as_many = refl;
         waits = refl;
@@ -163,7 +165,7 @@ module _ (runs : List Run) (ts : List Taken) (run : RunValue) (at from : ℕ) (i
         entry = entry_of run from (length runs) 0 1;
         placed = placed;
         of_run = entry_is all run from (length runs) 0 1 half is there (omega arith) (omega arith)
-            (omega (arith, ap (λ c. length (units_of_content c)) content)) list;
+            (omega (arith, ap (λ c. length (units_of_content c)) content)) (ap (λ (r : RunValue). r.id.client) same) list;
         first = refl;
         as_many = refl;
         waits = refl;

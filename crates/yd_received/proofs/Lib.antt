@@ -3,6 +3,7 @@ pub mod BringingLemmas
 pub mod CutLemmas
 pub mod EntriesLemmas
 pub mod EntryLemmas
+pub mod FirstLemmas
 pub mod LookupLemmas
 pub mod PieceLemmas
 pub mod SequenceLemmas

@@ -1,12 +1,13 @@
 -- Where an id stands among what was taken: only the last entry that begins at the id or before it can have it.
-use Rattle.std.proofs.Common.{◌≡◌, ℕ, zero, suc, ◌<◌, ◌≤◌, Bool, true, false, ◌||◌, List, [], ◌∷◌, inl, inr, length, get_or, take, drop, refl, sym, ap, ◌∙◌, arith, tests, true≢false}
+use Rattle.std.proofs.Common.{◌≡◌, ◌≢◌, ℕ, zero, suc, ◌<◌, ◌≤◌, Bool, true, false, not, ◌||◌, ◌&&◌, nat_eq, List, [], ◌∷◌, inl, inr, length, get_or, take, drop, refl, sym, ap, ◌∙◌, subst, arith, tests, true≢false}
 use Rattle.std.specs.List.Sorted.{IsPartitionedBy}
 use Rattle.yd_ids.specs.declared.id.Id.{Id}
 use Rattle.yd_ids.specs.Each.{Each}
+use Rattle.yd_ids.proofs.EachLemmas.{each_weaker}
 use Rattle.yd_received.specs.declared.taken.Taken.{Taken}
 use Rattle.yd_received.specs.Taken.{covers, StandsBefore, AreInOrder}
 use Rattle.yd_received.specs.Lookup.{begins_by}
-use Rattle.yd_received.specs.Taking.{is_covered}
+use Rattle.yd_received.specs.Taking.{is_covered, HasUnits}
 
 -- what stands before something that begins by the id begins by it too
 begins_through : (s t : Taken) (x : Id) → StandsBefore s t → begins_by t x ≡ true → begins_by s x ≡ true
@@ -64,3 +65,39 @@ entry_before (t ∷ ts) x (suc n) order e le before behind = go (covers t x) ref
         (m : ℕ) × (suc n ≡ suc m) × ((d : Taken) → covers (get_or (t ∷ ts) m d) x ≡ true)
     go true f g rest = (0, ap suc (here n ts (omega arith) order.0 before.1 f), (λ d. f))
     go false f g rest = let (m, same, has) = rest g in (suc m, ap suc same, has)
+
+-- ---- lemmas for callers: an id at which no entry begins
+
+begins_at : (t : Taken) (x : Id) → t.id ≡ x → begins_by t x ≡ true
+begins_at t x e = subst (λ y. begins_by t y ≡ true) e own
+  where
+    own : begins_by t t.id ≡ true
+    own = grind (arith, tests)
+
+covers_first : (t : Taken) (x : Id) → HasUnits t → t.id ≡ x → covers t x ≡ true
+covers_first t x some e = subst (λ y. covers t y ≡ true) e own
+  where
+    own : covers t t.id ≡ true
+    own = grind (arith, tests)
+
+-- ids that the test tells apart
+pub ids_apart : (a b : Id) → true ≡ not (nat_eq a.client.0 b.client.0 && nat_eq a.clock b.clock) → a ≢ b
+ids_apart a b apart e = true≢false (subst (λ (x : Id). true ≡ not (nat_eq x.client.0 b.client.0 && nat_eq x.clock b.clock)) e apart ∙ own)
+  where
+    own : not (nat_eq b.client.0 b.client.0 && nat_eq b.clock b.clock) ≡ false
+    own = grind (arith, tests)
+
+-- where so many entries begin by an id, and the last of them does not begin at it, none does
+pub none_at : (ts : List Taken) (x : Id) (p : ℕ) (d : Taken) → AreInOrder ts → Each HasUnits ts → p ≤ length ts →
+    Each (λ t. begins_by t x ≡ true) (take p ts) → Each (λ t. begins_by t x ≡ false) (drop p ts) →
+    ((m : ℕ) → p ≡ suc m → (get_or ts m d).id ≢ x) → Each (λ (t : Taken). t.id ≢ x) ts
+none_at [] x p d order each le before behind last = tt
+none_at (t ∷ ts) x zero d order each le before behind last =
+    each_weaker (λ (s : Taken). begins_by s x ≡ false) (λ (s : Taken). s.id ≢ x) (λ s none e. true≢false (sym (begins_at s x e) ∙ none)) (t ∷ ts) behind
+none_at (t ∷ ts) x (suc n) d order each le before behind last =
+    (first n ts (omega arith) order.0 before.1 (λ e. last 0 (ap suc e)), none_at ts x n d order.1 each.1 (omega arith) before.1 behind (λ m e. last (suc m) (ap suc e)))
+  where
+    first : (k : ℕ) (ss : List Taken) → k ≤ length ss → Each (StandsBefore t) ss → Each (λ s. begins_by s x ≡ true) (take k ss) → (k ≡ 0 → t.id ≢ x) → t.id ≢ x
+    first zero ss le apart begin alone = alone refl
+    first (suc k) [] le apart begin alone = absurd (omega arith)
+    first (suc k) (s ∷ ss) le apart begin alone = λ e. behind_covered t s x apart.0 (covers_first t x each.0 e) begin.0

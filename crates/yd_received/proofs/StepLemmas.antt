@@ -19,7 +19,7 @@ use Rattle.yd_meaning.proofs.PairingLemmas.{with_run_paired}
 use Rattle.yd_received.specs.declared.taken.Taken.{Taken}
 use Rattle.yd_received.specs.Taken.{IsTakenOf, AreInOrder, AreTaken, operations_in, is_held, GrowBy}
 use Rattle.yd_received.specs.Taking.{is_covered, AreCovered, BeginsBehind, IsRoom, IsPiece, IsRun, IsKept, operations_of_piece, IsPassed, IsTakenNext, TakesIn}
-use Rattle.yd_received.proofs.AddingLemmas.{each_with, room_order, held_with, one_with, one_stays, one_new}
+use Rattle.yd_received.proofs.AddingLemmas.{each_with, room_order, filter_with, one_with, one_stays, one_new}
 use Rattle.yd_received.proofs.CutLemmas.{cut_inside}
 use Rattle.yd_received.proofs.EntryLemmas.{room_is_free}
 use Rattle.yd_received.proofs.PieceLemmas.{part_unit, whole_not_torn, half_is_torn, piece_taken}
@@ -115,7 +115,7 @@ module _ (run : RunValue) (old_runs : List Run) (old_taken : List Taken) (runs :
         (each_with (IsTakenOf new_runs) taken next.at next.adds.entry (grown_each runs new_runs taken next.adds.grows walked.each) next.adds.of_run);
     in_order = subst AreInOrder (sym next.adds.placed) (room_order taken next.at next.adds.entry walked.in_order room);
     operations = λ q. (there q, back q);
-    held = ap (λ ts. filter is_held ts) next.adds.placed ∙ held_with taken next.at next.adds.entry next.adds.waits ∙ walked.held;
+    held = ap (λ ts. filter is_held ts) next.adds.placed ∙ filter_with is_held taken next.at next.adds.entry next.adds.waits ∙ walked.held;
     cut = λ cut none k e. absurd (true≢false (sym (subst (λ x. has_operation old x ≡ true)
         (later_same run.id (from + next.new) (from + count) (sym (next.piece.rest cut)))
         (behind (omega (arith, next.piece.rest cut, (cut_inside run.content (from + count) cut).1, length-units_of_content run.content)))) ∙ none));

@@ -1,6 +1,6 @@
 -- What was taken of kept runs: its ids, its order, and that more runs behind the others change nothing.
 use Rattle.std.proofs.Common.{◌≡◌, ℕ, zero, suc, ◌+◌, ◌<◌, ◌≤◌, true, ◌||◌, ◌&&◌, nat_eq, nat_le, nat_lt, List, [], ◌∷◌, ◌++◌, length, take, drop, min, Option, Some, None, inl, inr, refl, sym, ap, ◌∙◌, subst, arith, tests, append_assoc, append-nil, length-append, length-drop, length-take}
-use Rattle.std.specs.Prelude.{slice_get}
+use Rattle.std.specs.Prelude.{slice_get, IfSome}
 use Rattle.yd_ids.specs.declared.id.Id.{Id}
 use Rattle.yd_ids.specs.Each.{Each}
 use Rattle.yd_ids.proofs.EachLemmas.{each_weaker}
@@ -117,6 +117,7 @@ grown_taken old new t (more, e) is =
     let same : slice_get new t.run ≡ slice_get old t.run = grown_get old new t.run (more, e) is.run_there in
     record {
       run_there = omega (arith, is.run_there, ap length e, length-append old more);
+      client = subst (λ run. IfSome run (λ (r : Run). r.id.client ≡ t.id.client)) (sym same) is.client;
       has_units = is.has_units;
       within = subst (λ run. t.offset + t.len ≤ length (units_of run)) (sym same) is.within;
       id = is.id;

@@ -32,9 +32,10 @@ abbrev pub operations_in : List Run → List Taken → List Operation
 operations_in runs [] = []
 operations_in runs (t ∷ ts) = operations_of_taken runs t ++ operations_in runs ts
 
--- units that were taken of a run that is there, with ids in range
+-- units that were taken of a run that is there, of its client, with ids in range
 pub record IsTakenOf (runs : List Run) (t : Taken) : Type 0 where
   pub run_there : t.run < length runs
+  pub client : IfSome (slice_get runs t.run) (λ (run : Run). run.id.client ≡ t.id.client)
   pub has_units : 0 < t.len
   pub within : t.offset + t.len ≤ length (units_of (slice_get runs t.run))
   pub id : IsId t.id
@@ -69,6 +70,14 @@ held_in runs taken = operations_in runs (filter is_held taken)
 -- whether the id is that of one of the units
 abbrev pub covers : Taken → Id → Bool
 covers t x = nat_eq t.id.client.0 x.client.0 && (nat_le t.id.clock x.clock && nat_lt x.clock (t.id.clock + t.len))
+
+-- whether the units are of one of the first runs
+abbrev pub is_of_first : ℕ → Taken → Bool
+is_of_first count t = nat_lt t.run count
+
+-- what was taken of the first runs stays as it was, however few of them are looked at
+abbrev pub StaysOfFirst : ℕ → List Taken → List Taken → Type 0
+StaysOfFirst count old new = (n : ℕ) → n ≤ count → filter (is_of_first n) new ≡ filter (is_of_first n) old
 
 -- the runs are the old ones, with some more behind them
 abbrev pub GrowBy : {X : Type 0} → List X → List X → Type 0

@@ -2,8 +2,9 @@
 //!
 //! Taking in an update adds what `yd_meaning` defines: the operations with new ids, and of a pair
 //! with one new half that half as U+FFFD ([`take_update`]). What was held stays as it was. The
-//! entries stand in the order of writing, so an id is found by bisection ([`entry_of`]). A call that
-//! finds no memory may have added runs behind the others, and promises nothing of what was taken.
+//! entries stand in the order of writing, so an id is found by bisection ([`entry_of`],
+//! [`entry_at`]). A call that finds no memory may have added runs behind the others, and entries of
+//! those alone.
 //!
 //! ```rust
 //! let mut runs = Vec::new(alloc);
@@ -20,6 +21,6 @@ mod taken;
 mod taking;
 
 pub use fault::NoMemory;
-pub use lookup::entry_of;
+pub use lookup::{entry_at, entry_of};
 pub use taken::Taken;
 pub use taking::take_update;

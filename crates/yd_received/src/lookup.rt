@@ -1,10 +1,10 @@
 //! Where an id stands among what was taken.
 
-ghost use Rattle.std.specs.Prelude.{◌≡◌, ◌<◌, ◌≤◌, true, false, length, take, drop, HoldsAt};
+ghost use Rattle.std.specs.Prelude.{◌≡◌, ◌≢◌, ◌<◌, ◌≤◌, true, false, length, take, drop, HoldsAt, IfSome, IfNone};
 ghost use Rattle.yd_ids.specs.Each.{Each};
 ghost use Rattle.yd_received.specs.Taken.{AreInOrder, covers};
 ghost use Rattle.yd_received.specs.Lookup.{begins_by};
-ghost use Rattle.yd_received.specs.Taking.{is_covered};
+ghost use Rattle.yd_received.specs.Taking.{is_covered, HasUnits};
 
 use crate::taken::Taken;
 use yd_ids::Id;
@@ -18,6 +18,22 @@ pub fn entry_of(taken: &[Taken], id: Id) -> usize
     ensures covers { HoldsAt (λ t. covers t id ≡ true) taken.now result }
 {
     place(taken, id) - 1
+}
+
+/// The place, from 0, of the entry that begins at the id, and none where no entry does. It takes no
+/// memory, and time with the logarithm of how many entries there are.
+pub fn entry_at(taken: &[Taken], id: Id) -> Option<usize>
+    requires in_order { AreInOrder taken.now }
+    requires each { Each HasUnits taken.now }
+    ensures found { IfSome result (λ at. (at < length taken.now)
+        × HoldsAt (λ t. t.id ≡ id) taken.now at) }
+    ensures none { IfNone result (Each (λ t. t.id ≢ id) taken.now) }
+{
+    let count = place(taken, id);
+    if count == 0 || taken[count - 1].id != id {
+        return None;
+    }
+    Some(count - 1)
 }
 
 /// How many entries begin at the id or before it.

@@ -6,7 +6,7 @@ ghost use Rattle.yd_ops.specs.declared.runs.Run.{Run};
 ghost use Rattle.yd_ops.specs.Operation.{later_id};
 ghost use Rattle.yd_ops.specs.Value.{len_of};
 ghost use Rattle.yd_ops.specs.View.{content_value, run_value};
-ghost use Rattle.yd_received.specs.Taken.{GrowBy};
+ghost use Rattle.yd_received.specs.Taken.{StaysOfFirst, GrowBy};
 ghost use Rattle.yd_received.specs.Taking.{PartsPair, IsPiece, left_at, list_from, half_at, IsRun, IsKept, Adds, operations_of_piece, entry_of};
 
 use crate::fault::NoMemory;
@@ -84,6 +84,7 @@ pub(crate) fn take_piece(
     ensures added { OnOk result (Adds runs.old.items taken.old.items runs.new.items taken.new.items at
         (later_id run.now.id from) piece.len (operations_of_piece (run_value run.now) from piece.len piece.is_torn)) }
     ensures grows { GrowBy runs.old.items runs.new.items }
+    ensures first { StaysOfFirst index taken.old.items taken.new.items }
 {
     if piece.is_torn {
         take_half(alloc, runs, taken, run, at, from)?;
@@ -104,8 +105,9 @@ fn take_whole(
 ) -> Result<(), NoMemory>
     requires place { at ≤ length taken.old.items }
     requires fits { IsClock (run.now.id.clock + from) }
-    ensures { OnOk result (taken.new.items ≡ take at taken.old.items
+    ensures entry { OnOk result (taken.new.items ≡ take at taken.old.items
         ++ entry_of (run_value run.now) from index from len ∷ drop at taken.old.items) }
+    ensures first { StaysOfFirst index taken.old.items taken.new.items }
 {
     let entry = Taken {
         id: id_at(run, from),
@@ -136,6 +138,7 @@ fn take_half(
     ensures entry { OnOk result (taken.new.items ≡ take at taken.old.items
         ++ entry_of (run_value run.now) from (length runs.old.items) 0 1 ∷ drop at taken.old.items) }
     ensures grows { GrowBy runs.old.items runs.new.items }
+    ensures first { StaysOfFirst (length runs.old.items) taken.old.items taken.new.items }
 {
     let half = half_at(alloc, run, from)?;
     let index = runs.len();

@@ -1,13 +1,13 @@
 //! Taking in the operations of an update.
 
-ghost use Rattle.std.specs.Prelude.{◌≡◌, ◌↔◌, ◌<◌, ◌≤◌, ◌-◌, ◌⊎◌, [], ◌∷◌, filter, map, IsTrue, OnOk, IfOk};
+ghost use Rattle.std.specs.Prelude.{◌≡◌, ◌↔◌, ◌<◌, ◌≤◌, ◌-◌, ◌⊎◌, [], ◌∷◌, length, filter, map, IsTrue, OnOk, IfOk};
 ghost use Rattle.yd_ids.specs.Each.{Each};
 ghost use Rattle.yd_ops.specs.Operation.{operations_of_run, operations_of_structs, operations_of_blocks};
 ghost use Rattle.yd_ops.specs.Valid.{IsValidBlock, IsValidUpdate};
 ghost use Rattle.yd_ops.specs.Value.{len_of};
 ghost use Rattle.yd_ops.specs.View.{content_value, run_value, struct_value, block_value, update_value};
 ghost use Rattle.yd_meaning.specs.Received.{with_runs, runs_of, runs_of_structs, runs_of_blocks};
-ghost use Rattle.yd_received.specs.Taken.{AreTaken, AreInOrder, operations_in, is_held, GrowBy};
+ghost use Rattle.yd_received.specs.Taken.{AreTaken, AreInOrder, operations_in, is_held, StaysOfFirst, GrowBy};
 ghost use Rattle.yd_received.specs.Taking.{AreCovered, BringsOne, BringsOperation, HasUnits, IsRun, IsKept, IsPassed, IsTakenNext, IsTakeable, TakesIn};
 
 use crate::fault::NoMemory;
@@ -19,8 +19,8 @@ use yd_ops::{Block, Run, Struct, Update};
 
 /// Takes in the operations of an update, and answers whether one had a new id. Each run of which a
 /// unit is new is copied once. For each entry that has ids of a run, and each new one, it takes a
-/// bisection and an insertion. Where memory ends, runs may stand behind the others, and nothing is
-/// promised of what was taken.
+/// bisection and an insertion. Where memory ends, runs may stand behind the others, and entries of
+/// those alone among what was taken.
 pub fn take_update(
     alloc: Global,
     runs: &mut Vec<Run>,
@@ -36,6 +36,7 @@ pub fn take_update(
     ensures kept { OnOk result (AreTaken runs.new.items taken.new.items) }
     ensures held { OnOk result (filter is_held taken.new.items ≡ filter is_held taken.old.items) }
     ensures grows { GrowBy runs.old.items runs.new.items }
+    ensures first { StaysOfFirst (length runs.old.items) taken.old.items taken.new.items }
 {
     let brings = take_blocks(alloc, runs, taken, update.blocks.as_slice())?;
     Ok(brings)
@@ -55,6 +56,7 @@ fn take_blocks(
     ensures brings { IfOk result (λ brings. IsTrue brings
         ↔ BringsOne (operations_of_blocks (map block_value blocks.now)) (operations_in runs.old.items taken.old.items)) }
     ensures grows { GrowBy runs.old.items runs.new.items }
+    ensures first { StaysOfFirst (length runs.old.items) taken.old.items taken.new.items }
 {
     let mut brings = false;
     for block in blocks {
@@ -78,6 +80,7 @@ fn take_structs(
     ensures brings { IfOk result (λ brings. IsTrue brings
         ↔ BringsOne (operations_of_structs (map struct_value structs.now)) (operations_in runs.old.items taken.old.items)) }
     ensures grows { GrowBy runs.old.items runs.new.items }
+    ensures first { StaysOfFirst (length runs.old.items) taken.old.items taken.new.items }
 {
     let mut brings = false;
     for entry in structs {
@@ -101,6 +104,7 @@ fn take_struct(
     ensures brings { IfOk result (λ brings. IsTrue brings
         ↔ BringsOne (operations_of_structs (struct_value entry.now ∷ [])) (operations_in runs.old.items taken.old.items)) }
     ensures grows { GrowBy runs.old.items runs.new.items }
+    ensures first { StaysOfFirst (length runs.old.items) taken.old.items taken.new.items }
 {
     match entry {
         Struct::Item(run) => {
@@ -125,6 +129,7 @@ fn take_run(
     ensures brings { IfOk result (λ brings. IsTrue brings
         ↔ BringsOne (operations_of_run (run_value run.now)) (operations_in runs.old.items taken.old.items)) }
     ensures grows { GrowBy runs.old.items runs.new.items }
+    ensures first { StaysOfFirst (length runs.old.items) taken.old.items taken.new.items }
 {
     let known = known_from(taken, run.id, run.len());
     if known >= run.len() {
@@ -154,6 +159,7 @@ fn take_rest(
     ensures taken { OnOk result (TakesIn runs.old.items taken.old.items runs.new.items taken.new.items
         (run_value run.now ∷ []) (operations_of_run (run_value run.now))) }
     ensures grows { GrowBy runs.old.items runs.new.items }
+    ensures first { StaysOfFirst index taken.old.items taken.new.items }
 {
     let mut from = known;
     while from < run.len() {
@@ -181,6 +187,7 @@ fn take_next(
         IsPassed runs.old.items taken.old.items runs.new.items taken.new.items (run_value run.now) from (next - from)
         ⊎ IsTakenNext runs.old.items taken.old.items runs.new.items taken.new.items (run_value run.now) from (next - from)) }
     ensures grows { GrowBy runs.old.items runs.new.items }
+    ensures first { StaysOfFirst index taken.old.items taken.new.items }
 {
     let stretch = stretch_from(taken, id_at(run, from), run.len() - from);
     if !stretch.is_new {

@@ -17,4 +17,4 @@ pub returns-clause-added : goal.returns-clause-added
 returns-clause-added c =
     let run = run_value c.args.run.now in
     let whole = c.if-piece.false in
-    rw whole (whole_adds c.args.runs.now.items c.args.taken.now.items run c.args.at c.args.from c.requires.run c.args.index c.args.piece.len _ c.requires.kept c.requires.some c.requires.bound c.in_ok-take_whole.ensures)
+    rw whole (whole_adds c.args.runs.now.items c.args.taken.now.items run c.args.at c.args.from c.requires.run c.args.index c.args.piece.len _ c.requires.kept c.requires.some c.requires.bound c.in_ok-take_whole.ensures.entry)
