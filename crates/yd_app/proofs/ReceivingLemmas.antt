@@ -107,6 +107,18 @@ pub record SoFar (told now : Option Shelf) (faults faults_now : ℕ) (Calm CalmN
   pub counts : faults ≤ faults_now
   pub calm : Calm → IsTold told → NoneIsMissing told files → CalmNow × (faults_now ≡ faults)
 
+-- before the first file nothing is received
+pub so_far_none : (told : Option Shelf) (faults : ℕ) (Calm : Type 0) (files : List File) (received : Received) → received ≡ nothing_received →
+    SoFar told told faults faults Calm Calm files 0 received
+so_far_none told faults Calm files received e = record {
+  updates = [];
+  are_read = tt;
+  received_is = e;
+  keeps = keeps_all told;
+  counts = omega arith;
+  calm = λ calmly is_told none. (calmly, refl);
+}
+
 -- the file of this number
 item_at : (seen : List FileSeen) (index : ℕ) (any : FileSeen) → index < length seen → get_or (map file_of seen) index (file_of any) ≡ file_of (get_or seen index any)
 item_at seen index any lt = get_or-map file_of seen index any (file_of any) lt

@@ -1,10 +1,10 @@
 pub mod AddingIdLemmas
 pub mod AmongLemmas
 pub mod CountLemmas
-pub mod DraftLemmas
 pub mod FateLemmas
 pub mod FoundLemmas
 pub mod GatheringLemmas
+pub mod KeptHeldLemmas
 pub mod KeptOrderLemmas
 pub mod LastLemmas
 pub mod LendingLemmas
@@ -15,7 +15,8 @@ pub mod NoveltyLemmas
 pub mod NumberLemmas
 pub mod OneListLemmas
 pub mod PassLemmas
+pub mod RestoringLemmas
 pub mod SettledLemmas
 pub mod TakenRowLemmas
-pub mod UndoneLemmas
+pub mod TakingOnLemmas
 pub mod WaitingLemmas

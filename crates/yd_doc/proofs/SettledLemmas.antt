@@ -1,6 +1,7 @@
 -- Which orders stay as they are when more is held, and that arranging the others gives all orders.
-use Rattle.std.proofs.Common.{◌≡◌, ℕ, ◌≤◌, ◌<◌, Bool, true, false, List, [], ◌∷◌, ◌⊎◌, Some, zero, suc, inl, inr, length, map, refl, sym, ap, ◌∙◌, subst, arith}
+use Rattle.std.proofs.Common.{◌≡◌, ℕ, ◌≤◌, ◌<◌, Bool, true, false, List, [], ◌∷◌, ◌⊎◌, Some, zero, suc, inl, inr, length, map, refl, sym, ap, ◌∙◌, subst, arith, length-append}
 use Rattle.std.specs.Prelude.{slice_get}
+use Rattle.std.proofs.lemmas.List.{length-map}
 use Rattle.std.proofs.lemmas.Option.{slice_get_within}
 use Rattle.yd_ids.specs.declared.id.Id.{Id}
 use Rattle.yd_ops.specs.declared.lists.List.{List as DocList}
@@ -11,13 +12,15 @@ use Rattle.yd_meaning.specs.Order.{order_of}
 use Rattle.yd_order.specs.declared.stretch.Stretch.{Stretch}
 use Rattle.yd_order.specs.Stretch.{rows_of_stretches, among_rows}
 use Rattle.yd_received.specs.declared.taken.Taken.{Taken}
-use Rattle.yd_received.specs.Taken.{held_in}
+use Rattle.yd_received.specs.Taken.{held_in, GrowBy}
 use Rattle.yd_doc.specs.Ordered.{AreOrders}
 use Rattle.yd_held.specs.Holding.{MarkChanges}
+use Rattle.yd_doc.specs.Changing.{AreUnmarked}
 use Rattle.yd_doc.specs.Marks.{HasMarks}
 use Rattle.yd_doc.specs.Stretches.{stretch_of, stretches_in, order_by_stretches, AreSettled, AreGathered, IsTableOfStretches, HaveOrders, IsKeptOrMade, AreKeptOrMade}
 use Rattle.yd_doc.proofs.ListOrderLemmas.{AreHeld, order_of-stretches, stretches_are_table, list_stretches_end}
 use Rattle.yd_doc.proofs.KeptOrderLemmas.{ordered_at, at_ordered}
+use Rattle.yd_doc.proofs.ListedLemmas.{orders_each}
 
 -- what stands at a place below the length
 at_place : {X : Type 0} (xs : List X) (n : ℕ) → n < length xs → (x : X) × (slice_get xs n ≡ Some x)
@@ -62,9 +65,13 @@ settled_orders runs ts names stale buckets orders made are s g each kept = at_or
 -- where the orders were those of what was held, each list without a mark has the units that it had, and each mark from the
 -- number of the old lists on is set, the lists without a mark are settled
 pub settled_after : (runs : List Run) (before ts : List Taken) (old new : List DocList) (orders : List (List Id)) (stale marks : List Bool) →
-    AreHeld runs before old → AreOrders (held_in runs before) old orders → MarkChanges stale before ts (length new) → HasMarks (length old) stale marks →
+    AreHeld runs before old → AreOrders (held_in runs before) old orders → GrowBy old new → MarkChanges stale before ts (length new) → HasMarks (length old) stale marks →
     AreSettled marks new orders ts
-settled_after runs before ts old new orders stale marks are ordered changes m = record { each = m.each ∙ changes.each; settled = at }
+settled_after runs before ts old new orders stale marks are ordered (more, grown) changes m = record {
+  each = m.each ∙ changes.each;
+  no_more = omega (arith, orders_each (held_in runs before) old orders ordered, ap length grown, length-append old more);
+  settled = at;
+}
   where
     at : (n : ℕ) → slice_get marks n ≡ Some false → slice_get orders n ≡ Some (order_by_stretches n ts)
     at n e = go (split (length old) n)
@@ -75,3 +82,44 @@ settled_after runs before ts old new orders stale marks are ordered changes m = 
             ordered_at (held_in runs before) old orders ordered n name named
             ∙ ap Some (order_of-stretches runs before old are n name named)
             ∙ ap (λ (entries : List Taken). Some (origin_order (among_rows (rows_of_stretches (map stretch_of entries))))) (sym (changes.kept n (sym (m.before n lt) ∙ e)))
+
+-- where no list has a mark, each has its order
+pub unmarked_orders : (runs : List Run) (ts : List Taken) (names : List DocList) (stale : List Bool) (orders : List (List Id)) →
+    AreHeld runs ts names → AreUnmarked stale → AreSettled stale names orders ts → AreOrders (held_in runs ts) names orders
+unmarked_orders runs ts names stale orders are none s =
+    settled_orders runs ts names stale (map no_stretches stale) orders orders are s
+    (record { each = length-map stale no_stretches; gathered = λ n e. absurd (unmarked stale none n true e refl) })
+    each (λ n order there. record {
+      made = λ stretches e. absurd (unmarked stale none n true e refl);
+      kept = λ e. there;
+    })
+  where
+    no_stretches : Bool → List Stretch
+    no_stretches mark = []
+
+    unmarked : (marks : List Bool) → AreUnmarked marks → (n : ℕ) (b : Bool) → slice_get marks n ≡ Some b → b ≡ true → ⊥
+    unmarked [] none n b e f = absurd cc
+    unmarked (m ∷ ms) none zero b e f = let clash : true ≡ false = sym f ∙ some_is b m (sym e) ∙ none.0 in absurd cc
+      where
+        some_is : (x y : Bool) → Some x ≡ Some y → x ≡ y
+        some_is x y e = cc
+    unmarked (m ∷ ms) none (suc n) b e f = unmarked ms none.1 n b e f
+
+    -- a list for each mark has its order, and there are no others
+    mark_there : (marks : List Bool) → AreUnmarked marks → (n : ℕ) → n < length marks → slice_get marks n ≡ Some false
+    mark_there [] none n lt = absurd (omega arith)
+    mark_there (m ∷ ms) none zero lt = ap (λ b. Some b) none.0
+    mark_there (m ∷ ms) none (suc n) lt = mark_there ms none.1 n (omega arith)
+
+    enough : (m n : ℕ) → ((k : ℕ) → k < m → k < n) → m ≤ n
+    enough zero n f = omega arith
+    enough (suc m) n f = omega (arith, f m (omega arith))
+
+    each : length orders ≡ length stale
+    each = omega (
+      arith,
+      s.each,
+      s.no_more,
+      enough (length stale) (length orders)
+          (λ k lt. slice_get_within orders k (order_by_stretches k ts) (s.settled k (mark_there stale none k lt))),
+    )

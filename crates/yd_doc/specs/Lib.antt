@@ -1,11 +1,12 @@
+pub mod Changing
 pub mod Deleting
-pub mod Draft
 pub mod Kept
 pub mod Lending
 pub mod Lent
 pub mod Marks
 pub mod Ordered
 pub mod Replica
+pub mod Restoring
 pub mod State
 pub mod Stretches
 pub mod Waiting

@@ -1,13 +1,15 @@
 -- What a replica keeps, and in the words of what updates mean, what it received.
-use Rattle.std.specs.Prelude.{◌≡◌, List}
+use Rattle.std.specs.Prelude.{◌≡◌, List, []}
 use Rattle.yd_ids.specs.Set.{AreMaximal}
 use Rattle.yd_ops.specs.Operation.{Operation}
 use Rattle.yd_meaning.specs.Received.{Received}
 use Rattle.yd_meaning.specs.Held.{held_set}
 use Rattle.yd_meaning.specs.Deleted.{AreDeleteSet}
 use Rattle.yd_doc.specs.declared.state.State.{State}
-use Rattle.yd_received.specs.Taken.{AreTaken, operations_in, held_in, GrowBy}
+use Rattle.yd_received.specs.Taken.{AreTaken, operations_in, held_in}
 use Rattle.yd_held.specs.Numbered.{IsVectorOf, AreNumbered}
+use Rattle.yd_held.specs.Noted.{AreNoted}
+use Rattle.yd_held.specs.Holding.{HoldsAll}
 use Rattle.yd_doc.specs.Ordered.{AreOrders, order_lists}
 
 -- what is received: operations in the order of writing, and deletions
@@ -18,6 +20,10 @@ received_in s = record { operations = operations_in s.runs.items s.taken.items; 
 abbrev pub held_of : State → List Operation
 held_of s = held_in s.runs.items s.taken.items
 
+-- all is held that can be
+abbrev pub HoldsAllOf : State → Type 0
+HoldsAllOf s = HoldsAll s.runs.items s.taken.items s.vector s.names.items s.lacks.items
+
 -- each part is what the received operations and deletions define
 pub record IsSound (s : State) : Type 0 where
   pub taken : AreTaken s.runs.items s.taken.items
@@ -25,15 +31,6 @@ pub record IsSound (s : State) : Type 0 where
   pub held : held_of s ≡ held_set (received_in s).operations
   pub vector : IsVectorOf s.vector s.runs.items s.taken.items
   pub numbered : AreNumbered s.runs.items s.taken.items s.names.items
+  pub noted : AreNoted s.vector s.runs.items s.lacks.items [] s.taken.items
   pub ordered : AreOrders (held_of s) s.names.items (order_lists s.orders.items)
   pub deletes : AreDeleteSet s.deletes (received_in s)
-
--- runs and names only grew at their ends; all else is as it was
-pub record HasGrown (old new : State) : Type 0 where
-  pub runs : GrowBy old.runs.items new.runs.items
-  pub names : GrowBy old.names.items new.names.items
-  pub orders : new.orders ≡ old.orders
-  pub taken : new.taken ≡ old.taken
-  pub named : new.named ≡ old.named
-  pub vector : new.vector ≡ old.vector
-  pub deletes : new.deletes ≡ old.deletes

@@ -1,5 +1,5 @@
 -- The units of a list as the order sees them: stretches of one client, in the order of writing (own).
-use Rattle.std.specs.Prelude.{◌≡◌, ◌<◌, ℕ, zero, suc, false, true, Bool, List, [], ◌∷◌, ◌++◌, Some, filter, map, slice_get, length}
+use Rattle.std.specs.Prelude.{◌≡◌, ◌<◌, ◌≤◌, ℕ, zero, suc, false, true, Bool, List, [], ◌∷◌, ◌++◌, Some, filter, map, slice_get, length}
 use Rattle.std.specs.Global.{Vec}
 use Rattle.yd_ids.specs.declared.id.Id.{Id}
 use Rattle.yd_ids.specs.Each.{Each}
@@ -23,9 +23,10 @@ stretches_in n taken = map stretch_of (filter (is_in_list n) taken)
 abbrev pub order_by_stretches : ℕ → List Taken → List Id
 order_by_stretches n taken = origin_order (among_rows (rows_of_stretches (stretches_in n taken)))
 
--- there is a mark for each list, and one without a mark has the order of its stretches already
+-- there is a mark for each list, and no list more has an order; one without a mark has the order of its stretches already
 pub record AreSettled (stale : List Bool) (names : List DocList) (orders : List (List Id)) (taken : List Taken) : Type 0 where
   pub each : length stale ≡ length names
+  pub no_more : length orders ≤ length names
   pub settled : (n : ℕ) → slice_get stale n ≡ Some false → slice_get orders n ≡ Some (order_by_stretches n taken)
 
 -- ---- stretches, as they are gathered

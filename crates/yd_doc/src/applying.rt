@@ -1,4 +1,4 @@
-//! What a state becomes by an update.
+//! What a state becomes by an update: it is changed in place, and put back where memory ends.
 
 ghost use Rattle.std.specs.Prelude.{◌≡◌, ◌↔◌, IsTrue, OnOk, OnErr, IfOk};
 ghost use Rattle.yd_ops.specs.Valid.{IsValidUpdate};
@@ -7,13 +7,15 @@ ghost use Rattle.yd_meaning.specs.Received.{received_after};
 ghost use Rattle.yd_doc.specs.Replica.{BringsSomething};
 ghost use Rattle.yd_doc.specs.State.{received_in, IsSound};
 
-use crate::draft::{Draft, draft_of};
+use crate::changing::change;
 use crate::fault::NoMemory;
 use crate::novelty::brings_deletion;
+use crate::restoring::{before_of, restore};
 use crate::state::State;
 use yd_ops::Update;
 
-/// Receives the update, and holds and deletes all that can be then.
+/// Receives the update, and holds and deletes all that can be then. Where memory ends it leaves what
+/// was received before, and all that follows from it.
 pub(crate) fn apply_to(state: &mut State, update: &Update) -> Result<bool, NoMemory>
     requires update { IsValidUpdate (update_value update.now) }
     requires sound { IsSound state.old }
@@ -25,19 +27,11 @@ pub(crate) fn apply_to(state: &mut State, update: &Update) -> Result<bool, NoMem
     ensures sound { IsSound state.new }
 {
     let deletes = brings_deletion(&state.named, &state.deletes, &update.deletes)?;
-    let count = state.names.len();
-    match draft_of(state, update) {
-        Ok(draft) => {
-            let brings = draft.brings || deletes;
-            state.taken = draft.taken;
-            state.named = draft.named;
-            state.vector = draft.vector;
-            state.orders = draft.orders;
-            state.deletes = draft.deletes;
-            Ok(brings)
-        }
+    let before = before_of(state)?;
+    match change(state, update) {
+        Ok(brings) => Ok(brings || deletes),
         Err(NoMemory) => {
-            state.names.truncate(count);
+            restore(state, before);
             Err(NoMemory)
         }
     }

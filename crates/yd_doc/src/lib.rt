@@ -12,14 +12,15 @@
 #![tactic(auto)]
 
 mod applying;
+mod changing;
 mod deleting;
-mod draft;
 mod fault;
 mod finding;
 mod listing;
 mod novelty;
 mod ordering;
 mod replica;
+mod restoring;
 mod state;
 mod waiting;
 

@@ -66,6 +66,7 @@ impl Replica {
                 taken: Vec::new(alloc),
                 named: IdSet::new(alloc),
                 vector: Vector::new(alloc),
+                lacks: Vec::new(alloc),
                 names: Vec::new(alloc),
                 orders: Vec::new(alloc),
                 deletes: IdSet::new(alloc),
@@ -84,6 +85,11 @@ impl Replica {
     /// brought something: an operation whose id was not received, or a deletion that was neither in
     /// the delete set nor waiting. Where memory ends it has received nothing of the update, tells
     /// what it told before, and is behind.
+    ///
+    /// What waits costs nothing until what it lacks is held. The call takes time with the update, with
+    /// the clients, the lists and the spans of deletions that are known, and an insertion for each part
+    /// of a run that is new. Where something is held, it also looks once at what was received before,
+    /// and puts each list that got units in order as a whole.
     pub fn apply(&mut self, update: &Update) -> Result<bool, NoMemory>
         requires { IsValidUpdate (update_value update.now) }
         ensures received { OnOk result (received_of self.new

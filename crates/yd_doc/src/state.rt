@@ -1,5 +1,6 @@
 //! What a replica keeps.
 
+use yd_held::Lack;
 use yd_ids::{Id, IdSet, Vector};
 use yd_ops::{List, Run};
 use yd_received::Taken;
@@ -15,6 +16,8 @@ pub struct State {
     pub named: IdSet,
     /// The clock up to which each client's units are held.
     pub vector: Vector,
+    /// What the next units of clients lack, by the ids that they lack.
+    pub lacks: Vec<Lack>,
     /// The lists with held units, by number.
     pub names: Vec<List>,
     /// The ids of the held units of each list, in order.

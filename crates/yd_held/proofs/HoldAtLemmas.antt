@@ -1,5 +1,5 @@
 -- Holding one entry: that its origins have numbers, where its own number stands, and which lists stay.
-use Rattle.std.proofs.Common.{◌≡◌, ◌≢◌, ℕ, suc, ◌+◌, ◌<◌, ◌≤◌, Bool, true, false, List, [], ◌∷◌, ◌++◌, inl, inr, Option, Some, None, length, set, get_or, max, nat_eq, refl, sym, ap, ◌∙◌, subst, arith, tests, length-set}
+use Rattle.std.proofs.Common.{◌≡◌, ◌≢◌, ℕ, suc, ◌+◌, ◌<◌, ◌≤◌, Bool, true, false, List, [], ◌∷◌, ◌++◌, ◌⊎◌, inl, inr, Option, Some, None, length, filter, set, get_or, max, nat_eq, refl, sym, ap, ◌∙◌, subst, arith, tests, length-set}
 use Rattle.std.specs.Prelude.{HoldsAt, slice_get, is_some, IfSome}
 use Rattle.std.proofs.lemmas.Option.{slice_get_read, slice_get_within}
 use Rattle.yd_ids.specs.declared.id.Client.{Client}
@@ -14,12 +14,18 @@ use Rattle.yd_received.specs.Taken.{held_in}
 use Rattle.yd_held.specs.Numbered.{number_of, is_in_list}
 use Rattle.yd_held.specs.Numbering.{NumbersList, NumbersEntry}
 use Rattle.yd_held.specs.Readiness.{first_list, is_ready}
-use Rattle.yd_held.specs.Holding.{IsHolding, HoldsMore, SetsMark, with_number, count_waiting}
-use Rattle.yd_held.proofs.NumberingLemmas.{filter-set, fewer_wait, operations-number}
+use Rattle.yd_held.specs.Holding.{IsHolding, HoldsMore, HoldsEntry, SetsMark, with_number, count_waiting}
+use Rattle.yd_held.proofs.NumberingLemmas.{filter-set, filter-grows, fewer_wait, operations-number}
 use Rattle.yd_held.proofs.HoldingLemmas.{ready_is}
 use Rattle.yd_held.proofs.HoldListLemmas.{numbered_id}
 use Rattle.yd_held.proofs.NumberedLemmas.{got_before, no_number, holding_after}
 use Rattle.yd_held.proofs.HoldStepLemmas.{Setting, origin_held}
+
+same_or_other : (m n : ℕ) → (m ≡ n) ⊎ (m ≢ n)
+same_or_other m n = grind arith
+
+own_number : (n : ℕ) → nat_eq n n ≡ true
+own_number n = grind (arith, tests)
 
 other_number : (m n : ℕ) → m ≢ n → nat_eq n m ≡ false
 other_number m n other = grind (arith, tests)
@@ -99,6 +105,14 @@ module _ (runs : List Run) (ts seen : List Taken) (vector : List (Client × ℕ)
   pub fewer_waiting : (n : ℕ) → count_waiting (set ts at (with_number t n)) < count_waiting ts
   fewer_waiting n = fewer_wait t n s.ready.waits ts at s.got
 
+  -- the list with its number has one entry more
+  grows_here : (n : ℕ) → length (filter (is_in_list n) (set ts at (with_number t n))) ≡ suc (length (filter (is_in_list n) ts))
+  grows_here n = filter-grows t (with_number t n) (is_in_list n) (without_number t n (no_number t.list s.ready.waits)) (own_number n) ts at s.got
+
+  pub holds_entry : (raised : List (Client × ℕ)) (n : ℕ) → RaisesOnly vector raised t.id.client.0 (t.id.clock + t.len) →
+      HoldsEntry at ts (set ts at (with_number t n)) vector raised
+  holds_entry raised n raises = record { entry = t; number = n; there = s.got; placed = refl; raises = raises }
+
   module _ (more : List DocList) (n : ℕ) (k : NumbersEntry runs seen names more t n) where
     known : NumbersEntry runs ts names more t n
     known = subst (λ us. NumbersEntry runs us names more t n) same k
@@ -119,5 +133,29 @@ module _ (runs : List Run) (ts seen : List Taken) (vector : List (Client × ℕ)
       each = omega (arith, m.each, (number_place runs ts vector names at t s more n known).1, each);
       kept = λ j f. let (other, unmarked) = m.kept j f in
           (unmarked, filter-set t (with_number t n) (is_in_list j) (without_number t j (no_number t.list s.ready.waits)) (other_number j n other) ts at s.got);
+      more = λ j f. elim (m.set j f) [
+        | inl same ↦ inr (rw same (omega (arith, grows_here n)))
+        | inr marked ↦ inl marked
+      ];
+      no_less = λ j. elim (same_or_other j n) [
+        | inl same ↦ rw same (omega (arith, grows_here n))
+        | inr other ↦ omega (arith, ap length (filter-set t (with_number t n) (is_in_list j) (without_number t j (no_number t.list s.ready.waits)) (other_number j n other) ts at s.got))
+      ];
       fewer = omega (arith, fewer_waiting n);
     }
+
+-- ---- one step after another
+
+pub more_then : (runs : List Run) (a b c : List Taken) (marks marked last : List Bool) (m n : ℕ) → HoldsMore runs a b marks marked m → HoldsMore runs b c marked last n → HoldsMore runs a c marks last n
+more_then runs a b c marks marked last m n first then = record {
+  operations = then.operations ∙ first.operations;
+  entries = then.entries ∙ first.entries;
+  each = then.each;
+  kept = λ j e. let (f, same) = then.kept j e in let (g, same_first) = first.kept j f in (g, same ∙ same_first);
+  more = λ j e. elim (then.more j e) [
+    | inl f ↦ elim (first.more j f) [ inl g ↦ inl g | inr g ↦ inr (omega (arith, g, then.no_less j)) ]
+    | inr f ↦ inr (omega (arith, f, first.no_less j))
+  ];
+  no_less = λ j. omega (arith, first.no_less j, then.no_less j);
+  fewer = omega (arith, first.fewer, then.fewer);
+}

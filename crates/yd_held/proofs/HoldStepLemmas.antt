@@ -18,13 +18,13 @@ use Rattle.yd_meaning.proofs.ClockLemmas.{AreReached, AreReady, AreFinal, raise_
 use Rattle.yd_received.specs.declared.taken.Taken.{Taken}
 use Rattle.yd_received.specs.Taken.{operations_of_taken, operations_in, held_in, is_held, IsTakenOf, AreInOrder, AreTaken}
 use Rattle.yd_held.specs.Numbered.{IsVectorOf}
-use Rattle.yd_held.specs.Readiness.{first_list}
+use Rattle.yd_held.specs.Readiness.{IsOriginOf, first_list}
 use Rattle.yd_held.specs.Holding.{IsHolding, with_number}
 use Rattle.yd_received.proofs.EntriesLemmas.{IsEntry}
 use Rattle.yd_held.proofs.HeldUnitLemmas.{covers_less, less_covers, covers_unit, unit_covers}
 use Rattle.yd_held.proofs.HeldEntryLemmas.{is_taken, received_written, held_written, held_entry, entry_held, held_received, one_of_entry}
 use Rattle.yd_held.proofs.NumberingLemmas.{entry_got, set_has_new, set_has, set_is, each_taken-number, order-number, operations-number}
-use Rattle.yd_held.proofs.HoldingLemmas.{IsOriginOf, unit_needs, IsReady, tells, has_needs, held_of_all, reached}
+use Rattle.yd_held.proofs.HoldingLemmas.{unit_needs, IsReady, tells, has_needs, held_of_all, reached}
 
 -- what is known where an entry is held
 pub record Setting (runs : List Run) (ts : List Taken) (vector : List (Client × ℕ)) (names : List DocList) (at : ℕ) (t : Taken) : Type 0 where

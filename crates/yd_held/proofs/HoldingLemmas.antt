@@ -21,16 +21,12 @@ use Rattle.yd_meaning.proofs.VectorLemmas.{held_below}
 use Rattle.yd_meaning.proofs.ClockLemmas.{AreReached}
 use Rattle.yd_received.specs.declared.taken.Taken.{Taken}
 use Rattle.yd_received.specs.Taken.{operations_of_taken, operations_in, held_in, is_held, IsTakenOf}
-use Rattle.yd_held.specs.Readiness.{is_below, is_none_or_below, first_list, is_ready}
+use Rattle.yd_held.specs.Readiness.{IsOriginOf, is_below, is_none_or_below, first_list, is_ready}
 use Rattle.yd_held.specs.Holding.{IsHolding}
 use Rattle.yd_held.proofs.HeldEntryLemmas.{held_written, held_received}
 use Rattle.yd_held.proofs.HeldUnitLemmas.{unit_cases}
 
 -- ---- what an operation needs
-
--- the id is an origin, or the item of a list
-abbrev pub IsOriginOf : Id → Option Id → Option Id → Option DocList → Type 0
-IsOriginOf x left right list = (left ≡ Some x) ⊎ ((right ≡ Some x) ⊎ (item_carried list ≡ Some x))
 
 given_is : (z : Option Id) (x : Id) → IsIn x (given z) → z ≡ Some x
 given_is None x i = absurd i

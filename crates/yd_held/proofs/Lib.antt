@@ -5,8 +5,14 @@ pub mod HoldAtLemmas
 pub mod HoldListLemmas
 pub mod HoldStepLemmas
 pub mod HoldingLemmas
+pub mod LackLemmas
 pub mod NamingLemmas
+pub mod NotedLemmas
 pub mod NumberOfLemmas
 pub mod NumberedLemmas
 pub mod NumberingLemmas
 pub mod ReadyLemmas
+pub mod RoundLemmas
+pub mod TryingLemmas
+pub mod UndoneLemmas
+pub mod UnreadyLemmas

@@ -1,5 +1,5 @@
 -- An entry that gets the number of a list: what stays of the entries, and what is held more.
-use Rattle.std.proofs.Common.{◌≡◌, ℕ, zero, suc, ◌<◌, Bool, true, false, cond, List, [], ◌∷◌, ◌++◌, ◌⊎◌, inl, inr, Option, Some, None, set, refl, sym, ap, ◌∙◌, subst, arith}
+use Rattle.std.proofs.Common.{◌≡◌, ℕ, zero, suc, ◌<◌, Bool, true, false, cond, List, [], ◌∷◌, ◌++◌, ◌⊎◌, inl, inr, Option, Some, None, length, set, refl, sym, ap, ◌∙◌, subst, arith}
 use Rattle.std.specs.Prelude.{filter, slice_get}
 use Rattle.yd_ids.specs.declared.id.Id.{Id}
 use Rattle.yd_ids.specs.Each.{Each}
@@ -47,6 +47,18 @@ module _ (t u : Taken) where
   filter-set test old new [] at e = refl
   filter-set test old new (s ∷ ss) zero e = rw (new, ap test (some_is e) ∙ old) refl
   filter-set test old new (s ∷ ss) (suc at) e = ap (λ rest. cond (test s) (s ∷ rest) rest) (filter-set test old new ss at e)
+
+  -- and of a test that the new one passes alone one more
+  pub filter-grows : (test : Taken → Bool) → test t ≡ false → test u ≡ true → (ts : List Taken) (at : ℕ) → slice_get ts at ≡ Some t →
+      length (filter test (set ts at u)) ≡ suc (length (filter test ts))
+  filter-grows test old new [] at e = absurd cc
+  filter-grows test old new (s ∷ ss) zero e = rw (new, ap test (some_is e) ∙ old) refl
+  filter-grows test old new (s ∷ ss) (suc at) e = go (test s) (filter-grows test old new ss at e)
+    where
+      go : (b : Bool) → length (filter test (set ss at u)) ≡ suc (length (filter test ss)) →
+          length (cond b (s ∷ filter test (set ss at u)) (filter test (set ss at u))) ≡ suc (length (cond b (s ∷ filter test ss) (filter test ss)))
+      go true rest = ap suc rest
+      go false rest = rest
 
 -- ---- a number at a place
 

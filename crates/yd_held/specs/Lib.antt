@@ -1,4 +1,6 @@
 pub mod Holding
+pub mod Noted
 pub mod Numbered
 pub mod Numbering
 pub mod Readiness
+pub mod Trying

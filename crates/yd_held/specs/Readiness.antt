@@ -1,5 +1,5 @@
 -- Which units have all that they need, by the state vector (own).
-use Rattle.std.specs.Prelude.{ℕ, Bool, true, not, ◌&&◌, List, Option, Some, None, slice_get, nat_eq, nat_lt}
+use Rattle.std.specs.Prelude.{◌≡◌, ◌⊎◌, ℕ, Bool, true, not, ◌&&◌, List, Option, Some, None, slice_get, nat_eq, nat_lt, if◌then◌else◌}
 use Rattle.yd_ids.specs.declared.id.Client.{Client}
 use Rattle.yd_ids.specs.declared.id.Id.{Id}
 use Rattle.yd_ids.specs.Vector.{clock_of}
@@ -13,6 +13,15 @@ use Rattle.yd_received.specs.Taken.{list_at, is_held}
 abbrev pub is_below : List (Client × ℕ) → Id → Bool
 is_below vector x = nat_lt x.clock (clock_of vector x.client.0)
 
+-- the id is an origin, or the item of a list
+abbrev pub IsOriginOf : Id → Option Id → Option Id → Option DocList → Type 0
+IsOriginOf x left right list = (left ≡ Some x) ⊎ ((right ≡ Some x) ⊎ (item_carried list ≡ Some x))
+
+-- the id, if there is one and its clock is not below its client's
+abbrev pub missing_of : List (Client × ℕ) → Option Id → Option Id
+missing_of vector None = None
+missing_of vector (Some x) = if is_below vector x then None else Some x
+
 -- whether there is no id, or one whose clock is below its client's
 abbrev pub is_none_or_below : List (Client × ℕ) → Option Id → Bool
 is_none_or_below vector None = true
@@ -21,6 +30,15 @@ is_none_or_below vector (Some x) = is_below vector x
 -- the list that the first of the units carries
 abbrev pub first_list : List Run → Taken → Option DocList
 first_list runs t = list_at (slice_get runs t.run) t.offset
+
+-- the one id, or where it is absent the other
+abbrev pub first_of : Option Id → Option Id → Option Id
+first_of None other = other
+first_of (Some x) other = Some x
+
+-- what units at their client's clock lack: an origin, or the item of the list that the first of them carries
+abbrev pub lack_of : List (Client × ℕ) → List Run → Taken → Option Id
+lack_of vector runs t = first_of (missing_of vector t.left) (first_of (missing_of vector t.right) (missing_of vector (item_carried (first_list runs t))))
 
 -- whether the units wait, begin at their client's clock, and have their origins and the item of their list below the vector
 abbrev pub is_ready : List (Client × ℕ) → List Run → Taken → Bool

@@ -1,51 +1,62 @@
 //! Holding what has all that it needs.
 
-ghost use Rattle.std.specs.Prelude.{◌≡◌, ◌<◌, ◌≤◌, true, false, length, replicate};
-ghost use Rattle.std.specs.Prelude.{HoldsAt, IsTrue, OnOk, IfOk};
+ghost use Rattle.std.specs.Prelude.{◌≡◌, ◌<◌, ◌≤◌, [], true, false, length, replicate, map, filter};
+ghost use Rattle.std.specs.Prelude.{HoldsAt, OnOk, OnErr, IfOk};
 ghost use Rattle.yd_meaning.specs.Held.{held_set};
-ghost use Rattle.yd_received.specs.Taken.{AreTaken, operations_in, held_in, GrowBy};
+ghost use Rattle.yd_received.specs.Taken.{AreTaken, operations_in, held_in, is_of_first, GrowBy};
 ghost use Rattle.yd_held.specs.Numbered.{AreNumbered, IsVectorOf};
-ghost use Rattle.yd_held.specs.Holding.{MarkChanges, SetsMark};
-ghost use Rattle.yd_held.specs.Holding.{IsHolding, HoldsMore, AreUnready, count_waiting};
+ghost use Rattle.yd_held.specs.Holding.{HoldsAll, MarkChanges, IsHolding, HoldsMore};
+ghost use Rattle.yd_held.specs.Holding.{HoldsEntry, SetsMark, count_waiting, undone};
+ghost use Rattle.yd_held.specs.Noted.{AreNoted};
 ghost use Rattle.yd_held.specs.Readiness.{is_ready};
 
 use crate::fault::NoMemory;
+use crate::noting::{Lack, wake};
 use crate::numbering::number_for;
-use crate::readiness::is_ready;
-use crate::waking::{Lack, lacks_of, waiting_places, wake};
+use crate::trying::{clients_from, next_ready};
 use std::alloc::Global;
 use yd_ids::Vector;
 use yd_ops::{List, Run};
 use yd_received::Taken;
 
-/// Holds what can be held, and answers a mark for each list: one without a mark got no units. The
-/// names of new lists go behind the others; where memory ends nothing else is promised. What waits
-/// is sorted by what it lacks and woken by it, which is for speed alone: no clause speaks of it.
+/// Holds what can be held when the runs from one on are new, and answers a mark for each list: one
+/// with a mark got units, and one without got none. What lacks something is noted by it, once for
+/// each client, and tried again as soon as that is held. So it takes a few look-ups for each new run,
+/// for each entry that is held, and for each time that an entry is tried. The names of new lists go
+/// behind the others. Where memory ends, names may have been added and units held; put to wait
+/// again, these are as they were.
 pub fn hold_all(
     alloc: Global,
     runs: &[Run],
+    from: usize,
     taken: &mut Vec<Taken>,
     vector: &mut Vector,
     names: &mut Vec<List>,
+    lacks: &mut Vec<Lack>,
 ) -> Result<Vec<bool>, NoMemory>
+    requires from { from ≤ length runs.now }
     requires taken { AreTaken runs.now taken.old.items }
     requires own { held_in runs.now taken.old.items ≡ held_set (held_in runs.now taken.old.items) }
     requires vector { IsVectorOf vector.old runs.now taken.old.items }
     requires numbered { AreNumbered runs.now taken.old.items names.old.items }
-    ensures held { OnOk result (held_in runs.now taken.new.items
-        ≡ held_set (operations_in runs.now taken.new.items)) }
+    requires noted { AreNoted vector.old runs.now lacks.old.items []
+        (filter (is_of_first from) taken.old.items) }
+    ensures holds { OnOk result (HoldsAll runs.now taken.new.items vector.new names.new.items
+        lacks.new.items) }
     ensures operations { OnOk result (operations_in runs.now taken.new.items
         ≡ operations_in runs.now taken.old.items) }
-    ensures taken { OnOk result (AreTaken runs.now taken.new.items) }
-    ensures vector { OnOk result (IsVectorOf vector.new runs.now taken.new.items) }
-    ensures numbered { OnOk result (AreNumbered runs.now taken.new.items names.new.items) }
     ensures marked { IfOk result (λ stale. MarkChanges stale.items
         taken.old.items taken.new.items (length names.new.items)) }
+    ensures undone { map (undone vector.old) taken.new.items
+        ≡ map (undone vector.old) taken.old.items }
     ensures grows { GrowBy names.old.items names.new.items }
 {
     let mut stale = unmarked(alloc, names.len())?;
-    hold_woken(alloc, runs, taken, vector, names, &mut stale)?;
-    while hold_ready(runs, taken, vector, names, &mut stale)? {}
+    let mut tries = clients_from(alloc, runs, from)?;
+    while let Some(at) = next_ready(runs, taken, vector, lacks, &mut tries)? {
+        hold_at(runs, taken, vector, names, &mut stale, at)?;
+        wake(lacks, &mut tries, taken[at])?;
+    }
     Ok(stale)
 }
 
@@ -55,102 +66,6 @@ fn unmarked(alloc: Global, count: usize) -> Result<Vec<bool>, NoMemory>
 {
     let stale = vec![in alloc; false; count]?;
     Ok(stale)
-}
-
-/// Tries each entry that waits, and again each that follows on one that is held then, or lacked
-/// one of its units. So a long chain does not take a pass for each step. That it finds all is not
-/// promised.
-fn hold_woken(
-    alloc: Global,
-    runs: &[Run],
-    taken: &mut Vec<Taken>,
-    vector: &mut Vector,
-    names: &mut Vec<List>,
-    stale: &mut Vec<bool>,
-) -> Result<(), NoMemory>
-    requires holding { IsHolding runs.now taken.old.items vector.old names.old.items }
-    requires marks { length stale.old.items ≡ length names.old.items }
-    ensures holding { OnOk result
-        (IsHolding runs.now taken.new.items vector.new names.new.items) }
-    ensures more { OnOk result (HoldsMore runs.now taken.old.items taken.new.items
-        stale.old.items stale.new.items (length names.new.items)) }
-    ensures grows { GrowBy names.old.items names.new.items }
-{
-    let lacks = lacks_of(alloc, runs, taken, vector)?;
-    let mut places = waiting_places(alloc, taken)?;
-    'rounds: while !places.is_empty() {
-        places = hold_places(alloc, runs, taken, vector, names, stale, &lacks, &places)?;
-    }
-    Ok(())
-}
-
-/// Holds those of the entries at these places that are ready, and answers the places that are to be
-/// tried then.
-fn hold_places(
-    alloc: Global,
-    runs: &[Run],
-    taken: &mut Vec<Taken>,
-    vector: &mut Vector,
-    names: &mut Vec<List>,
-    stale: &mut Vec<bool>,
-    lacks: &[Lack],
-    places: &[usize],
-) -> Result<Vec<usize>, NoMemory>
-    requires holding { IsHolding runs.now taken.old.items vector.old names.old.items }
-    requires marks { length stale.old.items ≡ length names.old.items }
-    ensures holding { OnOk result
-        (IsHolding runs.now taken.new.items vector.new names.new.items) }
-    ensures more { OnOk result (HoldsMore runs.now taken.old.items taken.new.items
-        stale.old.items stale.new.items (length names.new.items)) }
-    ensures some { IfOk result (λ next. 0 < length next.items
-        → count_waiting taken.new.items < count_waiting taken.old.items) }
-    ensures grows { GrowBy names.old.items names.new.items }
-{
-    let mut next = Vec::new(alloc);
-    for place in places {
-        let at = *place;
-        if at >= taken.len() {
-            continue;
-        }
-        if !is_ready(runs, vector, taken[at]) {
-            continue;
-        }
-        hold_at(runs, taken, vector, names, stale, at)?;
-        next.push(at + 1)?;
-        wake(lacks, taken[at], &mut next)?;
-    }
-    Ok(next)
-}
-
-/// Holds each entry that is ready when its turn comes, and answers whether there was one. The lists
-/// that it is held in are marked.
-fn hold_ready(
-    runs: &[Run],
-    taken: &mut Vec<Taken>,
-    vector: &mut Vector,
-    names: &mut Vec<List>,
-    stale: &mut Vec<bool>,
-) -> Result<bool, NoMemory>
-    requires holding { IsHolding runs.now taken.old.items vector.old names.old.items }
-    requires marks { length stale.old.items ≡ length names.old.items }
-    ensures holding { OnOk result
-        (IsHolding runs.now taken.new.items vector.new names.new.items) }
-    ensures more { OnOk result (HoldsMore runs.now taken.old.items taken.new.items
-        stale.old.items stale.new.items (length names.new.items)) }
-    ensures some { IfOk result (λ some. IsTrue some
-        → count_waiting taken.new.items < count_waiting taken.old.items) }
-    ensures none { IfOk result (λ some. some ≡ false
-        → AreUnready vector.new runs.now taken.new.items) }
-    ensures grows { GrowBy names.old.items names.new.items }
-{
-    let mut some = false;
-    for at in 0..taken.len() {
-        if is_ready(runs, vector, taken[at]) {
-            hold_at(runs, taken, vector, names, stale, at)?;
-            some = true;
-        }
-    }
-    Ok(some)
 }
 
 /// Holds an entry that is ready.
@@ -173,6 +88,9 @@ fn hold_at(
         stale.old.items stale.new.items (length names.new.items)) }
     ensures fewer { OnOk result
         (count_waiting taken.new.items < count_waiting taken.old.items) }
+    ensures held { OnOk result
+        (HoldsEntry at taken.old.items taken.new.items vector.old vector.new) }
+    ensures unchanged { OnErr result ((taken.new ≡ taken.old) × (vector.new ≡ vector.old)) }
     ensures grows { GrowBy names.old.items names.new.items }
 {
     let mut entry = taken[at];

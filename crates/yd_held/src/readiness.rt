@@ -1,44 +1,46 @@
-//! Which units have all that they need.
+//! What units lack.
 
-ghost use Rattle.std.specs.Prelude.{◌≡◌, Some, IfSome, true};
+ghost use Rattle.std.specs.Prelude.{◌≡◌, IfSome};
 ghost use Rattle.yd_ids.specs.Id.{IsId};
 ghost use Rattle.yd_meaning.specs.Names.{item_of_parent};
 ghost use Rattle.yd_meaning.specs.Held.{item_carried};
 ghost use Rattle.yd_received.specs.Taken.{IsTakenOf};
-ghost use Rattle.yd_held.specs.Readiness.{is_below, is_none_or_below, first_list, is_ready};
+ghost use Rattle.yd_held.specs.Readiness.{missing_of, lack_of, first_list};
 
 use yd_ids::{Id, Vector};
 use yd_ops::{List, Parent, Run};
 use yd_received::Taken;
 
-/// The units wait and have all that they need: they begin at their client's clock, and the origins
-/// of the first and the item of the list that it carries are held. The others then have it too,
-/// since each needs the one before it and the same right origin. It takes time with the logarithm
-/// of how many clients there are.
-pub(crate) fn is_ready(runs: &[Run], vector: &Vector, entry: Taken) -> bool
+/// What units at their client's clock lack: an origin of the first, or the item of the list that it
+/// carries, which is not held. The later ones need the one before them and the same right origin.
+/// It takes time with the logarithm of how many clients there are.
+pub(crate) fn lack_of(runs: &[Run], vector: &Vector, entry: Taken) -> Option<Id>
     requires { IsTakenOf runs.now entry }
-    ensures { result ≡ is_ready vector.now runs.now entry }
+    ensures { result ≡ lack_of vector.now runs.now entry }
 {
-    entry.list.is_none()
-        && entry.id.clock == vector.get(entry.id.client)
-        && is_none_or_below(vector, entry.left)
-        && is_none_or_below(vector, entry.right)
-        && is_none_or_below(vector, first_item(runs, entry))
+    if let Some(id) = missing_of(vector, entry.left) {
+        return Some(id);
+    }
+    if let Some(id) = missing_of(vector, entry.right) {
+        return Some(id);
+    }
+    missing_of(vector, first_item(runs, entry))
 }
 
-/// There is no id, or it is held.
-fn is_none_or_below(vector: &Vector, id: Option<Id>) -> bool
+/// The id, if there is one and it is not held.
+fn missing_of(vector: &Vector, id: Option<Id>) -> Option<Id>
     requires { IfSome id IsId }
-    ensures { result ≡ is_none_or_below vector.now id }
+    ensures { result ≡ missing_of vector.now id }
 {
-    match id {
-        None => true,
-        Some(id) => id.clock < vector.get(id.client),
+    let id = id?;
+    if id.clock < vector.get(id.client) {
+        return None;
     }
+    Some(id)
 }
 
 /// The item of the list that the first of the units carries.
-pub(crate) fn first_item(runs: &[Run], entry: Taken) -> Option<Id>
+fn first_item(runs: &[Run], entry: Taken) -> Option<Id>
     requires { IsTakenOf runs.now entry }
     ensures item { result ≡ item_carried (first_list runs.now entry) }
     ensures is_id { IfSome result IsId }

@@ -1,7 +1,11 @@
 use Rattle.std.proofs.Common.{◌∙◌}
-use Rattle.yd_app.proofs.ReceivingLemmas.{named_at, so_far_more, stops_at, stops_passed}
+use Rattle.yd_app.proofs.ReceivingLemmas.{named_at, so_far_none, so_far_more, stops_at, stops_passed}
+use Rattle.yd_doc.specs.Kept.{received_of}
 use Rattle.yd_app.specs.Stopping.{IsNoReadFault}
 use Rattle.yd_app.proofs.receiving.receive_files.Goals as goal
+
+pub loop-file-init : goal.loop-file-init
+loop-file-init g c = so_far_none _ _ _ _ (received_of c.in_ok-replica.replica) c.in_ok-replica.ensures.received
 
 pub returns-in_err-receive_file-clause-stops : goal.returns-in_err-receive_file-clause-stops
 returns-in_err-receive_file-clause-stops g c =

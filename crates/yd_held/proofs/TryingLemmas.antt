@@ -1,0 +1,82 @@
+-- One client is tried: its next units are ready, or what they lack is noted, or it has none.
+use Rattle.std.proofs.Common.{◌≡◌, ℕ, zero, suc, ◌+◌, ◌<◌, true, false, List, [], ◌∷◌, ◌++◌, inl, inr, Option, Some, None, length, take, get_or, sym, ap, ◌∙◌, subst, arith}
+use Rattle.std.specs.Prelude.{HoldsAt, slice_get}
+use Rattle.std.proofs.lemmas.List.{get_or_default}
+use Rattle.yd_ids.specs.declared.id.Client.{Client}
+use Rattle.yd_ids.specs.declared.id.Id.{Id}
+use Rattle.yd_ids.specs.Each.{Each}
+use Rattle.yd_ids.specs.Vector.{clock_of}
+use Rattle.yd_ops.specs.declared.runs.Run.{Run}
+use Rattle.yd_received.specs.declared.taken.Taken.{Taken}
+use Rattle.yd_received.specs.Taken.{is_held, IsTakenOf, AreInOrder}
+use Rattle.yd_received.proofs.EntriesLemmas.{entry_at, each_entry}
+use Rattle.yd_held.specs.declared.noting.Lack.{Lack}
+use Rattle.yd_held.specs.Readiness.{lack_of, is_ready}
+use Rattle.yd_held.specs.Noted.{StandsIn, with_lack, AreNoted, Finds}
+use Rattle.yd_held.specs.Trying.{Tries, IsNext, AreWaiting}
+use Rattle.yd_held.proofs.NotedLemmas.{in_either, lacks_nothing, noted_among, noted_without, noted_more}
+
+-- ---- clients of runs
+
+each_stays : {X Y : Type 0} (f : X → Y) (xs : List X) (ys more : List Y) → ((y : Y) → StandsIn y ys → StandsIn y more) →
+    Each (λ x. StandsIn (f x) ys) xs → Each (λ x. StandsIn (f x) more) xs
+each_stays f [] ys more stay each = tt
+each_stays f (x ∷ xs) ys more stay each = (stay (f x) each.0, each_stays f xs ys more stay each.1)
+
+-- what is true of each before a place and there is true of each up to the next place
+each_next : {X : Type 0} (P : X → Type 0) (xs : List X) (k : ℕ) (x : X) → k < length xs → x ≡ get_or xs k x → Each P (take k xs) → P x → Each P (take (suc k) xs)
+each_next P [] k x lt e each here = absurd (omega arith)
+each_next P (y ∷ ys) zero x lt e each here = (subst P e here, tt)
+each_next P (y ∷ ys) (suc k) x lt e each here = (each.0, each_next P ys k x (omega arith) e each.1 here)
+
+-- the client of one more run is among the clients then
+pub client_more : (runs : List Run) (k : ℕ) (run : Run) (clients more : List Client) → k < length runs → run ≡ get_or runs k run →
+    Tries run.id.client clients more → Each (λ (r : Run). StandsIn r.id.client clients) (take k runs) → Each (λ (r : Run). StandsIn r.id.client more) (take (k + 1) runs)
+client_more runs k run clients more lt is tries each =
+    let next : suc k ≡ k + 1 = omega arith in
+    subst (λ n. Each (λ (r : Run). StandsIn r.id.client more) (take n runs)) next
+    (each_next (λ (r : Run). StandsIn r.id.client more) runs k run lt is (each_stays (λ (r : Run). r.id.client) (take k runs) clients more tries.stay each) tries.here)
+
+-- what is got of a list stands in it
+pub got_in : {X : Type 0} (xs : List X) (n : ℕ) (x : X) → slice_get xs n ≡ Some x → StandsIn x xs
+got_in [] n x e = absurd cc
+got_in (y ∷ ys) zero x e = inl (sym (some_is y x e))
+  where
+    some_is : {X : Type 0} (a b : X) → ◌≡◌ {A = Option X} (Some a) (Some b) → a ≡ b
+    some_is a b e = cc
+got_in (y ∷ ys) (suc n) x e = inr (got_in ys n x e)
+
+-- ---- the client that is tried
+
+module _ (vector : List (Client × ℕ)) (runs : List Run) (ts : List Taken) (each : Each (IsTakenOf runs) ts) (order : AreInOrder ts) (waiting : AreWaiting vector ts)
+    (lacks : List Lack) (tries rest : List Client) (client : Client) (popped : tries ≡ rest ++ client ∷ []) (noted : AreNoted vector runs lacks tries ts) where
+  -- it stands last
+  noted_popped : AreNoted vector runs lacks (client ∷ rest) ts
+  noted_popped = noted_among vector runs lacks tries (client ∷ rest) ts (λ other i. elim (in_either other rest (client ∷ []) (subst (StandsIn other) popped i)) [
+    | inl j ↦ inr j
+    | inr (inl e) ↦ inl e
+    | inr (inr none) ↦ absurd none
+  ]) noted
+
+  pub tried_without : Each (λ t. IsNext vector client t → ⊥) ts → AreNoted vector runs lacks rest ts
+  tried_without none = noted_without vector runs lacks client rest ts none noted_popped
+
+  module _ (at : ℕ) (lt : at < length ts) (next : HoldsAt (IsNext vector client) ts at) (d : Taken) where
+    there : IsNext vector client (get_or ts at d)
+    there = next d
+
+    pub tried_noted : (x : Id) → lack_of vector runs (get_or ts at d) ≡ Some x → AreNoted vector runs (with_lack (record { id = x; client = client }) lacks) rest ts
+    tried_noted x lacked = noted_more vector runs lacks client rest ts each order (get_or ts at d) (entry_at ts at d lt) there x lacked noted_popped
+
+    pub tried_ready : lack_of vector runs (get_or ts at d) ≡ None → Finds vector runs ts lacks rest (Some at)
+    tried_ready none = (lt, λ e. subst (λ u. (is_ready vector runs u ≡ true) × AreNoted vector runs lacks (u.id.client ∷ rest) ts) (get_or_default ts at d e lt) here)
+      where
+        at_clock : (get_or ts at d).id.clock ≡ clock_of vector (get_or ts at d).id.client.0
+        at_clock = there.at_clock ∙ ap (λ (c : Client). clock_of vector c.0) (sym there.of_client)
+
+        here : (is_ready vector runs (get_or ts at d) ≡ true) × AreNoted vector runs lacks ((get_or ts at d).id.client ∷ rest) ts
+        here = (
+          lacks_nothing vector runs (get_or ts at d) none
+              (each_entry (λ u. u.id.clock ≡ clock_of vector u.id.client.0 → is_held u ≡ false) ts waiting (get_or ts at d) (entry_at ts at d lt) at_clock) at_clock,
+          subst (λ c. AreNoted vector runs lacks (c ∷ rest) ts) (sym there.of_client) noted_popped,
+        )

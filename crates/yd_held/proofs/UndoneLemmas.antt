@@ -1,0 +1,39 @@
+-- Units that are held and put to wait again are as they were.
+use Rattle.std.proofs.Common.{◌≡◌, ◌≢◌, ℕ, zero, suc, ◌≤◌, false, List, [], ◌∷◌, ◌⊎◌, inl, inr, Option, Some, map, set, refl, sym, ap, ◌∙◌, arith, tests}
+use Rattle.std.specs.Prelude.{slice_get}
+use Rattle.yd_ids.specs.declared.id.Client.{Client}
+use Rattle.yd_ids.specs.declared.id.Id.{Id}
+use Rattle.yd_ids.specs.Vector.{clock_of}
+use Rattle.yd_received.specs.declared.taken.Taken.{Taken}
+use Rattle.yd_held.specs.Readiness.{is_below}
+use Rattle.yd_held.specs.Holding.{with_number, HoldsEntry, undone}
+
+some_is : {X : Type 0} (a b : X) → ◌≡◌ {A = Option X} (Some a) (Some b) → a ≡ b
+some_is a b e = cc
+
+map-set : {X Y : Type 0} (f : X → Y) (xs : List X) (at : ℕ) (x y : X) → slice_get xs at ≡ Some x → f y ≡ f x → map f (set xs at y) ≡ map f xs
+map-set f [] at x y e same = refl
+map-set f (z ∷ zs) zero x y e same = ap (λ w. w ∷ map f zs) (same ∙ ap f (sym (some_is z x e)))
+map-set f (z ∷ zs) (suc at) x y e same = ap (λ ws. f z ∷ ws) (map-set f zs at x y e same)
+
+above_not : (vector : List (Client × ℕ)) (x : Id) → clock_of vector x.client.0 ≤ x.clock → is_below vector x ≡ false
+above_not vector x le = grind (arith, tests)
+
+undone_number : (vector : List (Client × ℕ)) (t : Taken) (n : ℕ) → is_below vector t.id ≡ false → undone vector (with_number t n) ≡ undone vector t
+undone_number vector t n e = rw e refl
+
+same_or_other : (m n : ℕ) → (m ≡ n) ⊎ (m ≢ n)
+same_or_other m n = grind arith
+
+module _ (first : List (Client × ℕ)) (at : ℕ) (ts new : List Taken) (vector raised : List (Client × ℕ)) (h : HoldsEntry at ts new vector raised)
+    (rises : (client : ℕ) → clock_of first client ≤ clock_of vector client) where
+  pub undone_after : h.entry.id.clock ≡ clock_of vector h.entry.id.client.0 → map (undone first) new ≡ map (undone first) ts
+  undone_after begins = ap (map (undone first)) h.placed
+      ∙ map-set (undone first) ts at h.entry (with_number h.entry h.number) h.there
+      (undone_number first h.entry h.number (above_not first h.entry.id (omega (arith, rises h.entry.id.client.0, begins))))
+
+  pub rises_after : (client : ℕ) → clock_of first client ≤ clock_of raised client
+  rises_after client = elim (same_or_other client h.entry.id.client.0) [
+    | inl same ↦ omega (arith, rises client, h.raises.this_client, ap (clock_of vector) same, ap (clock_of raised) same)
+    | inr other ↦ omega (arith, rises client, h.raises.other_clients client other)
+  ]

@@ -1,0 +1,22 @@
+-- The next units of clients: those at the clock up to which the client's units are held (own).
+use Rattle.std.specs.Prelude.{◌≡◌, ℕ, false, List}
+use Rattle.yd_ids.specs.declared.id.Client.{Client}
+use Rattle.yd_ids.specs.Each.{Each}
+use Rattle.yd_ids.specs.Vector.{clock_of}
+use Rattle.yd_received.specs.declared.taken.Taken.{Taken}
+use Rattle.yd_received.specs.Taken.{is_held}
+use Rattle.yd_held.specs.Noted.{StandsIn}
+
+-- the client is among those that are to be tried, as are all that were
+pub record Tries (client : Client) (old new : List Client) : Type 0 where
+  pub here : StandsIn client new
+  pub stay : (other : Client) → StandsIn other old → StandsIn other new
+
+-- the units are the client's next ones
+pub record IsNext (vector : List (Client × ℕ)) (client : Client) (t : Taken) : Type 0 where
+  pub of_client : t.id.client ≡ client
+  pub at_clock : t.id.clock ≡ clock_of vector client.0
+
+-- units at their client's clock wait
+abbrev pub AreWaiting : List (Client × ℕ) → List Taken → Type 0
+AreWaiting vector taken = Each (λ t. t.id.clock ≡ clock_of vector t.id.client.0 → is_held t ≡ false) taken

@@ -1,0 +1,108 @@
+//! Which units are to be held next.
+
+ghost use Rattle.std.specs.Prelude.{◌≡◌, ◌≢◌, ◌<◌, ◌≤◌, ◌++◌, [], false, length, drop, HoldsAt, OnOk, IfOk, MatchOption};
+ghost use Rattle.yd_ids.specs.declared.id.Client.{Client};
+ghost use Rattle.yd_ids.specs.Each.{Each};
+ghost use Rattle.yd_ids.specs.Vector.{clock_of};
+ghost use Rattle.yd_ops.specs.declared.runs.Run.{Run};
+ghost use Rattle.std.specs.Bool.{OnTrue};
+ghost use Rattle.yd_ids.specs.Id.{IsId};
+ghost use Rattle.yd_received.specs.Taken.{AreInOrder, IsTakenOf};
+ghost use Rattle.yd_received.specs.Taking.{HasUnits};
+ghost use Rattle.yd_held.specs.Noted.{AreNoted, Finds, StandsIn};
+ghost use Rattle.yd_held.specs.Trying.{Tries, IsNext, AreWaiting};
+
+use crate::fault::NoMemory;
+use crate::noting::{Lack, note};
+use crate::readiness::lack_of;
+use std::alloc::Global;
+use yd_ids::{Client, Id, Vector};
+use yd_ops::Run;
+use yd_received::{Taken, entry_at};
+
+/// No client has this number or a greater one.
+const CLIENTS_END: u64 = 1 << 53;
+
+/// The clients of the runs from one on, each of a row of runs once.
+pub(crate) fn clients_from(
+    alloc: Global,
+    runs: &[Run],
+    from: usize,
+) -> Result<Vec<Client>, NoMemory>
+    requires { from ≤ length runs.now }
+    ensures { IfOk result (λ clients.
+        Each (λ (run : Run). StandsIn run.id.client clients.items) (drop from runs.now)) }
+{
+    let mut clients = Vec::new(alloc);
+    for run in &runs[from..] {
+        try_client(&mut clients, run.id.client)?;
+    }
+    Ok(clients)
+}
+
+/// Puts a client behind the others, unless it stands last.
+fn try_client(clients: &mut Vec<Client>, client: Client) -> Result<(), NoMemory>
+    ensures { OnOk result (Tries client clients.old.items clients.new.items) }
+{
+    if is_last(clients, client) {
+        return Ok(());
+    }
+    clients.push(client)?;
+    Ok(())
+}
+
+/// The client stands last.
+fn is_last(clients: &[Client], client: Client) -> bool
+    ensures { OnTrue result (StandsIn client clients.now) }
+{
+    match clients.last() {
+        None => false,
+        Some(last) => last.0 == client.0,
+    }
+}
+
+/// The place of units that have all that they need, and are the next of a client that is to be tried.
+/// Those that lack something are noted by it.
+pub(crate) fn next_ready(
+    runs: &[Run],
+    taken: &[Taken],
+    vector: &Vector,
+    lacks: &mut Vec<Lack>,
+    tries: &mut Vec<Client>,
+) -> Result<Option<usize>, NoMemory>
+    requires each { Each (IsTakenOf runs.now) taken.now }
+    requires in_order { AreInOrder taken.now }
+    requires waiting { AreWaiting vector.now taken.now }
+    requires noted { AreNoted vector.now runs.now lacks.old.items tries.old.items taken.now }
+    ensures { IfOk result (Finds vector.now runs.now taken.now lacks.new.items tries.new.items) }
+{
+    while let Some(client) = tries.pop() {
+        if let Some(at) = next_of(taken, vector, client) {
+            let entry = taken[at];
+            match lack_of(runs, vector, entry) {
+                None => return Ok(Some(at)),
+                Some(id) => note(lacks, Lack { id, client })?,
+            }
+        }
+    }
+    Ok(None)
+}
+
+/// The place of the units at the client's clock, and none where they were not received. It takes time
+/// with the logarithm of how many entries there are.
+fn next_of(taken: &[Taken], vector: &Vector, client: Client) -> Option<usize>
+    requires units { Each HasUnits taken.now }
+    requires ids { Each (λ t. IsId t.id) taken.now }
+    requires in_order { AreInOrder taken.now }
+    ensures { MatchOption result (Each (λ t. IsNext vector.now client t → ⊥) taken.now)
+        (λ at. (at < length taken.now) × HoldsAt (IsNext vector.now client) taken.now at) }
+{
+    if client.0 >= CLIENTS_END {
+        return None;
+    }
+    let id = Id {
+        client,
+        clock: vector.get(client),
+    };
+    entry_at(taken, id)
+}
