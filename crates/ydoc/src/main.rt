@@ -1,5 +1,6 @@
 //! `ydoc` shows what stands in Yjs updates and converts them: the program over the system's files
-//! and streams.
+//! and streams. Its words go to `yd_app::run`, which has all promises; what is left here is to take
+//! them from the system, and to end with the status that `run` answers.
 #![tactic(auto)]
 
 use std::env;
