@@ -1,7 +1,7 @@
 //! Public calls of replicas and of views, and what they tell of small updates.
 //!
-//! Updates of one or two clients are received in either order; what then is held, waits, stands in a
-//! list, is deleted and is shown is compared with values worked by hand.
+//! Updates of one or two clients are received, also before what they need; what then is held, waits,
+//! stands in a list, is deleted and is shown is compared with values worked by hand.
 #![tactic(auto)]
 
 #[cfg(test)]

@@ -1,10 +1,10 @@
 //! Calls of `yd_doc` and of `yd_view`.
 
-use crate::samples::{A, LATER};
+use crate::samples::{A, B, DELETION, LATER};
 use std::alloc::Global;
 use std::test::Fail;
 use yd_any::Text;
-use yd_doc::{Replica, Waiting};
+use yd_doc::{ListView, Replica, Waiting};
 use yd_ids::{Client, Id};
 use yd_ops::{List, Parent};
 use yd_v1::read_v1;
@@ -24,6 +24,28 @@ fn root(alloc: Global) -> Result<List, Fail> {
         parent: Parent::Root(name),
         key: None,
     })
+}
+
+/// Client 1's unit 0.
+const FIRST: Id = Id {
+    client: Client(1),
+    clock: 0,
+};
+
+/// The id, the number of units and the deletion of the next piece.
+fn next_of(view: &mut ListView<'_>) -> Option<(Id, u64, bool)> {
+    let piece = view.next()?;
+    Some((piece.id, piece.len, piece.deleted))
+}
+
+/// The units of the root `t` after two updates.
+fn shown(alloc: Global, one: &[u8], other: &[u8]) -> Result<(Option<u16>, Option<u16>), Fail> {
+    let mut replica = Replica::new(alloc, Client(9))?;
+    receive(alloc, &mut replica, one)?;
+    receive(alloc, &mut replica, other)?;
+    let list = root(alloc)?;
+    let units = text(alloc, &replica, &list)?;
+    Ok((units.unit(0), units.unit(1)))
 }
 
 #[test]
@@ -57,14 +79,38 @@ fn a_list_has_a_last_unit_and_a_text(rt: HostRuntime) -> Result<(), Fail> {
     let mut replica = Replica::new(rt.alloc(), Client(9))?;
     receive(rt.alloc(), &mut replica, &A)?;
     let list = root(rt.alloc())?;
-    let only = Id {
-        client: Client(1),
-        clock: 0,
-    };
-    assert_eq!(rt; replica.last_of(&list), Some(only));
-    assert!(rt; replica.list(&list).next().is_some());
+    assert_eq!(rt; replica.last_of(&list), Some(FIRST));
+    let mut view = replica.list(&list);
+    assert_eq!(rt; next_of(&mut view), Some((FIRST, 1, false)));
+    assert_eq!(rt; next_of(&mut view), None);
     let units = text(rt.alloc(), &replica, &list)?;
     assert_eq!(rt; (units.len(), units.unit(0)), (1, Some(0x61)));
+    Ok(())
+}
+
+#[test]
+fn two_clients_are_shown_alike_in_either_order(rt: HostRuntime) -> Result<(), Fail> {
+    assert_eq!(rt; shown(rt.alloc(), &A, &B)?, (Some(0x61), Some(0x62)));
+    assert_eq!(rt; shown(rt.alloc(), &B, &A)?, (Some(0x61), Some(0x62)));
+    Ok(())
+}
+
+#[test]
+fn a_deletion_waits_until_its_unit_is_held(rt: HostRuntime) -> Result<(), Fail> {
+    let mut replica = Replica::new(rt.alloc(), Client(9))?;
+    assert_eq!(rt; receive(rt.alloc(), &mut replica, &DELETION)?, true);
+    assert_eq!(rt;
+        replica.waiting(),
+        Waiting {
+            structs: 0,
+            deletes: 1
+        }
+    );
+    assert_eq!(rt; receive(rt.alloc(), &mut replica, &DELETION)?, false);
+    assert!(rt; !replica.deletes().has(FIRST));
+    receive(rt.alloc(), &mut replica, &A)?;
+    assert!(rt; replica.deletes().has(FIRST));
+    assert_eq!(rt; replica.waiting().deletes, 0);
     Ok(())
 }
 
