@@ -4,6 +4,9 @@
 //! else than before.
 #![tactic(auto)]
 
+ghost use Rattle.yd_ops.specs.Valid.{IsValidUpdate};
+ghost use Rattle.yd_ops.specs.View.{update_value};
+
 use std::alloc::Global;
 use std::process::ExitCode;
 use yd_any::Text;
@@ -63,7 +66,9 @@ fn shown(alloc: Global, retries: &mut Retries) -> Option<Vec<u8>> {
 }
 
 /// Applies an update, and where that finds no memory once more.
-fn receive(replica: &mut Replica, update: &Update, retries: &mut Retries) -> Option<()> {
+fn receive(replica: &mut Replica, update: &Update, retries: &mut Retries) -> Option<()>
+    requires { IsValidUpdate (update_value update.now) }
+{
     let before = told(replica);
     if replica.apply(update).is_err() {
         retries.some = true;
