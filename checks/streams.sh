@@ -1,6 +1,6 @@
 #!/usr/bin/env bash
 # What no contract sees: that the lines go to the system's error stream, and nothing to its output;
-# and that the README's examples, run on real files, write what it says.
+# and that the README's examples write what it says.
 set -u
 cd "$(dirname "$0")/../crates/ydoc" || exit 1
 work=$(mktemp -d) && trap 'rm -rf "$work"' EXIT
@@ -22,7 +22,8 @@ expect 3 'read fault no-such-file' show --text t v1:no-such-file
 expect 2 'usage: ydoc show|merge|cut|vector|convert|edit|serve|sync|check|generate' show --text t
 # written WORD..: the program succeeds, and its output is what stands in the file work/want
 written() {
-  rt try -- "$@" >"$work/out" 2>"$work/err"
+  rt try --data data/abc.bin=data/abc.bin --data data/d.v2.bin=data/d.v2.bin \
+    -- "$@" >"$work/out" 2>"$work/err"
   local got=$?
   if [ "$got" -ne 0 ] || ! cmp -s "$work/out" "$work/want"; then
     echo "checks/streams.sh: $*: status $got, or another output than is wanted"
