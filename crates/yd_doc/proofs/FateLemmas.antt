@@ -20,12 +20,13 @@ use Rattle.yd_meaning.specs.Order.{operation_set, list_of, order_of}
 use Rattle.yd_meaning.specs.Deleted.{is_deleted, AreDeleteSet}
 use Rattle.yd_meaning.proofs.HeldTableLemmas.{held_is_table}
 use Rattle.yd_meaning.proofs.HeldListLemmas.{in_order_of}
+use Rattle.yd_meaning.proofs.DocumentLemmas.{order_distinct}
 use Rattle.yd_meaning.proofs.NestingLemmas.{held_item}
 use Rattle.yd_meaning.proofs.VectorLemmas.{held_below}
 use Rattle.yd_meaning.proofs.DeletedLemmas.{deleted_is, is_deleted-true}
 use Rattle.yd_doc.specs.Deleting.{HasHeld, AddsIds, all_but_last, dropped_ids}
 use Rattle.yd_doc.proofs.NamedLemmas.{has_named, named_has}
-use Rattle.yd_doc.proofs.LastLemmas.{order_distinct, front_in, front_not_last, in_front}
+use Rattle.yd_doc.proofs.LastLemmas.{front_in, front_not_last, in_front}
 
 -- an id is deleted, where deletions name these spans
 abbrev pub IsFated : List Operation → List Span → Id → Type 0

@@ -1,5 +1,5 @@
 -- Ids of a list that are in a row: the units that they lend are those of their entry.
-use Rattle.std.proofs.Common.{◌≡◌, ℕ, zero, suc, ◌+◌, ◌-◌, ◌<◌, ◌≤◌, Bool, true, false, List, [], ◌∷◌, ◌++◌, Some, inl, inr, length, take, drop, map, get_or, refl, sym, ap, ◌∙◌, subst, arith}
+use Rattle.std.proofs.Common.{◌≡◌, ℕ, zero, suc, ◌+◌, ◌-◌, ◌<◌, ◌≤◌, Bool, true, List, [], ◌∷◌, ◌++◌, Some, inl, inr, length, take, drop, map, get_or, refl, sym, ap, ◌∙◌, arith}
 use Rattle.std.specs.Prelude.{◌↔◌, slice_get}
 use Rattle.std.proofs.lemmas.Option.{slice_get-get_or}
 use Rattle.std.proofs.lemmas.Bool.{or_right}
@@ -12,15 +12,15 @@ use Rattle.yd_ops.specs.Operation.{UnitContent, Operation, later_id, units_of_co
 use Rattle.yd_ops.specs.Value.{len_of}
 use Rattle.yd_ops.specs.View.{content_value}
 use Rattle.yd_ops.proofs.OperationLemmas.{length-units_of_content}
-use Rattle.yd_origins.specs.Ids.{is_same, IsIn, AreDistinct}
+use Rattle.yd_origins.specs.Ids.{AreDistinct}
 use Rattle.yd_origins.specs.Table.{ids_of}
-use Rattle.yd_origins.proofs.IdLemmas.{same_itself, other_id}
 use Rattle.yd_origins.proofs.TestLemmas.{one_answer}
 use Rattle.yd_meaning.specs.Received.{IsOneOf, has_operation}
 use Rattle.yd_meaning.specs.Held.{is_named}
 use Rattle.yd_meaning.specs.Order.{rows_of}
 use Rattle.yd_meaning.specs.Document.{operation_before, operations_at}
-use Rattle.yd_meaning.proofs.RowLemmas.{one_row, written_distinct}
+use Rattle.yd_meaning.proofs.RowLemmas.{written_distinct}
+use Rattle.yd_meaning.proofs.DocumentLemmas.{found_before}
 use Rattle.yd_received.specs.declared.taken.Taken.{Taken}
 use Rattle.yd_received.specs.Taken.{units_of, list_at, operations_of_taken, IsTakenOf, AreTaken, held_in, covers}
 use Rattle.yd_doc.specs.Lent.{Lent, lent, lent_from, lent_in, IsRow}
@@ -96,15 +96,6 @@ entry_covers : (ts : List Taken) (t : Taken) (x : Id) → IsEntry t ts → cover
 entry_covers [] t x i e = absurd i
 entry_covers (s ∷ ss) t x (inl f) e = rw (ap (λ u. covers u x) (sym f) ∙ e) refl
 entry_covers (s ∷ ss) t x (inr i) e = or_right (covers s x) (is_covered ss x) (entry_covers ss t x i e)
-
--- the operation with an id is found by it
-pub found_before : (held : List Operation) (o : Operation) (rest : List Operation) → AreDistinct (ids_of (rows_of held)) → IsOneOf o held →
-    operation_before held o.id rest ≡ o ∷ rest
-found_before [] o rest distinct i = absurd i
-found_before (p ∷ ps) o rest distinct (inl e) = subst (λ q. operation_before (q ∷ ps) o.id rest ≡ o ∷ rest) e (rw (same_itself o.id) refl)
-found_before (p ∷ ps) o rest distinct (inr i) =
-    let other : is_same p.id o.id ≡ false = other_id p.id o.id (λ e. distinct.0 (subst (λ x. IsIn x (ids_of (rows_of ps))) (sym e) (one_row ps o i))) in
-    rw other (found_before ps o rest distinct.1 i)
 
 -- the held operation with an id holds the unit
 abbrev Holds : List Operation → List UnitContent → Id → ℕ → Type 0

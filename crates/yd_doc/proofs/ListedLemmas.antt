@@ -18,10 +18,11 @@ use Rattle.yd_meaning.specs.Received.{IsOneOf, has_operation}
 use Rattle.yd_meaning.specs.Held.{held_set, is_named}
 use Rattle.yd_meaning.specs.Order.{rows_of, order_of}
 use Rattle.yd_meaning.specs.Deleted.{is_deleted}
-use Rattle.yd_meaning.specs.Document.{operation_before, operations_at, document_of}
-use Rattle.yd_meaning.proofs.OneOfLemmas.{operation_with, id_is_there}
+use Rattle.yd_meaning.specs.Document.{operations_at, document_of}
+use Rattle.yd_meaning.proofs.OneOfLemmas.{id_is_there}
 use Rattle.yd_meaning.proofs.RowLemmas.{written_distinct}
 use Rattle.yd_meaning.proofs.HeldListLemmas.{in_order_of}
+use Rattle.yd_meaning.proofs.DocumentLemmas.{operations_held}
 use Rattle.yd_received.specs.declared.taken.Taken.{Taken}
 use Rattle.yd_doc.specs.declared.state.State.{State}
 use Rattle.yd_doc.specs.Ordered.{AreOrders, order_lists, order_named}
@@ -32,7 +33,6 @@ use Rattle.yd_doc.specs.Replica.{last_unit}
 use Rattle.yd_received.proofs.WrittenLemmas.{held_written}
 use Rattle.yd_doc.proofs.NamedLemmas.{named_decides}
 use Rattle.yd_doc.proofs.NumberLemmas.{held_table, held_listed}
-use Rattle.yd_doc.proofs.LendingLemmas.{found_before}
 
 -- ---- orders by names
 
@@ -67,28 +67,7 @@ named_order held (other ∷ names) (order ∷ orders) name are named = go (same_
             never f = cc
         behind (suc n, f) = (n, f)
 
--- ---- the operations at held ids
-
-operations_held : (held : List Operation) → AreDistinct (ids_of (rows_of held)) → (xs : List Id) → ((x : Id) → IsIn x xs → has_operation held x ≡ true) →
-    (map (λ (o : Operation). o.id) (operations_at held xs) ≡ xs) × ((o : Operation) → IsOneOf o (operations_at held xs) → IsOneOf o held)
-operations_held held distinct [] has = (refl, λ o i. absurd i)
-operations_held held distinct (x ∷ xs) has =
-    let (ids, within) = operations_held held distinct xs (λ y i. has y (inr i)) in
-    first (operation_with held x (has x (inl refl))) ids within
-  where
-    first : (o : Operation) × IsOneOf o held × (o.id ≡ x) → map (λ (o : Operation). o.id) (operations_at held xs) ≡ xs →
-        ((o : Operation) → IsOneOf o (operations_at held xs) → IsOneOf o held) →
-        (map (λ (o : Operation). o.id) (operations_at held (x ∷ xs)) ≡ x ∷ xs) × ((o : Operation) → IsOneOf o (operations_at held (x ∷ xs)) → IsOneOf o held)
-    first (o, i, e) ids within =
-        let found : operations_at held (x ∷ xs) ≡ o ∷ operations_at held xs =
-        ap (λ y. operation_before held y (operations_at held xs)) (sym e) ∙ found_before held o (operations_at held xs) distinct i in (
-          ap (map (λ (o : Operation). o.id)) found ∙ ap (λ y. y ∷ map (λ (o : Operation). o.id) (operations_at held xs)) e ∙ ap (λ ys. x ∷ ys) ids,
-          λ p j. one p (subst (IsOneOf p) found j),
-        )
-      where
-        one : (p : Operation) → IsOneOf p (o ∷ operations_at held xs) → IsOneOf p held
-        one p (inl f) = subst (λ q. IsOneOf q held) (sym f) i
-        one p (inr j) = within p j
+-- ---- what is lent
 
 is_each : (P : Id → Type 0) (xs : List Id) → ((x : Id) → IsIn x xs → P x) → Each P xs
 is_each P [] f = tt

@@ -1,5 +1,6 @@
 pub mod ClockLemmas
 pub mod DeletedLemmas
+pub mod DocumentLemmas
 pub mod FilterLemmas
 pub mod HeldLemmas
 pub mod HeldListLemmas

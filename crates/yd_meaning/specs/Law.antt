@@ -1,10 +1,10 @@
 -- The laws of what updates mean, as statements.
-use Rattle.std.specs.Prelude.{◌≡◌, ◌<◌, ◌↔◌, ℕ, Bool, true, ◌||◌, List}
+use Rattle.std.specs.Prelude.{◌≡◌, ◌<◌, ◌↔◌, ℕ, Bool, true, ◌||◌, List, Some, map}
 use Rattle.yd_ids.specs.declared.id.Client.{Client}
 use Rattle.yd_ids.specs.declared.id.Id.{Id}
 use Rattle.yd_ids.specs.Each.{Each}
 use Rattle.yd_ids.specs.Set.{HasId, AreMaximal}
-use Rattle.yd_origins.specs.Ids.{IsIn, is_some_and}
+use Rattle.yd_origins.specs.Ids.{IsIn, AreDistinct, is_some_and}
 use Rattle.yd_origins.specs.Table.{IsTable}
 use Rattle.yd_origins.specs.Deleted.{IsDeleted}
 use Rattle.yd_origins.specs.Operations.{list_by_origins}
@@ -16,9 +16,9 @@ use Rattle.yd_meaning.specs.Names.{item_of_list}
 use Rattle.yd_meaning.specs.Pairs.{is_high, is_low, is_text_and, are_partners}
 use Rattle.yd_meaning.specs.Received.{IsOneOf, has_operation, Agree, IsWritten, Received, nothing_received, received_after, received_set, operations_of_all, DeleteId, HaveSameContents}
 use Rattle.yd_meaning.specs.Held.{needs, held_set, held_clock}
-use Rattle.yd_meaning.specs.Order.{rows_of, list_or_root, list_of, operation_set}
+use Rattle.yd_meaning.specs.Order.{rows_of, list_or_root, list_of, order_of, operation_set}
 use Rattle.yd_meaning.specs.Deleted.{is_overwritten, is_deleted, is_in_delete_set}
-use Rattle.yd_meaning.specs.Document.{document_of}
+use Rattle.yd_meaning.specs.Document.{document_with, document_of}
 use Rattle.yd_meaning.specs.Text.{shown_text}
 
 -- ---- what is received
@@ -81,6 +81,20 @@ HeldIsTable = (received : List Operation) → IsWritten received → IsTable (ro
 abbrev pub ListsFollowOrigins : Type 0
 ListsFollowOrigins = (received : List Operation) → IsWritten received → (o : Operation) → IsOneOf o (held_set received) →
     list_of (held_set received) o.id ≡ list_by_origins o.left_origin o.right_origin (list_or_root o.list) (list_of (held_set received))
+
+-- a list has each operation that is of it, once and no other, and the document has them all, in this order and as they
+-- are, whatever is deleted; and the item of a list with operations is there
+pub record HasWholeLists (held : List Operation) : Type 0 where
+  pub each : (list : DocList) (x : Id) → IsIn x (order_of held list) ↔ (has_operation held x ≡ true) × (list_of held x ≡ list)
+  pub once : (list : DocList) → AreDistinct (order_of held list)
+  pub units : (named : Id → Bool) (list : DocList) → map (λ (o : Operation). o.id) ((document_with held named).units list) ≡ order_of held list
+  pub as_held : (named : Id → Bool) (list : DocList) (o : Operation) → IsOneOf o ((document_with held named).units list) → IsOneOf o held
+  pub items : (list : DocList) (x y : Id) → IsIn x (order_of held list) → item_of_list list ≡ Some y → has_operation held y ≡ true
+
+-- so are the lists of what is held: each has its operations, once and no other, and the document has them all; and the item
+-- of a list with operations is held
+abbrev pub ListsAreWhole : Type 0
+ListsAreWhole = (received : List Operation) → IsWritten received → HasWholeLists (held_set received)
 
 -- ---- what is deleted
 

@@ -1,6 +1,6 @@
 //! The laws of what updates mean, each the contract of an empty function.
 
-ghost use Rattle.yd_meaning.specs.Law.{ReceivedKeepsPairs, ReceivedIsAll, ReceivedIsOne, RepeatsChangeNothing, HeldIsLeast, VectorCounts, HeldIsTable, ListsFollowOrigins, DeletedFollowsItems, DocumentsConverge};
+ghost use Rattle.yd_meaning.specs.Law.{ReceivedKeepsPairs, ReceivedIsAll, ReceivedIsOne, RepeatsChangeNothing, HeldIsLeast, VectorCounts, HeldIsTable, ListsFollowOrigins, ListsAreWhole, DeletedFollowsItems, DocumentsConverge};
 
 /// What is received of valid updates has each id once, in the order of writing, and whole pairs.
 pub fn received_keeps_pairs()
@@ -40,6 +40,11 @@ pub fn held_is_table()
 /// The list of a held operation is its left origin's, else its right origin's, else the one that it carries.
 pub fn lists_follow_origins()
     ensures { ListsFollowOrigins }
+{}
+
+/// A list has each held operation that is of it, once and no other, and the document has them all.
+pub fn lists_are_whole()
+    ensures { ListsAreWhole }
 {}
 
 /// A held operation is deleted by name, by its key, or by the item of its list.
