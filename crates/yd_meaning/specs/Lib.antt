@@ -1,5 +1,6 @@
 pub mod Deleted
 pub mod Document
+pub mod Example
 pub mod Held
 pub mod Law
 pub mod ListNames
