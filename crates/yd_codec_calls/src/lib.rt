@@ -10,6 +10,8 @@ mod columns;
 #[cfg(test)]
 mod fields;
 #[cfg(test)]
+mod infos;
+#[cfg(test)]
 mod ops;
 #[cfg(test)]
 mod reading;
