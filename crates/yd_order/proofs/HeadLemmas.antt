@@ -1,5 +1,5 @@
 -- Heads of an order: how they are found, and that the rows behind one need no reason of their own.
-use Rattle.std.proofs.Common.{◌≡◌, ℕ, ◌+◌, ◌-◌, ◌<◌, ◌≤◌, Bool, true, false, ◌||◌, ◌&&◌, List, [], ◌∷◌, ◌++◌, length, get_or, nat_lt, nat_eq, ◌⊎◌, inl, inr, max, refl, sym, ap, ◌∙◌, subst, arith, tests}
+use Rattle.std.proofs.Common.{◌≡◌, ◌↔◌, ℕ, suc, ◌+◌, ◌-◌, ◌<◌, ◌≤◌, Bool, true, false, ◌||◌, ◌&&◌, List, [], ◌∷◌, ◌++◌, length, get_or, nat_lt, nat_eq, ◌⊎◌, inl, inr, max, refl, sym, ap, ◌∙◌, subst, true≢false, arith, tests}
 use Rattle.std.specs.Prelude.{slice_index}
 use Rattle.std.proofs.lemmas.Bool.{cases_eq}
 use Rattle.std.proofs.lemmas.List.{get_or_append_left, get_or_push, length-append}
@@ -17,6 +17,7 @@ module _ (rows : List LinkedRow) (order seats : List ℕ) where
     pub size : length heads ≡ number
     pub each : (j : ℕ) → j < number → IsHead rows order seats j (slice_index heads j)
     pub up_to : head ≤ number
+    pub apart : (head ≡ 0) ⊎ (is_direct rows order seats head ≡ false)
     pub direct : (k : ℕ) → head < k → k < number → is_direct rows order seats k ≡ true
 
   heads_pushed : (heads : List ℕ) (number head new : ℕ) → HaveHeads heads number head → IsHead rows order seats number new → HaveHeads (heads ++ new ∷ []) (number + 1) new
@@ -28,13 +29,16 @@ module _ (rows : List LinkedRow) (order seats : List ℕ) where
       | inr ne ↦ subst (IsHead rows order seats j) (sym (get_or_append_left heads (new ∷ []) 0 j (omega (arith, known.size, ne, lt)))) (known.each j (omega (arith, ne, lt)))
     ];
     up_to = omega (arith, this.up_to);
+    apart = this.apart;
     direct = λ k low high. this.direct k low (omega (arith, high));
   }
 
   -- a row that does not stand directly behind its left is a head
-  pub head_found : (heads longer : List ℕ) (number head new : ℕ) → HaveHeads heads number head → new ≡ number → longer ≡ heads ++ new ∷ [] → HaveHeads longer (number + 1) new
-  head_found heads longer number head new known e is = subst (λ (xs : List ℕ). HaveHeads xs (number + 1) new) (sym is) (heads_pushed heads number head new known (record {
+  pub head_found : (heads longer : List ℕ) (number head new : ℕ) → HaveHeads heads number head → new ≡ number → is_direct rows order seats number ≡ false → longer ≡ heads ++ new ∷ [] →
+      HaveHeads longer (number + 1) new
+  head_found heads longer number head new known e apart is = subst (λ (xs : List ℕ). HaveHeads xs (number + 1) new) (sym is) (heads_pushed heads number head new known (record {
     up_to = omega (arith, e);
+    apart = inr (subst (λ (n : ℕ). is_direct rows order seats n ≡ false) (sym e) apart);
     direct = λ k low high. absurd (omega (arith, e, low, high));
   }))
 
@@ -43,6 +47,7 @@ module _ (rows : List LinkedRow) (order seats : List ℕ) where
       HaveHeads longer (number + 1) new
   head_stays heads longer number head new known e direct is = subst (λ (xs : List ℕ). HaveHeads xs (number + 1) new) (sym is) (heads_pushed heads number head new known (record {
     up_to = omega (arith, e, known.up_to);
+    apart = subst (λ (n : ℕ). (n ≡ 0) ⊎ (is_direct rows order seats n ≡ false)) (sym e) known.apart;
     direct = λ k low high. elim (cases_eq k number) [
       | inl f ↦ subst (λ (n : ℕ). is_direct rows order seats n ≡ true) (sym f) direct
       | inr ne ↦ known.direct k (omega (arith, e, low)) (omega (arith, ne, high))
@@ -85,3 +90,11 @@ module _ (rows : List LinkedRow) (order seats : List ℕ) where
   pub reasons_all : (at first number : ℕ) (d : LinkedRow) → at < length rows → first ≡ seat_of seats (get_or rows at d).left → number ≤ first →
       ((k : ℕ) → number ≤ k → k < slice_index seats at - 1 → has_reason rows seats (slice_index order k) at ≡ true) → HaveReasons rows order seats at
   reasons_all at first number d lt e ended all k le less = all k (omega (arith, ended, le, e ∙ ap (seat_of seats) (left_read rows at d lt))) (omega arith)
+
+  -- and where one head has none, not all of them have
+  pub reasons_lack : (at first head : ℕ) (d : LinkedRow) (told : Bool) → at < length rows → first ≡ seat_of seats (get_or rows at d).left → first ≤ head →
+      suc head < slice_index seats at → told ≡ has_reason rows seats (slice_index order head) at → told ≡ false → false ≡ true ↔ HaveReasons rows order seats at
+  reasons_lack at first head d told lt e low high is none = (
+    (λ said. absurd (true≢false (sym said))),
+    (λ reasons. absurd (true≢false (sym (reasons head (omega (arith, low, e ∙ ap (seat_of seats) (left_read rows at d lt))) high) ∙ sym is ∙ none))),
+  )

@@ -1,8 +1,15 @@
 -- Seats of rows: each row's number in an order of all rows, from one on, and what lefts and rights ask of seats (own).
-use Rattle.std.specs.Prelude.{◌≡◌, ◌<◌, ◌≤◌, ℕ, suc, Bool, true, false, ◌||◌, ◌&&◌, List, Option, Some, None, IfSome, length, nat_eq, nat_lt, nat_le, slice_index}
+use Rattle.std.specs.Prelude.{◌≡◌, ◌<◌, ◌≤◌, ◌⊎◌, ℕ, suc, Bool, true, false, ◌||◌, ◌&&◌, List, Option, Some, None, IfSome, length, nat_eq, nat_lt, nat_le, slice_index}
 use Rattle.yd_origins.specs.Ids.{is_smaller}
 use Rattle.yd_order.specs.Linking.{id_at, left_at, right_at}
 use Rattle.yd_order.specs.declared.linking.LinkedRow.{LinkedRow}
+
+-- the seats that the first so many numbers of an order give: to each row that they name the last of its numbers, from one
+-- on, and to each other row 0
+pub record AreSeatsOf (order seats : List ℕ) (count : ℕ) : Type 0 where
+  pub size : length seats ≡ length order
+  pub named : (k : ℕ) → k < count → slice_index order k < length order → k < slice_index seats (slice_index order k)
+  pub number : (at k : ℕ) → at < length order → slice_index seats at ≡ suc k → (k < count) × (slice_index order k ≡ at)
 
 -- the row at a place has a seat where the order names it, and the order's row at that number has this seat
 pub record IsSeated (order seats : List ℕ) (at : ℕ) : Type 0 where
@@ -52,9 +59,11 @@ HaveReasons rows order seats at = (k : ℕ) → seat_of seats (left_at rows at) 
 abbrev pub is_direct : List LinkedRow → List ℕ → List ℕ → ℕ → Bool
 is_direct rows order seats number = nat_eq (seat_of seats (left_at rows (slice_index order number))) number
 
--- a number is no later than another, and the rows behind it up to the other stand directly behind their lefts
+-- a number is the last one, no later than another, whose row does not stand directly behind its left, or there is none and
+-- it is 0
 pub record IsHead (rows : List LinkedRow) (order seats : List ℕ) (number head : ℕ) : Type 0 where
   pub up_to : head ≤ number
+  pub apart : (head ≡ 0) ⊎ (is_direct rows order seats head ≡ false)
   pub direct : (k : ℕ) → head < k → k ≤ number → is_direct rows order seats k ≡ true
 
 -- each number has a head
@@ -70,6 +79,12 @@ pub record Stands (rows : List LinkedRow) (order seats : List ℕ) (at : ℕ) : 
 -- all rows do
 abbrev pub AllStand : List LinkedRow → List ℕ → List ℕ → Type 0
 AllStand rows order seats = (at : ℕ) → at < length rows → Stands rows order seats at
+
+-- the order has each row once, and all stand in it as their lefts and rights ask
+pub record StandIn (rows : List LinkedRow) (order : List ℕ) : Type 0 where
+  pub seats : List ℕ
+  pub seated : AreSeated (length rows) order seats
+  pub stand : AllStand rows order seats
 
 -- all numbers are below this one
 abbrev pub AllBelow : ℕ → List ℕ → Type 0

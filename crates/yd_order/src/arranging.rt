@@ -1,6 +1,6 @@
 //! The order of a list that origins alone give.
 
-ghost use Rattle.std.specs.Prelude.{◌≡◌, ◌*◌, length, map, IfOk, IfSome};
+ghost use Rattle.std.specs.Prelude.{◌≡◌, ◌↔◌, ◌*◌, length, map, IfOk, IfSome, IsSome};
 ghost use Rattle.yd_ids.specs.Each.{Each};
 ghost use Rattle.yd_origins.specs.Sorted.{origin_order};
 ghost use Rattle.yd_origins.specs.Table.{IsTable};
@@ -9,7 +9,7 @@ ghost use Rattle.yd_order.specs.Filling.{AreFilled};
 ghost use Rattle.yd_order.specs.Linking.{AreLinked, id_at, table_of_linked};
 ghost use Rattle.yd_order.specs.Numbering.{IsNumbering};
 ghost use Rattle.yd_order.specs.Rows.{AreAscending, table_of};
-ghost use Rattle.yd_order.specs.Seating.{AllBelow};
+ghost use Rattle.yd_order.specs.Seating.{AllBelow, StandIn};
 ghost use Rattle.yd_order.specs.Stretch.{EndsAtClock, rows_of_stretches, among_rows};
 
 use crate::counting::{Place, counted};
@@ -68,11 +68,12 @@ fn arrange_linked(alloc: Global, rows: &[LinkedRow]) -> Result<Vec<Id>, NoMemory
     Ok(ids)
 }
 
-/// The ids of rows in this order, if they stand there as their links ask.
+/// The ids of rows in this order, if it has each row once, and they stand there as their links ask.
 fn taken(alloc: Global, rows: &[LinkedRow], order: &[usize]) -> Result<Option<Vec<Id>>, NoMemory>
     requires links { AreLinked rows.now }
     requires table { IsTable (table_of_linked rows.now) }
-    ensures { IfOk result (λ taken. IfSome taken (λ ids.
+    ensures told { IfOk result (λ taken. IsSome taken ↔ StandIn rows.now order.now) }
+    ensures order { IfOk result (λ taken. IfSome taken (λ ids.
         ids.items ≡ origin_order (table_of_linked rows.now))) }
 {
     let seats = seats_of(alloc, order)?;

@@ -1,7 +1,7 @@
 //! An order that the integration scan proposes. It is checked before it is taken
-//! ([`crate::seating`]), so no clause says anything of it.
+//! ([`crate::seating`]), so no clause says which order it is.
 
-ghost use Rattle.std.specs.Prelude.{◌<◌, length};
+ghost use Rattle.std.specs.Prelude.{◌≡◌, ◌<◌, length, IfOk};
 
 use crate::fault::NoMemory;
 use crate::filling::is_same_link;
@@ -37,11 +37,9 @@ struct Scan {
 }
 
 /// The places of the rows as the scan puts in one after another, in the order of `numbers`.
-pub fn scanned(
-    alloc: Global,
-    rows: &[LinkedRow],
-    numbers: &[usize],
-) -> Result<Vec<usize>, NoMemory> {
+pub fn scanned(alloc: Global, rows: &[LinkedRow], numbers: &[usize]) -> Result<Vec<usize>, NoMemory>
+    ensures { IfOk result (λ order. length order.items ≡ length rows.now) }
+{
     let mut next = vec![in alloc; rows.len(); rows.len() + 1]?;
     let mut marks = vec![in alloc; 0; rows.len()]?;
     let mut step = 0;
@@ -130,8 +128,10 @@ fn at_neighbour(new: LinkedRow, other: LinkedRow) -> Verdict {
     }
 }
 
-/// The chain from the front on.
-fn chained(alloc: Global, next: &[usize], count: usize) -> Result<Vec<usize>, NoMemory> {
+/// So many links of the chain, from the front on.
+fn chained(alloc: Global, next: &[usize], count: usize) -> Result<Vec<usize>, NoMemory>
+    ensures { IfOk result (λ order. length order.items ≡ count) }
+{
     let mut order = Vec::new(alloc);
     let mut at = number_at(next, count);
     for _ in 0..count {

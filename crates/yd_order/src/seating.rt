@@ -1,9 +1,8 @@
 //! Whether rows stand in an order as their lefts and rights ask, told by their seats in it.
 
-ghost use Rattle.std.specs.Prelude.{◌≡◌, ◌<◌, length, map, slice_index, IfSome};
-ghost use Rattle.std.specs.Bool.{OnTrue};
+ghost use Rattle.std.specs.Prelude.{◌≡◌, ◌↔◌, ◌<◌, length, IsTrue, IfSome, IfOk};
 ghost use Rattle.yd_order.specs.Linking.{AreLinked};
-ghost use Rattle.yd_order.specs.Seating.{IsSeated, AreSeated, seat_of, is_passed, is_ahead, has_reason, AreHeads, IsBetween, HaveReasons, Stands, AllStand};
+ghost use Rattle.yd_order.specs.Seating.{AreSeatsOf, IsSeated, AreSeated, seat_of, is_passed, is_ahead, has_reason, AreHeads, IsBetween, HaveReasons, Stands, AllStand};
 
 use crate::fault::NoMemory;
 use crate::ids::is_smaller;
@@ -11,7 +10,9 @@ use crate::linking::LinkedRow;
 use std::alloc::Global;
 
 /// The seats in an order: for each row that it names the number there.
-pub fn seats_of(alloc: Global, order: &[usize]) -> Result<Vec<usize>, NoMemory> {
+pub fn seats_of(alloc: Global, order: &[usize]) -> Result<Vec<usize>, NoMemory>
+    ensures { IfOk result (λ seats. AreSeatsOf order.now seats.items (length order.now)) }
+{
     let mut seats = vec![in alloc; 0; order.len()]?;
     for number in 0..order.len() {
         let at = order[number];
@@ -24,7 +25,7 @@ pub fn seats_of(alloc: Global, order: &[usize]) -> Result<Vec<usize>, NoMemory> 
 
 /// The order has each of so many rows once, and the seats are their numbers in it.
 pub fn are_seated(count: usize, order: &[usize], seats: &[usize]) -> bool
-    ensures { OnTrue result (AreSeated count order.now seats.now) }
+    ensures { IsTrue result ↔ AreSeated count order.now seats.now }
 {
     if order.len() != count || seats.len() != count {
         return false;
@@ -41,7 +42,7 @@ pub fn are_seated(count: usize, order: &[usize], seats: &[usize]) -> bool
 fn is_seated(order: &[usize], seats: &[usize], at: usize) -> bool
     requires size { length seats.now ≡ length order.now }
     requires inside { at < length order.now }
-    ensures { OnTrue result (IsSeated order.now seats.now at) }
+    ensures { IsTrue result ↔ IsSeated order.now seats.now at }
 {
     let other = order[at];
     let seat = seats[at];
@@ -57,7 +58,7 @@ pub fn all_stand(rows: &[LinkedRow], order: &[usize], seats: &[usize], heads: &[
     requires links { AreLinked rows.now }
     requires seated { AreSeated (length rows.now) order.now seats.now }
     requires heads { AreHeads rows.now order.now seats.now heads.now }
-    ensures { OnTrue result (AllStand rows.now order.now seats.now) }
+    ensures { IsTrue result ↔ AllStand rows.now order.now seats.now }
 {
     for at in 0..rows.len() {
         if !stands(rows, order, seats, heads, at) {
@@ -73,7 +74,7 @@ fn stands(rows: &[LinkedRow], order: &[usize], seats: &[usize], heads: &[usize],
     requires seated { AreSeated (length rows.now) order.now seats.now }
     requires heads { AreHeads rows.now order.now seats.now heads.now }
     requires inside { at < length rows.now }
-    ensures { OnTrue result (Stands rows.now order.now seats.now at) }
+    ensures { IsTrue result ↔ Stands rows.now order.now seats.now at }
 {
     is_between(rows, seats, at) && have_reasons(rows, order, seats, heads, at)
 }
@@ -83,7 +84,7 @@ fn is_between(rows: &[LinkedRow], seats: &[usize], at: usize) -> bool
     requires links { AreLinked rows.now }
     requires size { length seats.now ≡ length rows.now }
     requires inside { at < length rows.now }
-    ensures { OnTrue result (IsBetween rows.now seats.now at) }
+    ensures { IsTrue result ↔ IsBetween rows.now seats.now at }
 {
     let row = rows[at];
     seat_of(seats, row.left) < seats[at] && !is_passed(seats, row.right, seats[at])
@@ -102,7 +103,7 @@ fn have_reasons(
     requires seated { AreSeated (length rows.now) order.now seats.now }
     requires heads { AreHeads rows.now order.now seats.now heads.now }
     requires inside { at < length rows.now }
-    ensures { OnTrue result (HaveReasons rows.now order.now seats.now at) }
+    ensures { IsTrue result ↔ HaveReasons rows.now order.now seats.now at }
 {
     let first = seat_of(seats, rows[at].left);
     let mut number = seats[at] - 1;

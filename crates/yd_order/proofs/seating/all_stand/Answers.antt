@@ -1,8 +1,7 @@
-use Rattle.std.proofs.lemmas.Bool.{OnTrue_at}
 use Rattle.yd_order.specs.Seating.{Stands}
 use Rattle.yd_order.proofs.SeatingLemmas.{one_more}
 use Rattle.yd_order.proofs.seating.all_stand.Goals as goal
 
 pub loop-at-preserved : goal.loop-at-preserved
 loop-at-preserved c =
-    one_more (Stands c.args.rows.now c.args.order.now c.args.seats.now) c.loop-at.at c.loop-at.invariant (OnTrue_at c.if-not-stands.false c.stands.ensures)
+    one_more (Stands c.args.rows.now c.args.order.now c.args.seats.now) c.loop-at.at c.loop-at.invariant (c.stands.ensures.0 c.if-not-stands.false)

@@ -1,9 +1,12 @@
-use Rattle.std.proofs.Common.{arith}
+use Rattle.std.proofs.Common.{refl, arith}
 use Rattle.yd_order.proofs.seating.are_seated.Goals as goal
 
 pub returns : goal.returns
-returns c = record {
-  order_size = c.if-order-count.false;
-  seats_size = c.if-seats-count.false;
-  each = λ at lt. c.loop-at.invariant at (omega (arith, lt, c.loop-at-test.false));
-}
+returns c = (
+  (λ told. record {
+    order_size = c.if-order-count.false;
+    seats_size = c.if-seats-count.false;
+    each = λ at lt. c.loop-at.invariant at (omega (arith, lt, c.loop-at-test.false));
+  }),
+  (λ seated. refl),
+)
