@@ -139,24 +139,36 @@ module _ (rows : List LinkedRow) (marks : List Bool) (order : List ℕ) (at : �
     numbered = record { arranged = arranged_more; size = length-set marks at true ∙ known.size; marked = marked_more; numbered = numbered_more };
     keeps = marked_keeps marks at in_marks;
     takes = λ r. get_or-set_same marks at true false in_marks;
-    told = λ e. get_or-set_same marks at true false in_marks;
+    others = λ other ne m. marked_before marks at other ne m;
+    told = ((λ e. get_or-set_same marks at true false in_marks), (λ m. refl));
   }
 
+-- a row that has a number keeps it
+pub numbers_old : (rows : List LinkedRow) (marks : List Bool) (order : List ℕ) (at : ℕ) → ArePartlyNumbered rows marks order → IsMarked marks at → Numbers rows marks marks order at true
+numbers_old rows marks order at known m = record {
+  numbered = known;
+  keeps = λ other n. n;
+  takes = λ ready. m;
+  others = λ other ne n. n;
+  told = ((λ e. m), (λ n. refl));
+}
+
 -- a row that is not ready takes none
-pub numbers_none : (rows : List LinkedRow) (marks : List Bool) (order : List ℕ) (at : ℕ) → ArePartlyNumbered rows marks order → (IsReady rows marks at → ⊥) →
+pub numbers_none : (rows : List LinkedRow) (marks : List Bool) (order : List ℕ) (at : ℕ) → ArePartlyNumbered rows marks order → get_or marks at false ≡ false → (IsReady rows marks at → ⊥) →
     Numbers rows marks marks order at false
-numbers_none rows marks order at known none = record {
+numbers_none rows marks order at known unmarked none = record {
   numbered = known;
   keeps = λ other m. m;
   takes = λ ready. absurd (none ready);
-  told = λ e. absurd (true≢false (sym e));
+  others = λ other ne m. m;
+  told = ((λ e. absurd (true≢false (sym e))), (λ m. absurd (true≢false (sym m ∙ unmarked))));
 }
 
 -- ---- a pass
 
--- a pass goes on by one row: all have numbers where those before had them and it has one
+-- a pass goes on by one row: all have numbers exactly where those before had them and it has one
 pub pass_goes_on : (rows : List LinkedRow) (old marks new : List Bool) (order more : List ℕ) (count : ℕ) (all has both : Bool) → NumbersReady rows old marks order count all →
-    Numbers rows marks new more count has → (both ≡ true → (all ≡ true) × (has ≡ true)) → NumbersReady rows old new more (count + 1) both
+    Numbers rows marks new more count has → (both ≡ true ↔ (all ≡ true) × (has ≡ true)) → NumbersReady rows old new more (count + 1) both
 pass_goes_on rows old marks new order more count all has both so_far one split = record {
   numbered = one.numbered;
   keeps = λ at m. one.keeps at (so_far.keeps at m);
@@ -164,10 +176,13 @@ pass_goes_on rows old marks new order more count all has both so_far one split =
     | inl low ↦ one.keeps at (so_far.takes at low ready)
     | inr e ↦ subst (IsMarked new) (sym e) (one.takes (subst (IsReady rows marks) e (still at ready)))
   ];
-  told = λ e at lt. elim (same_or_below at count lt) [
-    | inl low ↦ one.keeps at (so_far.told (split e).0 at low)
-    | inr f ↦ subst (IsMarked new) (sym f) (one.told (split e).1)
-  ];
+  told = (
+    (λ e at lt. elim (same_or_below at count lt) [
+      | inl low ↦ one.keeps at (so_far.told.0 (split.0 e).0 at low)
+      | inr f ↦ subst (IsMarked new) (sym f) (one.told.0 (split.0 e).1)
+    ]),
+    (λ each. split.1 (so_far.told.1 (λ at low. one.others at (omega arith) (each at (omega (arith, low)))), one.told.1 (each count (omega arith)))),
+  );
 }
   where
     still : (at : ℕ) → IsReady rows old at → IsReady rows marks at

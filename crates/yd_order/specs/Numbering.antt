@@ -1,5 +1,5 @@
 -- Numbers of rows: each row has its number after its left and its right (own).
-use Rattle.std.specs.Prelude.{◌≡◌, ◌≢◌, ◌<◌, ℕ, Bool, true, false, List, length, IfSome, slice_index, slice_index_or}
+use Rattle.std.specs.Prelude.{◌≡◌, ◌≢◌, ◌↔◌, ◌<◌, ℕ, Bool, true, false, List, length, IfSome, slice_index, slice_index_or}
 use Rattle.yd_order.specs.Linking.{left_at, right_at}
 use Rattle.yd_order.specs.declared.linking.LinkedRow.{LinkedRow}
 
@@ -41,16 +41,17 @@ pub record ArePartlyNumbered (rows : List LinkedRow) (marks : List Bool) (order 
 abbrev pub KeepsMarks : List Bool → List Bool → Type 0
 KeepsMarks old new = (at : ℕ) → IsMarked old at → IsMarked new at
 
--- the first so many rows that were ready have numbers now, and where it is said that all have them, it is so
+-- the first so many rows that were ready have numbers now, and it is said whether all of them have one
 pub record NumbersReady (rows : List LinkedRow) (old new : List Bool) (order : List ℕ) (count : ℕ) (all : Bool) : Type 0 where
   pub numbered : ArePartlyNumbered rows new order
   pub keeps : KeepsMarks old new
   pub takes : (at : ℕ) → at < count → IsReady rows old at → IsMarked new at
-  pub told : all ≡ true → (at : ℕ) → at < count → IsMarked new at
+  pub told : all ≡ true ↔ ((at : ℕ) → at < count → IsMarked new at)
 
--- the row at the place has a number now if it was ready, and where it is said that it has one, it is so
+-- the row at the place has a number now if it was ready, no other row has a new one, and it is said whether it has one
 pub record Numbers (rows : List LinkedRow) (old new : List Bool) (order : List ℕ) (at : ℕ) (has : Bool) : Type 0 where
   pub numbered : ArePartlyNumbered rows new order
   pub keeps : KeepsMarks old new
   pub takes : IsReady rows old at → IsMarked new at
-  pub told : has ≡ true → IsMarked new at
+  pub others : (other : ℕ) → other ≢ at → IsMarked new other → IsMarked old other
+  pub told : has ≡ true ↔ IsMarked new at

@@ -1,12 +1,15 @@
 use Rattle.std.proofs.Common.{true, sym, subst, true≢false, ◌∙◌}
 use Rattle.std.specs.Prelude.{slice_set}
 use Rattle.yd_order.specs.Numbering.{Numbers}
-use Rattle.yd_order.proofs.NumberingLemmas.{numbers_row, numbers_none}
+use Rattle.yd_order.proofs.NumberingLemmas.{numbers_row, numbers_old, numbers_none}
 use Rattle.yd_order.proofs.numbering.number.Goals as goal
+
+pub returns-then-marks-at : goal.returns-then-marks-at
+returns-then-marks-at c = numbers_old c.args.rows.now c.args.marks.now c.args.order.now.items c.args.at c.requires.numbered c.if-marks-at.true
 
 pub returns-then-not-is_ready : goal.returns-then-not-is_ready
 returns-then-not-is_ready c =
-    numbers_none c.args.rows.now c.args.marks.now c.args.order.now.items c.args.at c.requires.numbered (λ ready. true≢false (sym (c.is_ready.ensures.1 ready) ∙ c.if-not-is_ready.true))
+    numbers_none c.args.rows.now c.args.marks.now c.args.order.now.items c.args.at c.requires.numbered c.if-marks-at.false (λ ready. true≢false (sym (c.is_ready.ensures.1 ready) ∙ c.if-not-is_ready.true))
 
 pub returns : goal.returns
 returns c =

@@ -15,4 +15,4 @@ returns c =
 
 pub returns-then-branch : goal.returns-then-branch
 returns-then-branch c =
-    all_numbered c.args.rows.now c.number_ready.new.marks c.number_ready.new.order.items c.in_ok-number_ready.ensures.numbered (c.in_ok-number_ready.ensures.told c.if-branch.true)
+    all_numbered c.args.rows.now c.number_ready.new.marks c.number_ready.new.order.items c.in_ok-number_ready.ensures.numbered (c.in_ok-number_ready.ensures.told.0 c.if-branch.true)
