@@ -16,4 +16,6 @@ mod show_files;
 #[cfg(test)]
 mod show_refusals;
 #[cfg(test)]
+mod show_reversed;
+#[cfg(test)]
 mod stage;

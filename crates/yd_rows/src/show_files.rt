@@ -24,8 +24,18 @@ const LITTLE_B_V2: [u8; 22] = [
 /// "B" in the root `t`, of client 0.
 const GREAT_B: [u8; 11] = [1, 1, 0, 0, 4, 1, 1, 0x74, 1, 0x42, 0];
 
+/// `GREAT_B` in V2.
+const GREAT_B_V2: [u8; 22] = [
+    0, 0, 1, 0, 0, 0, 1, 4, 5, 2, 0x74, 0x42, 0x41, 0, 1, 1, 0, 0, 1, 1, 0, 0,
+];
+
 /// "A" in the root `t`, of client 1.
 const GREAT_A: [u8; 11] = [1, 1, 1, 0, 4, 1, 1, 0x74, 1, 0x41, 0];
+
+/// `GREAT_A` in V2.
+const GREAT_A_V2: [u8; 22] = [
+    0, 0, 1, 1, 0, 0, 1, 4, 5, 2, 0x74, 0x41, 0x41, 0, 1, 1, 0, 0, 1, 1, 0, 0,
+];
 
 /// "C" of client 3, put in front of the "B" of client 0.
 const GREAT_C: [u8; 10] = [1, 1, 3, 0, 0x44, 0, 0, 1, 0x43, 0];
@@ -58,13 +68,15 @@ const FIRST_DELETED: [u8; 6] = [0, 1, 1, 1, 0, 1];
 const FIRST_DELETED_V2: [u8; 17] = [0, 0, 0, 0, 0, 0, 1, 0, 0, 0, 0, 0, 1, 1, 1, 0, 0];
 
 /// Files that are shown together, in V1 and, with a 2 behind the name, in V2.
-const LETTERS: [(&str, &[u8]); 8] = [
+const LETTERS: [(&str, &[u8]); 10] = [
     ("a", &LITTLE_A),
     ("a2", &LITTLE_A_V2),
     ("b", &LITTLE_B),
     ("b2", &LITTLE_B_V2),
     ("A", &GREAT_A),
+    ("A2", &GREAT_A_V2),
     ("B", &GREAT_B),
+    ("B2", &GREAT_B_V2),
     ("C", &GREAT_C),
     ("C2", &GREAT_C_V2),
 ];
@@ -96,6 +108,8 @@ fn each_file_is_one_update_in_both_formats(rt: HostRuntime) -> Result<(), Fail> 
     for (v1, v2) in [
         (&LITTLE_A[..], &LITTLE_A_V2[..]),
         (&LITTLE_B[..], &LITTLE_B_V2[..]),
+        (&GREAT_A[..], &GREAT_A_V2[..]),
+        (&GREAT_B[..], &GREAT_B_V2[..]),
         (&GREAT_C[..], &GREAT_C_V2[..]),
         (&ALL_BUT_A[..], &ALL_BUT_A_V2[..]),
         (&EMOJI[..], &EMOJI_V2[..]),
@@ -116,7 +130,9 @@ fn two_clients_at_one_place_show_by_their_numbers(rt: HostRuntime) -> Result<(),
         &["v1:b", "v1:a"][..],
         &["v2:a2", "v1:b"][..],
         &["v2:b2", "v1:a"][..],
+        &["v2:a2", "v2:b2"][..],
         &["v2:b2", "v2:a2"][..],
+        &["v1:b", "v2:a2", "v2:b2", "v1:a"][..],
     ] {
         shows(&rt, &LETTERS, order, "ab\n")?;
     }
@@ -132,8 +148,17 @@ fn all_six_orders_of_three_files_show_the_same(rt: HostRuntime) -> Result<(), Fa
         &["v1:B", "v1:C", "v1:A"][..],
         &["v1:C", "v1:A", "v1:B"][..],
         &["v1:C", "v1:B", "v1:A"][..],
+        &["v2:A2", "v2:B2", "v2:C2"][..],
+        &["v2:A2", "v2:C2", "v2:B2"][..],
+        &["v2:B2", "v2:A2", "v2:C2"][..],
+        &["v2:B2", "v2:C2", "v2:A2"][..],
+        &["v2:C2", "v2:A2", "v2:B2"][..],
+        &["v2:C2", "v2:B2", "v2:A2"][..],
+        // In both formats, and then each of them twice.
         &["v2:C2", "v1:B", "v1:A"][..],
         &["v1:A", "v2:C2", "v1:B"][..],
+        &["v1:C", "v2:A2", "v1:B", "v2:C2", "v1:A", "v2:B2"][..],
+        &["v2:C2", "v2:C2", "v1:A", "v2:B2", "v2:A2", "v1:B"][..],
     ] {
         shows(&rt, &LETTERS, order, "CBA\n")?;
     }
@@ -175,7 +200,9 @@ fn a_deletion_may_come_first(rt: HostRuntime) -> Result<(), Fail> {
         &["v1:first", "v1:abc"][..],
         &["v1:abc", "v1:first"][..],
         &["v2:first2", "v1:abc"][..],
+        &["v2:first2", "v2:abc2"][..],
         &["v2:abc2", "v2:first2"][..],
+        &["v1:first", "v2:abc2", "v2:first2", "v1:abc"][..],
     ] {
         shows(&rt, &TEXTS, order, "bc\n")?;
     }

@@ -125,13 +125,18 @@ impl Stage {
         for word in words {
             given.push(Word::copy_of(alloc, word)?)?;
         }
-        Ok(run(
+        Ok(self.status(alloc, given.as_slice()))
+    }
+
+    /// Runs the words, and gives the status.
+    pub(crate) fn status(&mut self, alloc: Global, words: &[Word]) -> u8 {
+        run(
             alloc,
-            given.as_slice(),
+            words,
             &mut self.library,
             &mut self.out,
             &mut self.err,
             &mut self.board,
-        ))
+        )
     }
 }
