@@ -1,6 +1,7 @@
 -- Runs that are taken in one after another: those of structs and of blocks, and whether they bring an operation.
 use Rattle.std.proofs.Common.{◌≡◌, ◌↔◌, ℕ, ◌+◌, ◌<◌, Bool, true, false, ◌||◌, List, [], ◌∷◌, ◌++◌, length, take, map, get_or, ◌⊎◌, inl, inr, refl, sym, ap, ◌∙◌, subst, arith, append-nil, append_assoc}
 use Rattle.std.specs.Prelude.{IsTrue}
+use Rattle.std.specs.Bool.{OnFalse}
 use Rattle.std.proofs.lemmas.Bool.{cases_Bool, or_parts, or_from, or_cases, or_left, or_right}
 use Rattle.std.proofs.lemmas.List.{map_more}
 use Rattle.yd_ids.specs.declared.id.Client.{Client}
@@ -19,7 +20,7 @@ use Rattle.yd_meaning.proofs.OneOfLemmas.{one_of_front, one_of_back, one_of_part
 use Rattle.yd_meaning.proofs.RunsLemmas.{with_runs-append}
 use Rattle.yd_received.specs.declared.taken.Taken.{Taken}
 use Rattle.yd_received.specs.Taken.{operations_in, GrowBy}
-use Rattle.yd_received.specs.Taking.{BringsOne, IsRun, IsTakeable, TakesIn}
+use Rattle.yd_received.specs.Taking.{BringsOne, IsRun, IsTakeable, AreUnchanged, TakesIn}
 use Rattle.yd_received.proofs.TakenLemmas.{grow_more}
 use Rattle.yd_received.proofs.UnitLemmas.{has_parts}
 
@@ -55,6 +56,12 @@ brings_more old new os ps ids = (there, back)
     back : BringsOne os old ⊎ BringsOne ps new → BringsOne (os ++ ps) old
     back (inl (o, i, none)) = (o, one_of_front o os ps i, none)
     back (inr (o, i, none)) = (o, one_of_back o os ps i, (or_parts (has_operation old o.id) (has_operation os o.id) (sym (ids o.id) ∙ none)).0)
+
+-- where neither brings an operation nothing changes
+pub unchanged_more : (a b c : List Run) (x y z : List Taken) (s t : Bool) → OnFalse s (AreUnchanged a x b y) → OnFalse t (AreUnchanged b y c z) → OnFalse (s || t) (AreUnchanged a x c z)
+unchanged_more a b c x y z true t first second = tt
+unchanged_more a b c x y z false true first second = tt
+unchanged_more a b c x y z false false first second = (second.0 ∙ first.0, second.1 ∙ first.1)
 
 -- ---- lists of structs and of blocks
 

@@ -166,6 +166,10 @@ pub record IsTakenNext (old_runs : List Run) (old : List Taken) (runs : List Run
   pub piece : IsPiece run.content from (from + new) count torn
   pub adds : Adds old_runs old runs taken at (later_id run.id from) count (operations_of_piece run from count torn)
 
+-- what was received is as it was, with no more runs
+abbrev pub AreUnchanged : List Run → List Taken → List Run → List Taken → Type 0
+AreUnchanged old_runs old runs taken = (runs ≡ old_runs) × (taken ≡ old)
+
 -- runs are taken in: what was taken is what the definition says, with the ids of these operations
 pub record TakesIn (old_runs : List Run) (old : List Taken) (runs : List Run) (taken : List Taken) (more : List RunValue) (os : List Operation) : Type 0 where
   pub received : operations_in runs taken ≡ with_runs more (operations_in old_runs old)

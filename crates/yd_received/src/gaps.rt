@@ -6,7 +6,8 @@ ghost use Rattle.yd_ids.specs.Each.{Each};
 ghost use Rattle.yd_ids.specs.Id.{IsClock};
 ghost use Rattle.yd_ops.specs.Operation.{later_id};
 ghost use Rattle.yd_received.specs.Taken.{AreInOrder};
-ghost use Rattle.yd_received.specs.Taking.{is_covered, AreCovered, HasUnits, EndsBy, EndsBehind, ends_by, IsGap};
+ghost use Rattle.yd_received.specs.Taking.{is_covered, AreCovered, HasUnits, EndsBy, EndsBehind};
+ghost use Rattle.yd_received.specs.Taking.{ends_by, IsGap};
 
 use crate::taken::Taken;
 use yd_ids::Id;

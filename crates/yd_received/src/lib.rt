@@ -1,4 +1,4 @@
-//! What was received: runs, and of each the units that were taken, since their ids had not come before.
+//! What was received: runs, and of each the units that were taken, since their ids were new.
 //!
 //! Taking in an update adds what `yd_meaning` defines: the operations with new ids, and of a pair
 //! with one new half that half as U+FFFD ([`take_update`]). What was held stays as it was. The

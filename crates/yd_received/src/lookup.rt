@@ -1,6 +1,7 @@
 //! Where an id stands among what was taken.
 
-ghost use Rattle.std.specs.Prelude.{◌≡◌, ◌≢◌, ◌<◌, ◌≤◌, true, false, length, take, drop, HoldsAt, IfSome, IfNone};
+ghost use Rattle.std.specs.Prelude.{◌≡◌, ◌≢◌, ◌<◌, ◌≤◌, true, false, length, take, drop};
+ghost use Rattle.std.specs.Prelude.{HoldsAt, IfSome, IfNone};
 ghost use Rattle.yd_ids.specs.Each.{Each};
 ghost use Rattle.yd_received.specs.Taken.{AreInOrder, covers};
 ghost use Rattle.yd_received.specs.Lookup.{begins_by};

@@ -1,13 +1,15 @@
 //! Units of a run that are taken together: whole pairs, or a half whose other half came before.
 
-ghost use Rattle.std.specs.Prelude.{◌≡◌, ◌↔◌, ◌≤◌, ◌<◌, ◌+◌, true, [], ◌∷◌, ◌++◌, IsTrue, IfOk, OnOk, length, take, drop};
+ghost use Rattle.std.specs.Prelude.{◌≡◌, ◌↔◌, ◌≤◌, ◌<◌, ◌+◌, true, [], ◌∷◌, ◌++◌};
+ghost use Rattle.std.specs.Prelude.{IsTrue, IfOk, OnOk, length, take, drop};
 ghost use Rattle.yd_ids.specs.Id.{IsClock};
 ghost use Rattle.yd_ops.specs.declared.runs.Run.{Run};
 ghost use Rattle.yd_ops.specs.Operation.{later_id};
 ghost use Rattle.yd_ops.specs.Value.{len_of};
 ghost use Rattle.yd_ops.specs.View.{content_value, run_value};
 ghost use Rattle.yd_received.specs.Taken.{StaysOfFirst, GrowBy};
-ghost use Rattle.yd_received.specs.Taking.{PartsPair, IsPiece, left_at, list_from, half_at, IsRun, IsKept, Adds, operations_of_piece, entry_of};
+ghost use Rattle.yd_received.specs.Taking.{PartsPair, IsPiece, left_at, list_from, half_at, IsRun};
+ghost use Rattle.yd_received.specs.Taking.{IsKept, Adds, operations_of_piece, entry_of};
 
 use crate::fault::NoMemory;
 use crate::taken::Taken;
@@ -16,7 +18,7 @@ use yd_ids::Id;
 use yd_ops::{Content, List, Run};
 use yd_units::Units;
 
-/// Units of a run in a row that are taken as they are, or one half of a pair that is taken as U+FFFD.
+/// Units of a run in a row that are taken as they are, or one half of a pair, taken as U+FFFD.
 #[derive(Clone, Copy)]
 pub(crate) struct Piece {
     /// How many units there are.
@@ -25,7 +27,7 @@ pub(crate) struct Piece {
     pub is_torn: bool,
 }
 
-/// The first piece of the units from one up to another, which are new where those beside them are not.
+/// The first piece of the units from one up to another, which are new, and those beside them not.
 pub(crate) fn first_piece(content: &Content, from: u64, to: u64) -> Piece
     requires { from < to }
     ensures { IsPiece (content_value content.now) from to result.len result.is_torn }
@@ -81,8 +83,9 @@ pub(crate) fn take_piece(
     requires some { 0 < piece.len }
     requires bound { from + piece.len ≤ len_of (content_value run.now.content) }
     requires torn { piece.is_torn ≡ true → piece.len ≡ 1 }
-    ensures added { OnOk result (Adds runs.old.items taken.old.items runs.new.items taken.new.items at
-        (later_id run.now.id from) piece.len (operations_of_piece (run_value run.now) from piece.len piece.is_torn)) }
+    ensures added { OnOk result (Adds runs.old.items taken.old.items
+        runs.new.items taken.new.items at (later_id run.now.id from) piece.len
+        (operations_of_piece (run_value run.now) from piece.len piece.is_torn)) }
     ensures grows { GrowBy runs.old.items runs.new.items }
     ensures first { StaysOfFirst index taken.old.items taken.new.items }
 {
@@ -136,7 +139,8 @@ fn take_half(
     ensures half { OnOk result ((half : Run) × (runs.new.items ≡ runs.old.items ++ half ∷ [])
         × (run_value half ≡ half_at (run_value run.now) from)) }
     ensures entry { OnOk result (taken.new.items ≡ take at taken.old.items
-        ++ entry_of (run_value run.now) from (length runs.old.items) 0 1 ∷ drop at taken.old.items) }
+        ++ entry_of (run_value run.now) from (length runs.old.items) 0 1
+        ∷ drop at taken.old.items) }
     ensures grows { GrowBy runs.old.items runs.new.items }
     ensures first { StaysOfFirst (length runs.old.items) taken.old.items taken.new.items }
 {

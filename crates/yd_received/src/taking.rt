@@ -1,14 +1,21 @@
 //! Taking in the operations of an update.
 
-ghost use Rattle.std.specs.Prelude.{◌≡◌, ◌↔◌, ◌<◌, ◌≤◌, ◌-◌, ◌⊎◌, [], ◌∷◌, length, filter, map, IsTrue, OnOk, IfOk};
+ghost use Rattle.std.specs.Prelude.{◌≡◌, ◌↔◌, ◌<◌, ◌≤◌, ◌-◌, ◌⊎◌, [], ◌∷◌, length, filter, map};
+ghost use Rattle.std.specs.Prelude.{IsTrue, OnOk, IfOk};
+ghost use Rattle.std.specs.Bool.{OnFalse};
 ghost use Rattle.yd_ids.specs.Each.{Each};
-ghost use Rattle.yd_ops.specs.Operation.{operations_of_run, operations_of_structs, operations_of_blocks};
+ghost use Rattle.yd_ops.specs.Operation.{operations_of_run, operations_of_structs};
+ghost use Rattle.yd_ops.specs.Operation.{operations_of_blocks};
 ghost use Rattle.yd_ops.specs.Valid.{IsValidBlock, IsValidUpdate};
 ghost use Rattle.yd_ops.specs.Value.{len_of};
-ghost use Rattle.yd_ops.specs.View.{content_value, run_value, struct_value, block_value, update_value};
+ghost use Rattle.yd_ops.specs.View.{content_value, run_value, struct_value, block_value};
+ghost use Rattle.yd_ops.specs.View.{update_value};
 ghost use Rattle.yd_meaning.specs.Received.{with_runs, runs_of, runs_of_structs, runs_of_blocks};
-ghost use Rattle.yd_received.specs.Taken.{AreTaken, AreInOrder, operations_in, is_held, StaysOfFirst, GrowBy};
-ghost use Rattle.yd_received.specs.Taking.{AreCovered, BringsOne, BringsOperation, HasUnits, IsRun, IsKept, IsPassed, IsTakenNext, IsTakeable, TakesIn};
+ghost use Rattle.yd_received.specs.Taken.{AreTaken, AreInOrder, operations_in, is_held};
+ghost use Rattle.yd_received.specs.Taken.{StaysOfFirst, GrowBy};
+ghost use Rattle.yd_received.specs.Taking.{AreCovered, BringsOne, BringsOperation, HasUnits, IsRun};
+ghost use Rattle.yd_received.specs.Taking.{IsKept, IsPassed, IsTakenNext, IsTakeable, TakesIn};
+ghost use Rattle.yd_received.specs.Taking.{AreUnchanged};
 
 use crate::fault::NoMemory;
 use crate::gaps::{known_from, stretch_from};
@@ -17,10 +24,10 @@ use crate::taken::Taken;
 use std::alloc::Global;
 use yd_ops::{Block, Run, Struct, Update};
 
-/// Takes in the operations of an update, and answers whether one had a new id. Each run of which a
-/// unit is new is copied once. For each entry that has ids of a run, and each new one, it takes a
-/// bisection and an insertion. Where memory ends, runs may stand behind the others, and entries of
-/// those alone among what was taken.
+/// Takes in the operations of an update, and answers whether one had a new id; where none had,
+/// nothing changes. Each run of which a unit is new is copied once. For each entry that has ids of a
+/// run, and each new one, it takes a bisection and an insertion. Where memory ends, runs may stand
+/// behind the others, and entries of those alone among what was taken.
 pub fn take_update(
     alloc: Global,
     runs: &mut Vec<Run>,
@@ -30,9 +37,13 @@ pub fn take_update(
     requires update { IsValidUpdate (update_value update.now) }
     requires taken { AreTaken runs.old.items taken.old.items }
     ensures received { OnOk result (operations_in runs.new.items taken.new.items
-        ≡ with_runs (runs_of (update_value update.now)) (operations_in runs.old.items taken.old.items)) }
+        ≡ with_runs (runs_of (update_value update.now))
+        (operations_in runs.old.items taken.old.items)) }
     ensures brings { IfOk result (λ brings. IsTrue brings
-        ↔ BringsOperation (update_value update.now) (operations_in runs.old.items taken.old.items)) }
+        ↔ BringsOperation (update_value update.now)
+        (operations_in runs.old.items taken.old.items)) }
+    ensures unchanged { IfOk result (λ brings. OnFalse brings
+        (AreUnchanged runs.old.items taken.old.items runs.new.items taken.new.items)) }
     ensures kept { OnOk result (AreTaken runs.new.items taken.new.items) }
     ensures held { OnOk result (filter is_held taken.new.items ≡ filter is_held taken.old.items) }
     ensures grows { GrowBy runs.old.items runs.new.items }
@@ -51,10 +62,14 @@ fn take_blocks(
 ) -> Result<bool, NoMemory>
     requires blocks { Each IsValidBlock (map block_value blocks.now) }
     requires taken { AreTaken runs.old.items taken.old.items }
-    ensures taken { OnOk result (TakesIn runs.old.items taken.old.items runs.new.items taken.new.items
-        (runs_of_blocks (map block_value blocks.now)) (operations_of_blocks (map block_value blocks.now))) }
+    ensures taken { OnOk result (TakesIn runs.old.items taken.old.items
+        runs.new.items taken.new.items (runs_of_blocks (map block_value blocks.now))
+        (operations_of_blocks (map block_value blocks.now))) }
     ensures brings { IfOk result (λ brings. IsTrue brings
-        ↔ BringsOne (operations_of_blocks (map block_value blocks.now)) (operations_in runs.old.items taken.old.items)) }
+        ↔ BringsOne (operations_of_blocks (map block_value blocks.now))
+        (operations_in runs.old.items taken.old.items)) }
+    ensures unchanged { IfOk result (λ brings. OnFalse brings
+        (AreUnchanged runs.old.items taken.old.items runs.new.items taken.new.items)) }
     ensures grows { GrowBy runs.old.items runs.new.items }
     ensures first { StaysOfFirst (length runs.old.items) taken.old.items taken.new.items }
 {
@@ -75,10 +90,14 @@ fn take_structs(
 ) -> Result<bool, NoMemory>
     requires structs { Each IsTakeable (map struct_value structs.now) }
     requires taken { AreTaken runs.old.items taken.old.items }
-    ensures taken { OnOk result (TakesIn runs.old.items taken.old.items runs.new.items taken.new.items
-        (runs_of_structs (map struct_value structs.now)) (operations_of_structs (map struct_value structs.now))) }
+    ensures taken { OnOk result (TakesIn runs.old.items taken.old.items
+        runs.new.items taken.new.items (runs_of_structs (map struct_value structs.now))
+        (operations_of_structs (map struct_value structs.now))) }
     ensures brings { IfOk result (λ brings. IsTrue brings
-        ↔ BringsOne (operations_of_structs (map struct_value structs.now)) (operations_in runs.old.items taken.old.items)) }
+        ↔ BringsOne (operations_of_structs (map struct_value structs.now))
+        (operations_in runs.old.items taken.old.items)) }
+    ensures unchanged { IfOk result (λ brings. OnFalse brings
+        (AreUnchanged runs.old.items taken.old.items runs.new.items taken.new.items)) }
     ensures grows { GrowBy runs.old.items runs.new.items }
     ensures first { StaysOfFirst (length runs.old.items) taken.old.items taken.new.items }
 {
@@ -99,10 +118,14 @@ fn take_struct(
 ) -> Result<bool, NoMemory>
     requires entry { IsTakeable (struct_value entry.now) }
     requires taken { AreTaken runs.old.items taken.old.items }
-    ensures taken { OnOk result (TakesIn runs.old.items taken.old.items runs.new.items taken.new.items
-        (runs_of_structs (struct_value entry.now ∷ [])) (operations_of_structs (struct_value entry.now ∷ []))) }
+    ensures taken { OnOk result (TakesIn runs.old.items taken.old.items
+        runs.new.items taken.new.items (runs_of_structs (struct_value entry.now ∷ []))
+        (operations_of_structs (struct_value entry.now ∷ []))) }
     ensures brings { IfOk result (λ brings. IsTrue brings
-        ↔ BringsOne (operations_of_structs (struct_value entry.now ∷ [])) (operations_in runs.old.items taken.old.items)) }
+        ↔ BringsOne (operations_of_structs (struct_value entry.now ∷ []))
+        (operations_in runs.old.items taken.old.items)) }
+    ensures unchanged { IfOk result (λ brings. OnFalse brings
+        (AreUnchanged runs.old.items taken.old.items runs.new.items taken.new.items)) }
     ensures grows { GrowBy runs.old.items runs.new.items }
     ensures first { StaysOfFirst (length runs.old.items) taken.old.items taken.new.items }
 {
@@ -124,10 +147,14 @@ fn take_run(
 ) -> Result<bool, NoMemory>
     requires run { IsRun (run_value run.now) }
     requires taken { AreTaken runs.old.items taken.old.items }
-    ensures taken { OnOk result (TakesIn runs.old.items taken.old.items runs.new.items taken.new.items
+    ensures taken { OnOk result (TakesIn runs.old.items taken.old.items
+        runs.new.items taken.new.items
         (run_value run.now ∷ []) (operations_of_run (run_value run.now))) }
     ensures brings { IfOk result (λ brings. IsTrue brings
-        ↔ BringsOne (operations_of_run (run_value run.now)) (operations_in runs.old.items taken.old.items)) }
+        ↔ BringsOne (operations_of_run (run_value run.now))
+        (operations_in runs.old.items taken.old.items)) }
+    ensures unchanged { IfOk result (λ brings. OnFalse brings
+        (AreUnchanged runs.old.items taken.old.items runs.new.items taken.new.items)) }
     ensures grows { GrowBy runs.old.items runs.new.items }
     ensures first { StaysOfFirst (length runs.old.items) taken.old.items taken.new.items }
 {
@@ -156,7 +183,8 @@ fn take_rest(
     requires taken { AreTaken runs.old.items taken.old.items }
     requires bound { known ≤ len_of (content_value run.now.content) }
     requires known { AreCovered taken.old.items run.now.id known }
-    ensures taken { OnOk result (TakesIn runs.old.items taken.old.items runs.new.items taken.new.items
+    ensures taken { OnOk result (TakesIn runs.old.items taken.old.items
+        runs.new.items taken.new.items
         (run_value run.now ∷ []) (operations_of_run (run_value run.now))) }
     ensures grows { GrowBy runs.old.items runs.new.items }
     ensures first { StaysOfFirst index taken.old.items taken.new.items }
@@ -182,10 +210,13 @@ fn take_next(
     requires in_order { AreInOrder taken.old.items }
     requires each { Each HasUnits taken.old.items }
     requires more { from < len_of (content_value run.now.content) }
-    ensures bound { IfOk result (λ next. (from < next) × (next ≤ len_of (content_value run.now.content))) }
+    ensures bound { IfOk result (λ next. (from < next)
+        × (next ≤ len_of (content_value run.now.content))) }
     ensures taken { IfOk result (λ next.
-        IsPassed runs.old.items taken.old.items runs.new.items taken.new.items (run_value run.now) from (next - from)
-        ⊎ IsTakenNext runs.old.items taken.old.items runs.new.items taken.new.items (run_value run.now) from (next - from)) }
+        IsPassed runs.old.items taken.old.items runs.new.items taken.new.items
+        (run_value run.now) from (next - from)
+        ⊎ IsTakenNext runs.old.items taken.old.items runs.new.items taken.new.items
+        (run_value run.now) from (next - from)) }
     ensures grows { GrowBy runs.old.items runs.new.items }
     ensures first { StaysOfFirst index taken.old.items taken.new.items }
 {
