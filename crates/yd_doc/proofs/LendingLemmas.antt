@@ -28,7 +28,8 @@ use Rattle.yd_received.specs.Taking.{is_covered}
 use Rattle.yd_received.proofs.EntriesLemmas.{IsEntry}
 use Rattle.yd_doc.proofs.NamedLemmas.{named_decides}
 use Rattle.yd_held.proofs.HeldUnitLemmas.{covers_less, less_covers, covers_unit}
-use Rattle.yd_held.proofs.HeldEntryLemmas.{is_taken, held_written, entry_held, covers_held, id_held}
+use Rattle.yd_received.proofs.WrittenLemmas.{held_written}
+use Rattle.yd_held.proofs.HeldEntryLemmas.{is_taken, entry_held, covers_held, id_held}
 use Rattle.yd_received.proofs.UnitLemmas.{later_none, later_later, later_same, from_unit}
 
 -- what is asked of a set is whether its spans name the id
@@ -198,7 +199,7 @@ module _ (runs : List Run) (taken : List Taken) (are : AreTaken runs taken) (id 
         lent_in runs taken deletes order
         ≡ lent_from id deleted (take n (drop offset (units_of_content (content_value (get_or runs t.run d).content)))) ++ lent_in runs taken deletes (drop n order)
     row_lent d deletes deleted n offset order named place le row =
-        lent_row (held_in runs taken) (written_distinct (held_in runs taken) (held_written runs taken are.each are.in_order)) deletes (units_of (slice_get runs t.run))
+        lent_row (held_in runs taken) (written_distinct (held_in runs taken) (held_written runs taken are)) deletes (units_of (slice_get runs t.run))
         (is_named deletes id) n (t.offset + skipped) id order (holds_at n le) row
         ∙ ap (λ z. lent_from id (is_named deletes id) (take n (drop (t.offset + skipped) (units_of z))) ++ lent_in runs taken deletes (drop n order)) (run_there d)
         ∙ ap (λ k. lent_from id (is_named deletes id) (take n (drop k (units_of_content (content_value (get_or runs t.run d).content)))) ++ lent_in runs taken deletes (drop n order)) (sym place)

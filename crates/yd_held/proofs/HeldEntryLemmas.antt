@@ -1,18 +1,18 @@
--- The operations of entries: they are in the order of writing, and an id is held where the entry that covers it is.
+-- The operations of entries: what is held of them is received, and an id is held where the entry that covers it is.
 use Rattle.std.proofs.Common.{◌≡◌, ℕ, ◌<◌, true, List, [], ◌∷◌, inl, inr, length, get_or, refl, sym, ◌∙◌, subst}
 use Rattle.std.specs.Prelude.{filter}
 use Rattle.yd_ids.specs.declared.id.Id.{Id}
 use Rattle.yd_ids.specs.Each.{Each}
 use Rattle.yd_ops.specs.declared.runs.Run.{Run}
 use Rattle.yd_ops.specs.Operation.{Operation}
-use Rattle.yd_meaning.specs.Received.{IsOneOf, has_operation, IsWritten}
+use Rattle.yd_meaning.specs.Received.{IsOneOf, has_operation}
 use Rattle.yd_meaning.proofs.OneOfLemmas.{one_of_front, one_of_back, one_of_parts, operation_with, id_there, ids_stay}
 use Rattle.yd_received.specs.declared.taken.Taken.{Taken}
 use Rattle.yd_received.specs.Taken.{operations_of_taken, operations_in, held_in, is_held, covers, IsTakenOf, AreInOrder}
 use Rattle.yd_received.specs.Taking.{is_covered}
-use Rattle.yd_received.proofs.EntriesLemmas.{IsEntry, entry_at, each_entry, kept_entry, entry_kept, each_kept, order_kept, one_entry}
+use Rattle.yd_received.proofs.EntriesLemmas.{IsEntry, entry_at, each_entry, kept_entry, entry_kept, one_entry}
 use Rattle.yd_held.proofs.HeldUnitLemmas.{covers_unit, unit_covers}
-use Rattle.yd_received.proofs.TakenLemmas.{has_covered, in_written}
+use Rattle.yd_received.proofs.TakenLemmas.{has_covered}
 
 -- ---- operations and entries
 
@@ -37,12 +37,6 @@ module _ (runs : List Run) (ts : List Taken) (each : Each (IsTakenOf runs) ts) (
 
   pub is_taken : (t : Taken) → IsEntry t ts → IsTakenOf runs t
   is_taken = each_entry (IsTakenOf runs) ts each
-
-  pub received_written : IsWritten (operations_in runs ts)
-  received_written = in_written runs ts each order
-
-  pub held_written : IsWritten (held_in runs ts)
-  held_written = in_written runs (filter is_held ts) (each_kept is_held (IsTakenOf runs) ts each) (order_kept is_held ts order)
 
   -- a held operation is of an entry that is held
   pub held_entry : (o : Operation) → IsOneOf o (held_in runs ts) → (t : Taken) × IsEntry t ts × (is_held t ≡ true) × IsOneOf o (operations_of_taken runs t)

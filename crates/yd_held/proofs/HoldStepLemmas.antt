@@ -22,7 +22,8 @@ use Rattle.yd_held.specs.Readiness.{IsOriginOf, first_list}
 use Rattle.yd_held.specs.Holding.{IsHolding, with_number}
 use Rattle.yd_received.proofs.EntriesLemmas.{IsEntry}
 use Rattle.yd_held.proofs.HeldUnitLemmas.{covers_less, less_covers, covers_unit, unit_covers}
-use Rattle.yd_held.proofs.HeldEntryLemmas.{is_taken, received_written, held_written, held_entry, entry_held, held_received, one_of_entry}
+use Rattle.yd_received.proofs.WrittenLemmas.{taken_written, held_written}
+use Rattle.yd_held.proofs.HeldEntryLemmas.{is_taken, held_entry, entry_held, held_received, one_of_entry}
 use Rattle.yd_held.proofs.NumberingLemmas.{entry_got, set_has_new, set_has, set_is, each_taken-number, order-number, operations-number}
 use Rattle.yd_held.proofs.HoldingLemmas.{unit_needs, IsReady, tells, has_needs, held_of_all, reached}
 
@@ -68,7 +69,7 @@ module _ (runs : List Run) (ts : List Taken) (vector : List (Client × ℕ)) (na
   taken_after = record { each = each_after; in_order = order_after; paired = rw received_after s.holding.in_order.paired }
 
   pub written_after : IsWritten after
-  written_after = held_written runs numbered each_after order_after
+  written_after = held_written runs numbered taken_after
 
   -- ---- what is held then
 
@@ -152,10 +153,10 @@ module _ (runs : List Run) (ts : List Taken) (vector : List (Client × ℕ)) (na
 
     -- what is held is its own held set
     pub own_after : held_set after ≡ after
-    own_after = held_set-part received after (received_written runs ts s.holding.in_order.each s.holding.in_order.in_order) within closed
+    own_after = held_set-part received after (taken_written runs ts s.holding.in_order) within closed
       where
         within : (o : Operation) → IsOneOf o after → IsOneOf o (held_set received)
-        within o i = below_held received (received_written runs ts s.holding.in_order.each s.holding.in_order.in_order) (clock_of raised) reached_after o (in_received o i)
+        within o i = below_held received (taken_written runs ts s.holding.in_order) (clock_of raised) reached_after o (in_received o i)
             ((tells_after o.id).0 (id_is_there after o i))
 
         closed : (o : Operation) → IsOneOf o after → (x : Id) → IsIn x (needs o) → has_operation after x ≡ true

@@ -23,7 +23,8 @@ use Rattle.yd_received.specs.declared.taken.Taken.{Taken}
 use Rattle.yd_received.specs.Taken.{operations_of_taken, operations_in, held_in, is_held, IsTakenOf}
 use Rattle.yd_held.specs.Readiness.{IsOriginOf, is_below, is_none_or_below, first_list, is_ready}
 use Rattle.yd_held.specs.Holding.{IsHolding}
-use Rattle.yd_held.proofs.HeldEntryLemmas.{held_written, held_received}
+use Rattle.yd_received.proofs.WrittenLemmas.{held_written}
+use Rattle.yd_held.proofs.HeldEntryLemmas.{held_received}
 use Rattle.yd_held.proofs.HeldUnitLemmas.{unit_cases}
 
 -- ---- what an operation needs
@@ -128,7 +129,7 @@ module _ (runs : List Run) (ts : List Taken) (vector : List (Client × ℕ)) (na
   held = held_in runs ts
 
   pub is_written : IsWritten held
-  is_written = held_written runs ts h.in_order.each h.in_order.in_order
+  is_written = held_written runs ts h.in_order
 
   -- the held ids are those below the vector
   pub tells : (x : Id) → has_operation held x ≡ true ↔ x.clock < clock_of vector x.client.0

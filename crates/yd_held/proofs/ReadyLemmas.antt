@@ -24,7 +24,8 @@ use Rattle.yd_held.specs.Readiness.{first_list, is_ready}
 use Rattle.yd_held.specs.Holding.{IsHolding, AreUnready}
 use Rattle.yd_received.proofs.EntriesLemmas.{IsEntry, each_entry}
 use Rattle.yd_held.proofs.HeldUnitLemmas.{IsFirst, id_at, unit_cases, less_covers}
-use Rattle.yd_held.proofs.HeldEntryLemmas.{is_taken, received_written, entry_of_one, entry_held, held_received, covers_held}
+use Rattle.yd_received.proofs.WrittenLemmas.{taken_written}
+use Rattle.yd_held.proofs.HeldEntryLemmas.{is_taken, entry_of_one, entry_held, held_received, covers_held}
 use Rattle.yd_held.proofs.HoldingLemmas.{some_below, tells, held_of_all, reached, is_written}
 
 same_clock : (m n : ℕ) → m ≡ n → nat_eq m n ≡ true
@@ -73,7 +74,7 @@ module _ (runs : List Run) (ts : List Taken) (vector : List (Client × ℕ)) (na
   held_all = written_alone held (held_set received) (is_written runs ts vector names h) (held_set_written received written) (held_of_all runs ts vector names h) back
     where
       written : IsWritten received
-      written = received_written runs ts h.in_order.each h.in_order.in_order
+      written = taken_written runs ts h.in_order
 
       back : (o : Operation) → IsOneOf o (held_set received) → IsOneOf o held
       back o i =
