@@ -17,7 +17,7 @@ use Rattle.yd_meaning.specs.Held.{held_set}
 use Rattle.yd_meaning.specs.Deleted.{AreDeleteSet}
 use Rattle.yd_held.specs.Holding.{IsHolding, undone}
 use Rattle.yd_held.specs.Numbered.{IsVectorOf, AreNumbered}
-use Rattle.yd_held.specs.Noted.{AreNoted}
+use Rattle.yd_held.specs.Noted.{AreNoted, AreMissing}
 use Rattle.yd_held.specs.Readiness.{is_below}
 use Rattle.yd_held.proofs.HeldEntryLemmas.{is_taken, held_id}
 use Rattle.yd_held.proofs.HeldUnitLemmas.{covers_first}
@@ -198,6 +198,7 @@ module _ (old mid new : State) (before : Before) (of : IsOf old before) (changed
     noted = subst (λ v. AreNoted v new.runs.items new.lacks.items [] new.taken.items) (sym vector_back)
         (subst (λ ls. AreNoted old.vector new.runs.items ls [] new.taken.items) (sym (restored.lacks ∙ of.lacks_are))
         (subst (λ ts. AreNoted old.vector new.runs.items old.lacks.items [] ts) (sym taken_back) (subst (λ rs. AreNoted old.vector rs old.lacks.items [] old.taken.items) (sym runs_back) sound.noted)));
+    missing = subst (λ v. AreMissing v new.lacks.items) (sym vector_back) (subst (AreMissing old.vector) (sym (restored.lacks ∙ of.lacks_are)) sound.missing);
     ordered = subst (λ orders. AreOrders (held_of new) new.names.items (order_lists orders.items)) (sym (restored.orders ∙ changed.orders))
         (subst (λ ns. AreOrders (held_of new) ns (order_lists old.orders.items)) (sym names_back) (subst (λ h. AreOrders h old.names.items (order_lists old.orders.items)) (sym held_back) sound.ordered));
     deletes = subst (λ d. AreDeleteSet d (received_in new)) (sym (restored.deletes ∙ changed.deletes)) (subst (AreDeleteSet old.deletes) (sym received_back) sound.deletes);

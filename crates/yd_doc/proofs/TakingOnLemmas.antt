@@ -1,7 +1,7 @@
 -- A state that has taken more is ready to hold more: what was held is held alike, and what waited is noted alike.
 use Rattle.std.proofs.Common.{◌≡◌, ℕ, [], length, filter, sym, ap, ◌∙◌, subst, arith}
 use Rattle.yd_received.specs.Taken.{AreTaken, is_held, is_of_first}
-use Rattle.yd_held.specs.Noted.{AreNoted}
+use Rattle.yd_held.specs.Noted.{AreNoted, AreMissing}
 use Rattle.yd_held.specs.Numbered.{IsVectorOf, AreNumbered}
 use Rattle.yd_doc.specs.declared.state.State.{State}
 use Rattle.yd_doc.specs.Changing.{TakesMore, IsReady}
@@ -22,6 +22,9 @@ module _ (old new : State) (sound : IsSound old) (more : TakesMore old new) wher
         (subst (λ orders. AreOrders (held_of new) old.names.items (order_lists orders.items)) (sym more.orders)
         (taken_ordered old new.runs.items new.taken.items sound more.runs taken.in_order held));
   }
+
+  pub missing_then : AreMissing new.vector new.lacks.items
+  missing_then = subst (λ v. AreMissing v new.lacks.items) (sym more.vector) (subst (λ lacks. AreMissing old.vector lacks.items) (sym more.lacks) sound.missing)
 
   pub noted_then : (from : ℕ) → from ≡ length old.runs.items →
       AreNoted new.vector new.runs.items new.lacks.items [] (filter (is_of_first from) new.taken.items)

@@ -8,7 +8,7 @@ use Rattle.yd_meaning.specs.Deleted.{AreDeleteSet}
 use Rattle.yd_doc.specs.declared.state.State.{State}
 use Rattle.yd_received.specs.Taken.{AreTaken, operations_in, held_in}
 use Rattle.yd_held.specs.Numbered.{IsVectorOf, AreNumbered}
-use Rattle.yd_held.specs.Noted.{AreNoted}
+use Rattle.yd_held.specs.Noted.{AreNoted, AreMissing}
 use Rattle.yd_held.specs.Holding.{HoldsAll}
 use Rattle.yd_doc.specs.Ordered.{AreOrders, order_lists}
 
@@ -32,5 +32,6 @@ pub record IsSound (s : State) : Type 0 where
   pub vector : IsVectorOf s.vector s.runs.items s.taken.items
   pub numbered : AreNumbered s.runs.items s.taken.items s.names.items
   pub noted : AreNoted s.vector s.runs.items s.lacks.items [] s.taken.items
+  pub missing : AreMissing s.vector s.lacks.items
   pub ordered : AreOrders (held_of s) s.names.items (order_lists s.orders.items)
   pub deletes : AreDeleteSet s.deletes (received_in s)

@@ -9,7 +9,7 @@ ghost use Rattle.yd_ops.specs.View.{update_value};
 ghost use Rattle.yd_meaning.specs.Received.{received_after};
 ghost use Rattle.yd_received.specs.Taking.{BringsOperation};
 ghost use Rattle.yd_received.specs.Taken.{is_of_first};
-ghost use Rattle.yd_held.specs.Noted.{AreNoted};
+ghost use Rattle.yd_held.specs.Noted.{AreNoted, AreMissing, StayMissing};
 ghost use Rattle.yd_doc.specs.Changing.{HasTaken, TakesMore, HoldsOnly, IsReady, AreUnmarked};
 ghost use Rattle.yd_doc.specs.Marks.{HasMarks};
 ghost use Rattle.yd_doc.specs.Ordered.{order_lists};
@@ -67,6 +67,8 @@ fn hold_into(state: &mut State, from: usize) -> Result<Vec<bool>, NoMemory>
     requires noted { AreNoted state.old.vector state.old.runs.items state.old.lacks.items []
         (filter (is_of_first from) state.old.taken.items) }
     ensures holds { OnOk result (HoldsAllOf state.new) }
+    ensures missing { OnOk result (StayMissing state.old.vector state.old.lacks.items
+        state.new.vector state.new.lacks.items) }
     ensures received { OnOk result (received_in state.new ≡ received_in state.old) }
     ensures settled { IfOk result (λ stale. AreSettled stale.items state.new.names.items
         (order_lists state.new.orders.items) state.new.taken.items) }
@@ -100,6 +102,7 @@ fn mark_from(marks: &mut Vec<bool>, from: usize)
 /// list is looked at.
 fn settle(state: &mut State, stale: &[bool]) -> Result<(), NoMemory>
     requires holds { HoldsAllOf state.old }
+    requires missing { AreMissing state.old.vector state.old.lacks.items }
     requires named { AreMaximal state.old.named }
     requires settled { AreSettled stale.now state.old.names.items
         (order_lists state.old.orders.items) state.old.taken.items }

@@ -75,7 +75,7 @@ module _ (l : Lack) where
       go false true j rest = j
       go false false j rest = inr j
 
-  each_with : (P : Lack → Type 0) (ls : List Lack) → Each P ls → P l → Each P (with_lack l ls)
+  pub each_with : (P : Lack → Type 0) (ls : List Lack) → Each P ls → P l → Each P (with_lack l ls)
   each_with P [] each here = (here, tt)
   each_with P (m ∷ ms) each here = go (stands_before m l) (same_lack m l) (each_with P ms each.1 here)
     where

@@ -15,12 +15,12 @@ use Rattle.yd_meaning.specs.ListNames.{hold_both}
 use Rattle.yd_meaning.specs.Held.{item_carried}
 use Rattle.yd_held.specs.declared.noting.Lack.{Lack}
 use Rattle.yd_held.specs.Readiness.{IsOriginOf, is_below, is_none_or_below, missing_of, first_of, lack_of, first_list, is_ready}
-use Rattle.yd_held.specs.Noted.{StandsIn, AreSorted, with_lack, Wakes, IsNoted, IsNotedOrTried, AreNoted}
+use Rattle.yd_held.specs.Noted.{StandsIn, AreSorted, with_lack, Wakes, IsNoted, IsNotedOrTried, AreNoted, AreMissing}
 use Rattle.yd_held.specs.Holding.{with_number, HoldsEntry}
 use Rattle.yd_held.specs.Trying.{IsNext}
 use Rattle.yd_held.proofs.HeldUnitLemmas.{covers_first, less_covers}
 use Rattle.yd_held.proofs.NumberingLemmas.{set_is}
-use Rattle.yd_held.proofs.LackLemmas.{kept_in, sorted_kept, with_has, with_stays, with_sorted}
+use Rattle.yd_held.proofs.LackLemmas.{kept_in, sorted_kept, with_has, with_stays, with_sorted, each_with}
 
 -- ---- standing in a list
 
@@ -110,6 +110,12 @@ module _ (vector : List (Client × ℕ)) (runs : List Run) (t : Taken) where
       go None None None f g h e = hold_both _ _ (ap not waits) (hold_both _ _ (same t.id.clock (clock_of vector t.id.client.0) at_clock)
           (hold_both _ _ (none_missing vector t.left f) (hold_both _ _ (none_missing vector t.right g) (none_missing vector (item_carried (first_list runs t)) h))))
 
+-- what is noted of them is missing
+pub missing_with : (vector : List (Client × ℕ)) (runs : List Run) (t : Taken) (x : Id) (client : Client) (lacks : List Lack) → lack_of vector runs t ≡ Some x →
+    AreMissing vector lacks → AreMissing vector (with_lack (record { id = x; client = client }) lacks)
+missing_with vector runs t x client lacks lacked missing =
+    each_with (record { id = x; client = client }) (λ (l : Lack). is_below vector l.id ≡ false) lacks missing (lack_is vector runs t x lacked).1
+
 -- ---- the clients that are to be tried
 
 -- only which clients are to be tried counts
@@ -195,6 +201,21 @@ module _ (vector : List (Client × ℕ)) (runs : List Run) (lacks left : List La
     ]
     | inr differs ↦ omega (arith, not_below vector x e, h.raises.other_clients x.client.0 differs)
   ])
+
+  -- what is noted then is still missing
+  pub missing_after : AreMissing vector lacks → AreMissing raised left
+  missing_after missing = subst (AreMissing raised) (sym wakes.stays) (go lacks missing)
+    where
+      go : (ls : List Lack) → AreMissing vector ls → AreMissing raised (filter (λ (l : Lack). not (covers h.entry l.id)) ls)
+      go [] each = tt
+      go (l ∷ ls) each = step (covers h.entry l.id) refl (go ls each.1)
+        where
+          others : List Lack
+          others = filter (λ (m : Lack). not (covers h.entry m.id)) ls
+
+          step : (b : Bool) → covers h.entry l.id ≡ b → AreMissing raised others → AreMissing raised (cond (not b) (l ∷ others) others)
+          step true e rest = rest
+          step false e rest = (still_missing l.id each.0 e, rest)
 
   -- where the units are held and what lacked them is to be tried, all is noted as before
   pub noted_after : AreNoted vector runs lacks (h.entry.id.client ∷ tries) ts → AreNoted raised runs left more new

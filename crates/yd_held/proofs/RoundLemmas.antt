@@ -9,10 +9,10 @@ use Rattle.yd_received.specs.declared.taken.Taken.{Taken}
 use Rattle.yd_received.specs.Taken.{GrowBy}
 use Rattle.yd_held.specs.declared.noting.Lack.{Lack}
 use Rattle.yd_held.specs.Holding.{HoldsMore, HoldsEntry, MarkChanges, undone}
-use Rattle.yd_held.specs.Noted.{AreNoted, Wakes}
+use Rattle.yd_held.specs.Noted.{AreNoted, AreMissing, Wakes}
 use Rattle.yd_held.specs.Readiness.{is_ready}
 use Rattle.yd_held.proofs.HoldingLemmas.{ready_is}
-use Rattle.yd_held.proofs.NotedLemmas.{noted_after}
+use Rattle.yd_held.proofs.NotedLemmas.{noted_after, missing_after}
 use Rattle.yd_held.proofs.UndoneLemmas.{undone_after, rises_after}
 
 -- ---- before the first round
@@ -59,18 +59,21 @@ module _ (runs : List Run) (at : ℕ) (ts new : List Taken) (vector raised : Lis
   begins : h.entry.id.clock ≡ clock_of vector h.entry.id.client.0
   begins = (ready_is vector runs h.entry (subst (λ u. is_ready vector runs u ≡ true) here (ready h.entry).0)).begins
 
-  pub round_noted : (left : List Lack) (more : List Client) (d : Taken) → Wakes (get_or new at d) lacks left tries more → AreNoted raised runs left more new
-  round_noted left more d wakes = noted_after vector runs lacks left tries more at ts new raised h wakes_entry begins
-      (subst (λ u. AreNoted vector runs lacks (u.id.client ∷ tries) ts) here (ready h.entry).1)
+  wakes_entry : (left : List Lack) (more : List Client) (d : Taken) → Wakes (get_or new at d) lacks left tries more → Wakes h.entry lacks left tries more
+  wakes_entry left more d wakes = let w = subst (λ u. Wakes u lacks left tries more) (ap (λ us. get_or us at d) h.placed ∙ got_set ts at h.entry _ h.there) wakes in
+      record { stays = w.stays; tried = w.tried }
     where
       got_set : (us : List Taken) (k : ℕ) (u v : Taken) → slice_get us k ≡ Some u → get_or (set us k v) k d ≡ v
       got_set [] k u v e = absurd cc
       got_set (w ∷ ws) zero u v e = refl
       got_set (w ∷ ws) (suc k) u v e = got_set ws k u v e
 
-      wakes_entry : Wakes h.entry lacks left tries more
-      wakes_entry = let w = subst (λ u. Wakes u lacks left tries more) (ap (λ us. get_or us at d) h.placed ∙ got_set ts at h.entry _ h.there) wakes in
-          record { stays = w.stays; tried = w.tried }
+  pub round_missing : (left : List Lack) (more : List Client) (d : Taken) → Wakes (get_or new at d) lacks left tries more → AreMissing vector lacks → AreMissing raised left
+  round_missing left more d wakes = missing_after vector runs lacks left tries more at ts new raised h (wakes_entry left more d wakes) begins
+
+  pub round_noted : (left : List Lack) (more : List Client) (d : Taken) → Wakes (get_or new at d) lacks left tries more → AreNoted raised runs left more new
+  round_noted left more d wakes = noted_after vector runs lacks left tries more at ts new raised h (wakes_entry left more d wakes) begins
+      (subst (λ u. AreNoted vector runs lacks (u.id.client ∷ tries) ts) here (ready h.entry).1)
 
   module _ (first : List (Client × ℕ)) (rises : (client : ℕ) → clock_of first client ≤ clock_of vector client) where
     pub round_rises : (client : ℕ) → clock_of first client ≤ clock_of raised client

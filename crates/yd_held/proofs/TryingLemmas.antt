@@ -12,9 +12,9 @@ use Rattle.yd_received.specs.Taken.{is_held, IsTakenOf, AreInOrder}
 use Rattle.yd_received.proofs.EntriesLemmas.{entry_at, each_entry}
 use Rattle.yd_held.specs.declared.noting.Lack.{Lack}
 use Rattle.yd_held.specs.Readiness.{lack_of, is_ready}
-use Rattle.yd_held.specs.Noted.{StandsIn, with_lack, AreNoted, Finds}
+use Rattle.yd_held.specs.Noted.{StandsIn, with_lack, AreNoted, AreMissing, Finds}
 use Rattle.yd_held.specs.Trying.{Tries, IsNext, AreWaiting}
-use Rattle.yd_held.proofs.NotedLemmas.{in_either, lacks_nothing, noted_among, noted_without, noted_more}
+use Rattle.yd_held.proofs.NotedLemmas.{in_either, lacks_nothing, noted_among, noted_without, noted_more, missing_with}
 
 -- ---- clients of runs
 
@@ -67,6 +67,9 @@ module _ (vector : List (Client × ℕ)) (runs : List Run) (ts : List Taken) (ea
 
     pub tried_noted : (x : Id) → lack_of vector runs (get_or ts at d) ≡ Some x → AreNoted vector runs (with_lack (record { id = x; client = client }) lacks) rest ts
     tried_noted x lacked = noted_more vector runs lacks client rest ts each order (get_or ts at d) (entry_at ts at d lt) there x lacked noted_popped
+
+    pub tried_missing : (x : Id) → lack_of vector runs (get_or ts at d) ≡ Some x → AreMissing vector lacks → AreMissing vector (with_lack (record { id = x; client = client }) lacks)
+    tried_missing x lacked missing = missing_with vector runs (get_or ts at d) x client lacks lacked missing
 
     pub tried_ready : lack_of vector runs (get_or ts at d) ≡ None → Finds vector runs ts lacks rest (Some at)
     tried_ready none = (lt, λ e. subst (λ u. (is_ready vector runs u ≡ true) × AreNoted vector runs lacks (u.id.client ∷ rest) ts) (get_or_default ts at d e lt) here)

@@ -64,6 +64,14 @@ pub record AreNoted (vector : List (Client × ℕ)) (runs : List Run) (lacks : L
   pub sorted : AreSorted lacks
   pub each : Each (IsNotedOrTried vector runs lacks tries) taken
 
+-- no id that is lacked is held
+abbrev pub AreMissing : List (Client × ℕ) → List Lack → Type 0
+AreMissing vector lacks = Each (λ l. is_below vector l.id ≡ false) lacks
+
+-- where no id that was lacked was held, none that is lacked is
+abbrev pub StayMissing : List (Client × ℕ) → List Lack → List (Client × ℕ) → List Lack → Type 0
+StayMissing vector lacks raised left = AreMissing vector lacks → AreMissing raised left
+
 -- where units are found that are ready, their client is still to be tried; where none are, no client is, and all that waits is noted
 abbrev pub Finds : List (Client × ℕ) → List Run → List Taken → List Lack → List Client → Option ℕ → Type 0
 Finds vector runs taken lacks tries (Some at) =

@@ -7,7 +7,7 @@ ghost use Rattle.yd_received.specs.Taken.{AreTaken, operations_in, held_in, is_o
 ghost use Rattle.yd_held.specs.Numbered.{AreNumbered, IsVectorOf};
 ghost use Rattle.yd_held.specs.Holding.{HoldsAll, MarkChanges, IsHolding, HoldsMore};
 ghost use Rattle.yd_held.specs.Holding.{HoldsEntry, SetsMark, count_waiting, undone};
-ghost use Rattle.yd_held.specs.Noted.{AreNoted};
+ghost use Rattle.yd_held.specs.Noted.{AreNoted, StayMissing};
 ghost use Rattle.yd_held.specs.Readiness.{is_ready};
 
 use crate::fault::NoMemory;
@@ -21,10 +21,10 @@ use yd_received::Taken;
 
 /// Holds what can be held when the runs from one on are new, and answers a mark for each list: one
 /// with a mark got units, and one without got none. What lacks something is noted by it, once for
-/// each client, and tried again as soon as that is held. So it takes a few look-ups for each new run,
-/// for each entry that is held, and for each time that an entry is tried. The names of new lists go
-/// behind the others. Where memory ends, names may have been added and units held; put to wait
-/// again, these are as they were.
+/// each client, and tried again as soon as that is held; then it is noted no more. So it takes a few
+/// look-ups for each new run, for each entry that is held, and for each time that an entry is tried.
+/// The names of new lists go behind the others. Where memory ends, names may have been added and
+/// units held; put to wait again, these are as they were.
 pub fn hold_all(
     alloc: Global,
     runs: &[Run],
@@ -47,6 +47,8 @@ pub fn hold_all(
         ≡ operations_in runs.now taken.old.items) }
     ensures marked { IfOk result (λ stale. MarkChanges stale.items
         taken.old.items taken.new.items (length names.new.items)) }
+    ensures missing { OnOk result (StayMissing vector.old lacks.old.items
+        vector.new lacks.new.items) }
     ensures undone { map (undone vector.old) taken.new.items
         ≡ map (undone vector.old) taken.old.items }
     ensures grows { GrowBy names.old.items names.new.items }

@@ -9,7 +9,7 @@ ghost use Rattle.std.specs.Bool.{OnTrue};
 ghost use Rattle.yd_ids.specs.Id.{IsId};
 ghost use Rattle.yd_received.specs.Taken.{AreInOrder, IsTakenOf};
 ghost use Rattle.yd_received.specs.Taking.{HasUnits};
-ghost use Rattle.yd_held.specs.Noted.{AreNoted, Finds, StandsIn};
+ghost use Rattle.yd_held.specs.Noted.{AreNoted, Finds, StandsIn, StayMissing};
 ghost use Rattle.yd_held.specs.Trying.{Tries, IsNext, AreWaiting};
 
 use crate::fault::NoMemory;
@@ -74,7 +74,10 @@ pub(crate) fn next_ready(
     requires in_order { AreInOrder taken.now }
     requires waiting { AreWaiting vector.now taken.now }
     requires noted { AreNoted vector.now runs.now lacks.old.items tries.old.items taken.now }
-    ensures { IfOk result (Finds vector.now runs.now taken.now lacks.new.items tries.new.items) }
+    ensures finds { IfOk result (Finds vector.now runs.now taken.now
+        lacks.new.items tries.new.items) }
+    ensures missing { OnOk result (StayMissing vector.now lacks.old.items
+        vector.now lacks.new.items) }
 {
     while let Some(client) = tries.pop() {
         if let Some(at) = next_of(taken, vector, client) {

@@ -1,6 +1,6 @@
 use Rattle.std.proofs.Common.{◌∙◌, sym, subst}
 use Rattle.yd_doc.specs.Restoring.{IsChanged}
-use Rattle.yd_doc.proofs.TakingOnLemmas.{ready_then, noted_then}
+use Rattle.yd_doc.proofs.TakingOnLemmas.{ready_then, noted_then, missing_then}
 use Rattle.yd_doc.proofs.RestoringLemmas.{on_error, changed_taking, changed_holding}
 use Rattle.yd_doc.proofs.changing.change.Goals as goal
 
@@ -13,6 +13,9 @@ hold_into-requires-clause-ready c = ready_then c.args.state.now c.take_into.new.
 pub hold_into-requires-clause-noted : goal.hold_into-requires-clause-noted
 hold_into-requires-clause-noted c =
     noted_then c.args.state.now c.take_into.new.state c.requires.sound c.in_ok-brings.ensures.more c.len-from.result (c.len-from.ensures ∙ c.args.state.now.runs.ok.0)
+
+pub settle-requires-clause-missing : goal.settle-requires-clause-missing
+settle-requires-clause-missing c = c.in_ok-stale.ensures.missing (missing_then c.args.state.now c.take_into.new.state c.requires.sound c.in_ok-brings.ensures.more)
 
 pub returns-in_err-stale-clause-changed : goal.returns-in_err-stale-clause-changed
 returns-in_err-stale-clause-changed c =

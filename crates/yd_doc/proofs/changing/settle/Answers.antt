@@ -16,6 +16,7 @@ returns-then-has_mark-clause-sound c =
       vector = holds.counted;
       numbered = holds.numbered;
       noted = holds.noted;
+      missing = c.requires.missing;
       ordered = rw (c.deref.ensures.value, c.deref-then-has_mark.ensures.value, c.deref-then-has_mark-2.ensures.value) at c.in_ok-orders.ensures;
       deletes = subst (λ taken. AreDeleteSet c.in_ok-deletes.deletes (record { operations = operations_in c.args.state.now.runs.items taken; deletes = c.args.state.now.named }))
           c.deref-then-has_mark-5.ensures.value
@@ -43,6 +44,7 @@ returns-clause-sound c =
       vector = holds.counted;
       numbered = holds.numbered;
       noted = holds.noted;
+      missing = c.requires.missing;
       ordered = unmarked_orders state.runs.items state.taken.items state.names.items c.args.stale.now _
           (are_held state.runs.items state.taken.items state.names.items holds.in_order holds.held holds.numbered)
           (OnFalse_at c.if-has_mark.false c.has_mark.ensures) c.requires.settled;
