@@ -1,6 +1,6 @@
 -- Ids of a list that are in a row: the units that they lend are those of their entry.
-use Rattle.std.proofs.Common.{◌≡◌, ℕ, zero, suc, ◌+◌, ◌-◌, ◌<◌, ◌≤◌, Bool, true, List, [], ◌∷◌, ◌++◌, Some, inl, inr, length, take, drop, map, get_or, refl, sym, ap, ◌∙◌, arith}
-use Rattle.std.specs.Prelude.{◌↔◌, slice_get}
+use Rattle.std.proofs.Common.{◌≡◌, ℕ, zero, suc, ◌+◌, ◌-◌, ◌<◌, ◌≤◌, Bool, true, false, List, [], ◌∷◌, ◌++◌, Some, inl, inr, length, take, drop, map, get_or, refl, sym, ap, ◌∙◌, subst, arith, true≢false}
+use Rattle.std.specs.Prelude.{◌↔◌, slice_get, Decides}
 use Rattle.std.proofs.lemmas.Option.{slice_get-get_or}
 use Rattle.std.proofs.lemmas.Bool.{or_right}
 use Rattle.yd_ids.specs.declared.id.Id.{Id}
@@ -60,6 +60,23 @@ pub row_within : (deletes : List Span) (deleted : Bool) (id : Id) (n : ℕ) (ord
 row_within deletes deleted id zero order row = omega arith
 row_within deletes deleted id (suc n) [] row = absurd row
 row_within deletes deleted id (suc n) (x ∷ order) row = let rest = row_within deletes deleted (later_id id 1) n order row.2 in omega arith
+
+-- where there is one more, the id behind the others goes on with the row
+row_next : (deletes : List Span) (deleted : Bool) (id : Id) (n : ℕ) (order : List Id) (d : Id) → IsRow deletes deleted id (suc n) order →
+    (get_or order n d ≡ later_id id n) × (is_named deletes (get_or order n d) ≡ deleted)
+row_next deletes deleted id n [] d row = absurd row
+row_next deletes deleted id zero (x ∷ order) d row = (row.0 ∙ sym (later_none id), row.1)
+row_next deletes deleted id (suc n) (x ∷ order) d row =
+    let next = row_next deletes deleted (later_id id 1) n order d row.2 in
+    (next.0 ∙ later_later id 1 n ∙ later_same id (1 + n) (suc n) (omega arith), next.1)
+
+-- so where the test of that id fails, there is no more
+pub row_ends : (deletes : List Span) (deleted asked goes : Bool) (id : Id) (n : ℕ) (order : List Id) (d : Id) → asked ≡ deleted →
+    Decides goes ((get_or order n d ≡ later_id id n) × (is_named deletes (get_or order n d) ≡ asked)) → goes ≡ false → IsRow deletes deleted id (n + 1) order → ⊥
+row_ends deletes deleted asked goes id n order d same decides ends row =
+    let one : n + 1 ≡ suc n = omega arith in
+    let next = row_next deletes deleted id n order d (subst (λ m. IsRow deletes deleted id m order) one row) in
+    true≢false (sym (decides.1 (next.0, next.1 ∙ sym same)) ∙ ends)
 
 -- ---- units
 

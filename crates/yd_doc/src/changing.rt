@@ -1,8 +1,7 @@
 //! A state takes an update in, holds what it can, and puts lists and deletions in order.
 
-ghost use Rattle.std.specs.Prelude.{◌≡◌, ◌↔◌, ◌≤◌, [], filter, length, true};
+ghost use Rattle.std.specs.Prelude.{◌≡◌, ◌↔◌, ◌≤◌, [], filter, length, true, false};
 ghost use Rattle.std.specs.Prelude.{IsTrue, OnOk, OnErr, IfOk};
-ghost use Rattle.std.specs.Bool.{OnFalse};
 ghost use Rattle.yd_ids.specs.Set.{AreMaximal};
 ghost use Rattle.yd_ops.specs.Valid.{IsValidUpdate};
 ghost use Rattle.yd_ops.specs.View.{update_value};
@@ -59,8 +58,8 @@ fn take_into(state: &mut State, update: &Update) -> Result<bool, NoMemory>
     Ok(brings)
 }
 
-/// Holds what can be held, where the runs from one on are new, and answers a mark for each list that
-/// is to be put in order.
+/// Holds what can be held, where the runs from one on are new, and answers a mark for each list
+/// that is to be put in order.
 fn hold_into(state: &mut State, from: usize) -> Result<Vec<bool>, NoMemory>
     requires from { from ≤ length state.old.runs.items }
     requires ready { IsReady state.old }
@@ -148,7 +147,7 @@ fn settle(state: &mut State, stale: &[bool]) -> Result<(), NoMemory>
 
 /// A mark is set.
 fn has_mark(marks: &[bool]) -> bool
-    ensures { OnFalse result (AreUnmarked marks.now) }
+    ensures { (result ≡ false) ↔ AreUnmarked marks.now }
 {
     marks.iter().any(|mark| *mark)
 }

@@ -1,7 +1,7 @@
 //! The units of a list, lent in order.
 
-ghost use Rattle.std.specs.Prelude.{◌≡◌, ◌++◌, [], ◌+◌, ◌<◌, ◌≤◌, IfSome, MatchOption, length, drop, true, slice_get, Some};
-ghost use Rattle.std.specs.Bool.{OnTrue};
+ghost use Rattle.std.specs.Prelude.{◌≡◌, ◌++◌, [], ◌+◌, ◌<◌, ◌≤◌, length, drop, true, slice_get};
+ghost use Rattle.std.specs.Prelude.{Some, IfSome, MatchOption, Decides};
 ghost use Rattle.yd_ids.specs.Id.{IsId, IsClient, IsClock};
 ghost use Rattle.yd_ops.specs.Value.{len_of};
 ghost use Rattle.yd_ops.specs.View.{content_value};
@@ -49,9 +49,19 @@ impl<'a> Model for ListView<'a> {
 
     ghost coded = { Prim.hlevel (codes, json.the_row.coded, any_list.the_row.coded) };
 
-    ghost view = { λ it. record { runs = it.runs.now; taken = it.taken.now; deletes = it.deletes.now; order = it.order.now } };
+    ghost view = { λ it. record {
+      runs = it.runs.now;
+      taken = it.taken.now;
+      deletes = it.deletes.now;
+      order = it.order.now;
+    } };
 
-    ghost invariant = { λ it. IsLending (record { runs = it.runs.now; taken = it.taken.now; deletes = it.deletes.now; order = it.order.now }) };
+    ghost invariant = { λ it. IsLending (record {
+      runs = it.runs.now;
+      taken = it.taken.now;
+      deletes = it.deletes.now;
+      order = it.order.now;
+    }) };
 }
 
 impl<'a> ListView<'a> {
@@ -111,8 +121,8 @@ fn place_in(content: &Content, offset: u64, skipped: u64) -> u64
     offset + skipped
 }
 
-/// How many ids from the front on have one clock more each, no more than `most`, and are all deleted
-/// or all live.
+/// How many ids from the front on have one clock more each, no more than `most`, and are all
+/// deleted or all live.
 fn row_len(order: &[Id], deletes: &IdSet, id: Id, most: u64) -> usize
     requires first { slice_get order.now 0 ≡ Some id }
     requires some { 0 < most }
@@ -121,6 +131,8 @@ fn row_len(order: &[Id], deletes: &IdSet, id: Id, most: u64) -> usize
     ensures some { 0 < result }
     ensures bound { result ≤ most }
     ensures row { IsRow deletes.now (is_named deletes.now id) id result order.now }
+    ensures longest { result < most
+        → IsRow deletes.now (is_named deletes.now id) id (result + 1) order.now → ⊥ }
 {
     let deleted = deletes.has(id);
     let mut len = 1;
@@ -130,7 +142,7 @@ fn row_len(order: &[Id], deletes: &IdSet, id: Id, most: u64) -> usize
             clock: id.clock + len as u64,
         };
         if !goes_on(order[len], deletes, next, deleted) {
-            break;
+            return len;
         }
         len += 1;
     }
@@ -140,7 +152,7 @@ fn row_len(order: &[Id], deletes: &IdSet, id: Id, most: u64) -> usize
 /// The id is this one, and deleted or live as the others.
 fn goes_on(id: Id, deletes: &IdSet, next: Id, deleted: bool) -> bool
     requires { IsId next }
-    ensures { OnTrue result ((id ≡ next) × (is_named deletes.now id ≡ deleted)) }
+    ensures { Decides result ((id ≡ next) × (is_named deletes.now id ≡ deleted)) }
 {
     id == next && deletes.has(id) == deleted
 }

@@ -3,7 +3,6 @@ use Rattle.yd_meaning.specs.Deleted.{AreDeleteSet}
 use Rattle.yd_received.specs.Taken.{operations_in}
 use Rattle.yd_doc.proofs.ListOrderLemmas.{are_held}
 use Rattle.yd_doc.proofs.SettledLemmas.{unmarked_orders}
-use Rattle.std.proofs.lemmas.Bool.{OnFalse_at}
 use Rattle.yd_doc.proofs.changing.settle.Goals as goal
 
 pub returns-then-has_mark-clause-sound : goal.returns-then-has_mark-clause-sound
@@ -31,7 +30,7 @@ delete_set-requires-2-clause-ordered c =
     rw (c.deref-2.ensures.value, c.deref-3.ensures.value, c.deref-4.ensures.value, c.deref-5.ensures.value)
     (unmarked_orders state.runs.items state.taken.items state.names.items c.args.stale.now _
     (are_held state.runs.items state.taken.items state.names.items holds.in_order holds.held holds.numbered)
-    (OnFalse_at c.if-has_mark.false c.has_mark.ensures) c.requires.settled)
+    (c.has_mark.ensures.0 c.if-has_mark.false) c.requires.settled)
 
 pub returns-clause-sound : goal.returns-clause-sound
 returns-clause-sound c =
@@ -47,7 +46,7 @@ returns-clause-sound c =
       missing = c.requires.missing;
       ordered = unmarked_orders state.runs.items state.taken.items state.names.items c.args.stale.now _
           (are_held state.runs.items state.taken.items state.names.items holds.in_order holds.held holds.numbered)
-          (OnFalse_at c.if-has_mark.false c.has_mark.ensures) c.requires.settled;
+          (c.has_mark.ensures.0 c.if-has_mark.false) c.requires.settled;
       deletes = subst (λ taken. AreDeleteSet c.in_ok-deletes-2.deletes (record { operations = operations_in state.runs.items taken; deletes = state.named })) c.deref-3.ensures.value
           (subst (λ runs. AreDeleteSet c.in_ok-deletes-2.deletes (record { operations = operations_in runs c.deref-3.result.now; deletes = state.named })) c.deref-2.ensures.value
           c.in_ok-deletes-2.ensures.deletes);
