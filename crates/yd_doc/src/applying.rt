@@ -14,8 +14,8 @@ use crate::restoring::{before_of, restore};
 use crate::state::State;
 use yd_ops::Update;
 
-/// Receives the update, and holds and deletes all that can be then. Where memory ends it leaves what
-/// was received before, and all that follows from it.
+/// Receives the update, and holds and deletes all that can be then. Where memory ends it leaves
+/// what was received before, and all that follows from it.
 pub(crate) fn apply_to(state: &mut State, update: &Update) -> Result<bool, NoMemory>
     requires update { IsValidUpdate (update_value update.now) }
     requires sound { IsSound state.old }

@@ -11,7 +11,8 @@ ghost use Rattle.yd_meaning.specs.Deleted.{AreDeleteSet};
 ghost use Rattle.yd_received.specs.Taken.{AreTaken, operations_in, held_in};
 ghost use Rattle.yd_held.specs.Numbered.{AreNumbered, IsVectorOf};
 ghost use Rattle.yd_doc.specs.Ordered.{AreOrders, order_lists};
-ghost use Rattle.yd_doc.specs.Deleting.{HasHeld, AddsIds, span_of_id, span_below, all_but_last, dropped_ids};
+ghost use Rattle.yd_doc.specs.Deleting.{HasHeld, AddsIds, span_of_id, span_below};
+ghost use Rattle.yd_doc.specs.Deleting.{all_but_last, dropped_ids};
 
 use crate::fault::NoMemory;
 use std::alloc::Global;
@@ -21,9 +22,9 @@ use yd_received::Taken;
 
 /// The ids of held units that are deleted: those that a received deletion names, those that do not
 /// stand last under their key, and those of a list whose item is deleted. Spans of deletions are
-/// cut at the clocks that are reached, and not walked. It takes a look-up for each span and for each
-/// list of an item, an insertion for each span and for each row of ids that a list deletes, and a
-/// step for each id of such a row.
+/// cut at the clocks that are reached, and not walked. It takes a look-up for each span and for
+/// each list of an item, an insertion for each span and for each row of ids that a list deletes,
+/// and a step for each id of such a row.
 pub(crate) fn delete_set(
     alloc: Global,
     runs: &[Run],

@@ -1,13 +1,16 @@
 //! The order of each list.
 
-ghost use Rattle.std.specs.Prelude.{◌≡◌, ◌<◌, [], Some, true, length, replicate, slice_get, Decides, IfOk, OnOk};
+ghost use Rattle.std.specs.Prelude.{◌≡◌, ◌<◌, [], Some, true, length, replicate, slice_get};
+ghost use Rattle.std.specs.Prelude.{Decides, IfOk, OnOk};
 ghost use Rattle.yd_meaning.specs.Held.{held_set};
 ghost use Rattle.yd_origins.specs.Sorted.{origin_order};
 ghost use Rattle.yd_order.specs.Stretch.{rows_of_stretches, among_rows};
 ghost use Rattle.yd_received.specs.Taken.{AreTaken, operations_in, held_in};
 ghost use Rattle.yd_held.specs.Numbered.{AreNumbered};
 ghost use Rattle.yd_doc.specs.Ordered.{AreOrders, order_lists};
-ghost use Rattle.yd_doc.specs.Stretches.{AreSettled, AreGathered, Gathers, IsTableOfStretches, HaveOrders, IsKeptOrMade, AreKeptOrMade, stretch_of, stretch_lists, with_last};
+ghost use Rattle.yd_doc.specs.Stretches.{AreSettled, AreGathered, Gathers, IsTableOfStretches};
+ghost use Rattle.yd_doc.specs.Stretches.{HaveOrders, IsKeptOrMade, AreKeptOrMade};
+ghost use Rattle.yd_doc.specs.Stretches.{stretch_of, stretch_lists, with_last};
 
 use crate::fault::NoMemory;
 use std::alloc::Global;

@@ -26,8 +26,9 @@ use std::marker::Model;
 use yd_ids::{Client, Id, IdSet, Vector};
 use yd_ops::{List, Update};
 
-/// What one client received, and what it holds of it. Contracts see what it received (`received_of`),
-/// and all that it tells is what these operations and deletions define, with no history of arrivals.
+/// What one client received, and what it holds of it. Contracts see what it received
+/// (`received_of`), and all that it tells is what these operations and deletions define, with no
+/// history of arrivals.
 #[derive(Drop)]
 pub struct Replica {
     client: Client,
@@ -45,9 +46,17 @@ impl Model for Replica {
 
     ghost coded = { Prim.hlevel (codes, json.the_row.coded, any_list.the_row.coded) };
 
-    ghost view = { λ it. record { client = it.client; is_behind = it.is_behind; state = it.state } };
+    ghost view = { λ it. record {
+      client = it.client;
+      is_behind = it.is_behind;
+      state = it.state;
+    } };
 
-    ghost invariant = { λ it. IsReplica (record { client = it.client; is_behind = it.is_behind; state = it.state }) };
+    ghost invariant = { λ it. IsReplica (record {
+      client = it.client;
+      is_behind = it.is_behind;
+      state = it.state;
+    }) };
 }
 
 impl Replica {
@@ -81,15 +90,15 @@ impl Replica {
         self.client
     }
 
-    /// Receives an update, and holds and deletes all that can be then. It answers whether the update
-    /// brought something: an operation whose id was not received, or a deletion that was neither in
-    /// the delete set nor waiting. Where memory ends it has received nothing of the update, tells
-    /// what it told before, and is behind.
+    /// Receives an update, and holds and deletes all that can be then. It answers whether the
+    /// update brought something: an operation whose id was not received, or a deletion that was
+    /// neither in the delete set nor waiting. Where memory ends it has received nothing of the
+    /// update, tells what it told before, and is behind.
     ///
-    /// What waits costs nothing until what it lacks is held. The call takes time with the update, with
-    /// the clients, the lists and the spans of deletions that are known, and an insertion for each part
-    /// of a run that is new. Where something is held, it also looks once at what was received before,
-    /// and puts each list that got units in order as a whole.
+    /// What waits costs nothing until what it lacks is held. The call takes time with the update,
+    /// with the clients, the lists and the spans of deletions that are known, and an insertion for
+    /// each part of a run that is new. Where something is held, it also looks once at what was
+    /// received before, and puts each list that got units in order as a whole.
     pub fn apply(&mut self, update: &Update) -> Result<bool, NoMemory>
         requires { IsValidUpdate (update_value update.now) }
         ensures received { OnOk result (received_of self.new
@@ -128,8 +137,8 @@ impl Replica {
         &self.state.deletes
     }
 
-    /// How much was received that is not held yet: units of runs, and deleted ids. It takes a look-up
-    /// for each part of a run that was received and for each span of deletions.
+    /// How much was received that is not held yet: units of runs, and deleted ids. It takes a
+    /// look-up for each part of a run that was received and for each span of deletions.
     pub fn waiting(&self) -> Waiting
         ensures { counts_of result ≡ waiting_counts (received_of self.now) }
     {
@@ -137,7 +146,9 @@ impl Replica {
         count_waiting(&state.runs, &state.taken, &state.vector, &state.named)
     }
 
-    /// The held units of a list in the order that their origins give, deleted ones too.
+    /// The held units of a list in the order that their origins give, deleted ones too. It takes
+    /// time with the number of lists, since it looks for the name from the front, and copies no
+    /// unit.
     pub fn list(&self, list: &List) -> ListView<'_>
         ensures units { units_left result
             ≡ lent_units (document_of (received_of self.now)) list.now }
@@ -152,7 +163,7 @@ impl Replica {
     }
 
     /// The id of the unit that stands last in a list, deleted or not, and none where no unit of the
-    /// list is held.
+    /// list is held. It takes time with the number of lists, as `list` does.
     pub fn last_of(&self, list: &List) -> Option<Id>
         ensures { result ≡ last_unit (document_of (received_of self.now)) list.now }
     {

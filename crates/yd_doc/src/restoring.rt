@@ -28,8 +28,8 @@ pub struct Before {
     pub lacks: Vec<Lack>,
 }
 
-/// What a state is before a change. It copies clients, spans of deletions and what is lacked, and no
-/// units.
+/// What a state is before a change. It copies clients, spans of deletions and what is lacked, and
+/// no units.
 pub(crate) fn before_of(state: &State) -> Result<Before, NoMemory>
     ensures { IfOk result (IsOf state.now) }
 {

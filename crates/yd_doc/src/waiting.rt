@@ -34,7 +34,8 @@ pub(crate) fn count_waiting(
     requires held { held_in runs.now taken.now ≡ held_set (operations_in runs.now taken.now) }
     requires vector { IsVectorOf vector.now runs.now taken.now }
     requires named { AreMaximal named.now }
-    ensures { counts_of result ≡ waiting_counts (record { operations = operations_in runs.now taken.now; deletes = named.now }) }
+    ensures { counts_of result ≡ waiting_counts
+        (record { operations = operations_in runs.now taken.now; deletes = named.now }) }
 {
     Waiting {
         structs: count_units(taken),
