@@ -50,25 +50,44 @@ reason_five words told reads writes = record {
   too_large = λ n. absurd (omega arith);
 }
 
--- an ending gives its status a reason
-ends_reason : (words : List (List ℕ)) (told : Option Shelf) (reads writes : Count) (taken now : Option (List ℕ)) (e : Result (Unit {0}) Stop) → Ends words told reads writes taken now e → HasReason words told reads writes (status_of e)
-ends_reason words told reads writes taken now (Ok done) h = record {
-  done = λ _. weaker words (λ command files. Carries command files told reads writes taken now (Ok done)) (λ command files. (updates : List UpdateValue) × AreRead told files updates) (λ command files x. (x.0, x.1)) h;
+-- where all files are accepted
+read_reason : (words : List (List ℕ)) (told : Option Shelf) (reads writes : Count) → AsksFor words (λ command files. (updates : List UpdateValue) × AreRead told files updates) → HasReason words told reads writes 0
+read_reason words told reads writes w = record {
+  done = λ _. w;
   refused = λ n. absurd (omega arith);
   usage = λ n. absurd (omega arith);
   read_fault = λ n. absurd (omega arith);
   write_fault = λ n. absurd (omega arith);
   too_large = λ n. absurd (omega arith);
 }
-ends_reason words told reads writes taken now (Err (Refused file cause spot)) h = record {
+
+-- where one is refused
+refused_reason : (words : List (List ℕ)) (told : Option Shelf) (reads writes : Count) (file : File) (why : List ℕ) → AsksFor words (λ command files. StopsAt told files file (refused why)) → HasReason words told reads writes 1
+refused_reason words told reads writes file why w = record {
   done = λ n. absurd (omega arith);
-  refused = λ _. weaker words (λ command files. StopsAt told files (file_of file) (refused (fault_text (record { cause = cause; spot = spot })))) (λ command files. (f : File) × (why : List ℕ) × StopsAt told files f (refused why))
-      (λ command files x. (file_of file, fault_text (record { cause = cause; spot = spot }), x)) h;
+  refused = λ _. weaker words (λ command files. StopsAt told files file (refused why)) (λ command files. (f : File) × (reason : List ℕ) × StopsAt told files f (refused reason)) (λ command files x. (file, why, x)) w;
   usage = λ n. absurd (omega arith);
   read_fault = λ n. absurd (omega arith);
   write_fault = λ n. absurd (omega arith);
   too_large = λ n. absurd (omega arith);
 }
+
+-- where one is too large
+too_large_reason : (words : List (List ℕ)) (told : Option Shelf) (reads writes : Count) (file : File) → AsksFor words (λ command files. StopsAt told files file too_large) → HasReason words told reads writes 7
+too_large_reason words told reads writes file w = record {
+  done = λ n. absurd (omega arith);
+  refused = λ n. absurd (omega arith);
+  usage = λ n. absurd (omega arith);
+  read_fault = λ n. absurd (omega arith);
+  write_fault = λ n. absurd (omega arith);
+  too_large = λ _. weaker words (λ command files. StopsAt told files file too_large) (λ command files. (f : File) × StopsAt told files f too_large) (λ command files x. (file, x)) w;
+}
+
+-- an ending gives its status a reason
+ends_reason : (words : List (List ℕ)) (told : Option Shelf) (reads writes : Count) (taken now : Option (List ℕ)) (e : Result (Unit {0}) Stop) → Ends words told reads writes taken now e → HasReason words told reads writes (status_of e)
+ends_reason words told reads writes taken now (Ok done) h =
+    read_reason words told reads writes (weaker words (λ command files. Carries command files told reads writes taken now (Ok done)) (λ command files. (updates : List UpdateValue) × AreRead told files updates) (λ command files x. (x.0, x.1)) h)
+ends_reason words told reads writes taken now (Err (Refused file cause spot)) h = refused_reason words told reads writes (file_of file) (fault_text (record { cause = cause; spot = spot })) h
 ends_reason words told reads writes taken now (Err Usage) h = record {
   done = λ n. absurd (omega arith);
   refused = λ n. absurd (omega arith);
@@ -94,14 +113,7 @@ ends_reason words told reads writes taken now (Err WriteFault) h = record {
   too_large = λ n. absurd (omega arith);
 }
 ends_reason words told reads writes taken now (Err NoMemory) h = reason_five words told reads writes
-ends_reason words told reads writes taken now (Err (TooLarge file)) h = record {
-  done = λ n. absurd (omega arith);
-  refused = λ n. absurd (omega arith);
-  usage = λ n. absurd (omega arith);
-  read_fault = λ n. absurd (omega arith);
-  write_fault = λ n. absurd (omega arith);
-  too_large = λ _. weaker words (λ command files. StopsAt told files (file_of file) too_large) (λ command files. (f : File) × StopsAt told files f too_large) (λ command files x. (file_of file, x)) h;
-}
+ends_reason words told reads writes taken now (Err (TooLarge file)) h = too_large_reason words told reads writes (file_of file) h
 
 -- ---- which statuses can come
 
