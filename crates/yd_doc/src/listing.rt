@@ -1,7 +1,7 @@
 //! The units of a list, lent in order.
 
 ghost use Rattle.std.specs.Prelude.{◌≡◌, ◌++◌, [], ◌+◌, ◌<◌, ◌≤◌, length, drop, true, slice_get};
-ghost use Rattle.std.specs.Prelude.{Some, IfSome, MatchOption, Decides};
+ghost use Rattle.std.specs.Prelude.{Some, IfSome, IfNone, MatchOption, Decides};
 ghost use Rattle.yd_ids.specs.Id.{IsId, IsClient, IsClock};
 ghost use Rattle.yd_ops.specs.Value.{len_of};
 ghost use Rattle.yd_ops.specs.View.{content_value};
@@ -72,6 +72,7 @@ impl<'a> ListView<'a> {
             (λ view. units_left self.old ≡ units_of_view view ++ units_left self.new) }
         ensures some { IfSome result (λ view. 0 < view.len) }
         ensures within { IfSome result IsWithin }
+        ensures ended { IfNone result (units_left self.new ≡ []) }
     {
         let id = *self.order.first()?;
         let view = view_at(self.runs, self.taken, self.deletes, self.order, id);

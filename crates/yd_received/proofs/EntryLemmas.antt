@@ -91,7 +91,7 @@ covered_at (t ∷ ts) (suc n) d x lt e = or_right (covers t x) (is_covered ts x)
 covers_in : (t : Taken) (x : Id) → t.id.client.0 ≡ x.client.0 → t.id.clock ≤ x.clock → x.clock < t.id.clock + t.len → covers t x ≡ true
 covers_in t x e le lt = grind (arith, tests)
 
--- ---- lemmas for callers: the stretch from an id on
+-- ---- lemmas for callers: the ids in a row from one on
 
 module _ (xs : List Taken) (n : ℕ) (id : Id) (most : ℕ) (order : AreInOrder xs) (units : Each HasUnits xs) (before : Each (EndsBy id) (take n xs)) (behind : Each (EndsBehind id) (drop n xs)) where
   pub gap_last : length xs ≤ n → n ≤ length xs → IsGap xs n id most most

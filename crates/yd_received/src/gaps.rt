@@ -14,7 +14,7 @@ use yd_ids::Id;
 
 /// Ids of one client in a row that all came before, or none of which did.
 #[derive(Clone, Copy)]
-pub(crate) struct Stretch {
+pub(crate) struct IdRow {
     /// How many ids there are.
     pub len: u64,
     /// None of them came before.
@@ -23,8 +23,8 @@ pub(crate) struct Stretch {
     pub at: usize,
 }
 
-/// The stretch that begins with an id, of at most so many ids. It takes one bisection.
-pub(crate) fn stretch_from(taken: &[Taken], id: Id, most: u64) -> Stretch
+/// The ids in a row that begin with one, at most so many. It takes one bisection.
+pub(crate) fn ids_from(taken: &[Taken], id: Id, most: u64) -> IdRow
     requires in_order { AreInOrder taken.now }
     requires each { Each HasUnits taken.now }
     requires some { 0 < most }
@@ -33,7 +33,7 @@ pub(crate) fn stretch_from(taken: &[Taken], id: Id, most: u64) -> Stretch
     ensures new { OnTrue result.is_new (IsGap taken.now result.at id result.len most) }
 {
     let at = place(taken, id);
-    let all_new = Stretch {
+    let all_new = IdRow {
         len: most,
         is_new: true,
         at,
@@ -44,10 +44,10 @@ pub(crate) fn stretch_from(taken: &[Taken], id: Id, most: u64) -> Stretch
     let next = taken[at];
     if id.clock < next.id.clock {
         let len = most.min(next.id.clock - id.clock);
-        return Stretch { len, ..all_new };
+        return IdRow { len, ..all_new };
     }
     let len = most.min(next.len - (id.clock - next.id.clock));
-    Stretch {
+    IdRow {
         len,
         is_new: false,
         at,
@@ -70,11 +70,11 @@ pub(crate) fn known_from(taken: &[Taken], id: Id, most: u64) -> u64
             client: id.client,
             clock: id.clock + count,
         };
-        let stretch = stretch_from(taken, next, most - count);
-        if stretch.is_new {
+        let ids = ids_from(taken, next, most - count);
+        if ids.is_new {
             return count;
         }
-        count += stretch.len;
+        count += ids.len;
     }
     count
 }

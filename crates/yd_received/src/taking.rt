@@ -18,7 +18,7 @@ ghost use Rattle.yd_received.specs.Taking.{IsKept, IsPassed, IsTakenNext, IsTake
 ghost use Rattle.yd_received.specs.Taking.{AreUnchanged};
 
 use crate::fault::NoMemory;
-use crate::gaps::{known_from, stretch_from};
+use crate::gaps::{ids_from, known_from};
 use crate::pieces::{first_piece, id_at, take_piece};
 use crate::taken::Taken;
 use std::alloc::Global;
@@ -220,11 +220,11 @@ fn take_next(
     ensures grows { GrowBy runs.old.items runs.new.items }
     ensures first { StaysOfFirst index taken.old.items taken.new.items }
 {
-    let stretch = stretch_from(taken, id_at(run, from), run.len() - from);
-    if !stretch.is_new {
-        return Ok(from + stretch.len);
+    let ids = ids_from(taken, id_at(run, from), run.len() - from);
+    if !ids.is_new {
+        return Ok(from + ids.len);
     }
-    let piece = first_piece(&run.content, from, from + stretch.len);
-    take_piece(alloc, runs, taken, run, index, stretch.at, from, piece)?;
+    let piece = first_piece(&run.content, from, from + ids.len);
+    take_piece(alloc, runs, taken, run, index, ids.at, from, piece)?;
     Ok(from + piece.len)
 }

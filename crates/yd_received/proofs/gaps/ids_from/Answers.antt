@@ -1,8 +1,8 @@
 use Rattle.std.proofs.Common.{sym, subst}
 use Rattle.yd_received.specs.Taking.{AreCovered, IsGap}
 use Rattle.yd_received.proofs.EntryLemmas.{no_entry, gap_last, gap_of_client, gap_before, covered_from}
-use Rattle.yd_received.proofs.gaps.stretch_from.Goals.{then-at-taken-via-then-at-taken, then-at-taken-via-else-at-taken+then-taken-at}
-use Rattle.yd_received.proofs.gaps.stretch_from.Goals as goal
+use Rattle.yd_received.proofs.gaps.ids_from.Goals.{then-at-taken-via-then-at-taken, then-at-taken-via-else-at-taken+then-taken-at}
+use Rattle.yd_received.proofs.gaps.ids_from.Goals as goal
 
 pub returns-then-at-taken-clause-new : goal.returns-then-at-taken-clause-new
 returns-then-at-taken-clause-new c =
