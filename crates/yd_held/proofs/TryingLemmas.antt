@@ -37,6 +37,10 @@ client_more runs k run clients more lt is tries each =
     subst (λ n. Each (λ (r : Run). StandsIn r.id.client more) (take n runs)) next
     (each_next (λ (r : Run). StandsIn r.id.client more) runs k run lt is (each_stays (λ (r : Run). r.id.client) (take k runs) clients more tries.stay each) tries.here)
 
+-- the number of a client that is got
+pub some_client : (a b : Client) → ◌≡◌ {A = Option Client} (Some a) (Some b) → a.0 ≡ b.0
+some_client a b e = cc
+
 -- what is got of a list stands in it
 pub got_in : {X : Type 0} (xs : List X) (n : ℕ) (x : X) → slice_get xs n ≡ Some x → StandsIn x xs
 got_in [] n x e = absurd cc

@@ -1,11 +1,15 @@
 -- The next units of clients: those at the clock up to which the client's units are held (own).
-use Rattle.std.specs.Prelude.{◌≡◌, ℕ, false, List}
+use Rattle.std.specs.Prelude.{◌≡◌, ◌-◌, ℕ, false, List, Some, length, slice_get}
 use Rattle.yd_ids.specs.declared.id.Client.{Client}
 use Rattle.yd_ids.specs.Each.{Each}
 use Rattle.yd_ids.specs.Vector.{clock_of}
 use Rattle.yd_received.specs.declared.taken.Taken.{Taken}
 use Rattle.yd_received.specs.Taken.{is_held}
 use Rattle.yd_held.specs.Noted.{StandsIn}
+
+-- the client stands last
+abbrev pub StandsLast : Client → List Client → Type 0
+StandsLast client clients = slice_get clients (length clients - 1) ≡ Some client
 
 -- the client is among those that are to be tried, as are all that were
 pub record Tries (client : Client) (old new : List Client) : Type 0 where

@@ -1,16 +1,16 @@
 //! Which units are to be held next.
 
-ghost use Rattle.std.specs.Prelude.{◌≡◌, ◌≢◌, ◌<◌, ◌≤◌, ◌++◌, [], false, length, drop, HoldsAt, OnOk, IfOk, MatchOption};
+ghost use Rattle.std.specs.Prelude.{◌≡◌, ◌≢◌, ◌<◌, ◌≤◌, ◌++◌, [], false, length, drop, HoldsAt};
+ghost use Rattle.std.specs.Prelude.{◌↔◌, IsTrue, OnOk, IfOk, MatchOption};
 ghost use Rattle.yd_ids.specs.declared.id.Client.{Client};
 ghost use Rattle.yd_ids.specs.Each.{Each};
 ghost use Rattle.yd_ids.specs.Vector.{clock_of};
 ghost use Rattle.yd_ops.specs.declared.runs.Run.{Run};
-ghost use Rattle.std.specs.Bool.{OnTrue};
 ghost use Rattle.yd_ids.specs.Id.{IsId};
 ghost use Rattle.yd_received.specs.Taken.{AreInOrder, IsTakenOf};
 ghost use Rattle.yd_received.specs.Taking.{HasUnits};
 ghost use Rattle.yd_held.specs.Noted.{AreNoted, Finds, StandsIn, StayMissing};
-ghost use Rattle.yd_held.specs.Trying.{Tries, IsNext, AreWaiting};
+ghost use Rattle.yd_held.specs.Trying.{StandsLast, Tries, IsNext, AreWaiting};
 
 use crate::fault::NoMemory;
 use crate::noting::{Lack, note};
@@ -42,7 +42,9 @@ pub(crate) fn clients_from(
 
 /// Puts a client behind the others, unless it stands last.
 fn try_client(clients: &mut Vec<Client>, client: Client) -> Result<(), NoMemory>
-    ensures { OnOk result (Tries client clients.old.items clients.new.items) }
+    ensures tries { OnOk result (Tries client clients.old.items clients.new.items) }
+    ensures once { OnOk result (StandsLast client clients.old.items
+        → clients.new.items ≡ clients.old.items) }
 {
     if is_last(clients, client) {
         return Ok(());
@@ -53,7 +55,7 @@ fn try_client(clients: &mut Vec<Client>, client: Client) -> Result<(), NoMemory>
 
 /// The client stands last.
 fn is_last(clients: &[Client], client: Client) -> bool
-    ensures { OnTrue result (StandsIn client clients.now) }
+    ensures { IsTrue result ↔ StandsLast client clients.now }
 {
     match clients.last() {
         None => false,

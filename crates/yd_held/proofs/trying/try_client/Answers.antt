@@ -1,14 +1,20 @@
-use Rattle.std.proofs.Common.{inl, refl, subst, sym, [], ◌∷◌}
-use Rattle.std.proofs.lemmas.Bool.{OnTrue_at}
-use Rattle.yd_held.specs.Trying.{Tries}
+use Rattle.std.proofs.Common.{◌-◌, ◌∙◌, inl, refl, subst, sym, length, [], ◌∷◌}
+use Rattle.std.proofs.lemmas.Bool.{true≢false}
+use Rattle.yd_held.specs.Trying.{StandsLast, Tries}
 use Rattle.yd_held.proofs.NotedLemmas.{in_front, in_back}
+use Rattle.yd_held.proofs.TryingLemmas.{got_in}
 use Rattle.yd_held.proofs.trying.try_client.Goals as goal
 
-pub returns-then-is_last : goal.returns-then-is_last
-returns-then-is_last c = record { here = rw c.deref.ensures.value at (OnTrue_at c.if-is_last.true c.is_last.ensures); stay = λ other i. i }
+pub returns-then-is_last-clause-tries : goal.returns-then-is_last-clause-tries
+returns-then-is_last-clause-tries c =
+    let last : StandsLast c.args.client c.args.clients.now.items = rw c.deref.ensures.value at (c.is_last.ensures.0 c.if-is_last.true) in
+    record { here = got_in c.args.clients.now.items (length c.args.clients.now.items - 1) c.args.client last; stay = λ other i. i }
 
-pub returns : goal.returns
-returns c = subst (Tries c.args.client c.args.clients.now.items) (sym c.in_ok-push.ensures.items) (record {
+pub returns-clause-tries : goal.returns-clause-tries
+returns-clause-tries c = subst (Tries c.args.client c.args.clients.now.items) (sym c.in_ok-push.ensures.items) (record {
   here = in_back c.args.client c.args.clients.now.items (c.args.client ∷ []) (inl refl);
   stay = λ other i. in_front other c.args.clients.now.items (c.args.client ∷ []) i;
 })
+
+pub returns-clause-once : goal.returns-clause-once
+returns-clause-once c = λ last. absurd (true≢false (sym (c.is_last.ensures.1 (rw c.deref.ensures.value last)) ∙ c.if-is_last.false))
