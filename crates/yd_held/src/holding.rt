@@ -21,10 +21,10 @@ use yd_received::Taken;
 
 /// Holds what can be held when the runs from one on are new, and answers a mark for each list: one
 /// with a mark got units, and one without got none. What lacks something is noted by it, once for
-/// each client, and tried again as soon as that is held; then it is noted no more. So it takes a few
-/// look-ups for each new run, for each entry that is held, and for each time that an entry is tried.
-/// The names of new lists go behind the others. Where memory ends, names may have been added and
-/// units held; put to wait again, these are as they were.
+/// each client, and tried again as soon as that is held; then it is noted no more. So it takes some
+/// look-ups for each new run, for each entry that is held, and for each time that one is tried. The
+/// names of new lists go behind the others. Where memory ends, names may have been added and units
+/// held; put to wait again, these are as they were.
 pub fn hold_all(
     alloc: Global,
     runs: &[Run],

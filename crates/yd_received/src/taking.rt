@@ -25,9 +25,9 @@ use std::alloc::Global;
 use yd_ops::{Block, Run, Struct, Update};
 
 /// Takes in the operations of an update, and answers whether one had a new id; where none had,
-/// nothing changes. Each run of which a unit is new is copied once. For each entry that has ids of a
-/// run, and each new one, it takes a bisection and an insertion. Where memory ends, runs may stand
-/// behind the others, and entries of those alone among what was taken.
+/// nothing changes. Each run of which a unit is new is copied once. For each entry that has ids of
+/// a run, and each new one, it takes a bisection and an insertion. Where memory ends, runs may
+/// stand behind the others, and entries of those alone among what was taken.
 pub fn take_update(
     alloc: Global,
     runs: &mut Vec<Run>,
