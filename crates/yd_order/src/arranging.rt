@@ -27,9 +27,10 @@ use yd_ids::Id;
 
 /// The ids of the stretches in the order that their origins give, where a right origin that is not
 /// the id of one of them counts as absent. Where the integration scan finds this order, as it does
-/// for units that keep the edit rules, it takes the sorting of the units, at most a few steps for
-/// each unit and stretch, and bytes with the units; else time and bytes with the square of how many
-/// units there are.
+/// for units that keep the edit rules, it takes the sorting of the units, bytes with the units, and
+/// for each unit a few steps and one for each row of units, each directly behind the one before,
+/// that stands between its left origin and it: so time with the square where all were put in front
+/// of one another. Else it takes time and bytes with the square of how many units there are.
 pub fn arrange_stretches(alloc: Global, stretches: &[Stretch]) -> Result<Vec<Id>, NoMemory>
     requires clocks { Each EndsAtClock stretches.now }
     requires table { IsTable (among_rows (rows_of_stretches stretches.now)) }

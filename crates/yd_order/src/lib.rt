@@ -26,6 +26,7 @@ mod runs;
 mod scanning;
 mod seating;
 mod stretch;
+mod turns;
 
 pub use arranging::arrange_stretches;
 pub use fault::NoMemory;

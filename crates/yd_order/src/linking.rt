@@ -25,21 +25,27 @@ pub fn linked(alloc: Global, rows: &[OriginRow]) -> Result<Vec<LinkedRow>, NoMem
 {
     let mut links = Vec::new(alloc);
     for row in rows {
+        // Where a client typed in a row, a neighbour is the row before.
+        let near = links.len().saturating_sub(1);
         links.push(LinkedRow {
             id: row.id,
-            left: place_of_neighbour(rows, row.left),
-            right: place_of_neighbour(rows, row.right),
+            left: place_of_neighbour(rows, near, row.left),
+            right: place_of_neighbour(rows, near, row.right),
         })?;
     }
     Ok(links)
 }
 
-/// The place of a neighbour among the rows.
-fn place_of_neighbour(rows: &[OriginRow], neighbour: Option<Id>) -> Option<usize>
+/// The place of a neighbour among the rows. One place is looked at before they are searched.
+fn place_of_neighbour(rows: &[OriginRow], near: usize, neighbour: Option<Id>) -> Option<usize>
     requires { AreAscending rows.now }
     ensures { result ≡ place_of_neighbour rows.now neighbour }
 {
-    place_of(rows, neighbour?)
+    let id = neighbour?;
+    if near < rows.len() && is_same(rows[near].id, id) {
+        return Some(near);
+    }
+    place_of(rows, id)
 }
 
 /// The place of the row with an id, found by bisection.

@@ -7,10 +7,11 @@ ghost use Rattle.yd_order.specs.Numbering.{IsNumbering, IsMarked, IsReady, ArePa
 
 use crate::fault::NoMemory;
 use crate::linking::LinkedRow;
+use crate::turns::turns_of;
 use std::alloc::Global;
 
-/// The places of the rows, each after those of its left and its right. Each pass over the rows
-/// numbers those that wait for none, so there are at most as many passes as rows.
+/// The places of the rows, each after those of its left and its right. Rows are numbered in the turns
+/// that are proposed, and then in passes over all rows, which number those that wait for none.
 pub fn numbered(alloc: Global, rows: &[LinkedRow]) -> Result<Vec<usize>, NoMemory>
     requires links { AreLinked rows.now }
     requires table { IsTable (table_of_linked rows.now) }
@@ -18,11 +19,32 @@ pub fn numbered(alloc: Global, rows: &[LinkedRow]) -> Result<Vec<usize>, NoMemor
 {
     let mut order = Vec::new(alloc);
     let mut marks = vec![in alloc; false; rows.len()]?;
+    let turns = turns_of(alloc, rows)?;
+    number_in_turns(rows, &mut marks, &mut order, &turns)?;
     number_all(rows, &mut marks, &mut order)?;
     Ok(order)
 }
 
-/// Numbers all rows, one pass after another.
+/// Numbers rows in these turns, each if its left and right have numbers then.
+fn number_in_turns(
+    rows: &[LinkedRow],
+    marks: &mut [bool],
+    order: &mut Vec<usize>,
+    turns: &[usize],
+) -> Result<(), NoMemory>
+    requires links { AreLinked rows.now }
+    requires numbered { ArePartlyNumbered rows.now marks.old order.old.items }
+    ensures { OnOk result (ArePartlyNumbered rows.now marks.new order.new.items) }
+{
+    for at in turns {
+        if *at < rows.len() {
+            number(rows, marks, order, *at)?;
+        }
+    }
+    Ok(())
+}
+
+/// Numbers all rows, one pass after another: at most as many as there are rows.
 fn number_all(
     rows: &[LinkedRow],
     marks: &mut [bool],
