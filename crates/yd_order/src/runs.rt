@@ -17,9 +17,8 @@ use yd_ids::Id;
 use yd_ops::Run;
 
 /// The ids of the runs' operations in the order that their origins give, where a right origin that
-/// is not one of these operations counts as absent. Where the integration scan finds this order, it
-/// takes the sorting of the operations, at most a few steps for each operation and run, and bytes
-/// with the operations; else time and bytes with the square of how many operations there are.
+/// is not one of these operations counts as absent. It takes time and bytes as `arrange_stretches`
+/// does of as many units.
 pub fn arrange(alloc: Global, runs: &[Run]) -> Result<Vec<Id>, NoMemory>
     requires clocks { Each RunEndsAtClock (map run_value runs.now) }
     requires table { let operations = operations_of_runs (map run_value runs.now) in
