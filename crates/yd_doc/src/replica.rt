@@ -95,10 +95,11 @@ impl Replica {
     /// neither in the delete set nor waiting. Where memory ends it has received nothing of the
     /// update, tells what it told before, and is behind.
     ///
-    /// What waits costs nothing until what it lacks is held. The call takes time with the update,
-    /// with the clients, the lists and the spans of deletions that are known, and an insertion for
-    /// each part of a run that is new. Where something is held, it also looks once at what was
-    /// received before, and puts each list that got units in order as a whole.
+    /// What waits is not looked at again until what it lacks is held. The call takes time with the
+    /// update, with the clients, the lists and the spans of deletions that are known, with the ids in
+    /// lists of deleted items and under overwritten keys, and an insertion for each part of a run that
+    /// is new. Where something is held, it also looks once at what was received before, puts each list
+    /// that got units in order as a whole, and copies the orders of the others.
     pub fn apply(&mut self, update: &Update) -> Result<bool, NoMemory>
         requires { IsValidUpdate (update_value update.now) }
         ensures received { OnOk result (received_of self.new
