@@ -1,7 +1,6 @@
 //! A state takes an update in, holds what it can, and puts lists and deletions in order.
 
-ghost use Rattle.std.specs.Prelude.{◌≡◌, ◌↔◌, ◌≤◌, [], filter, length, true, false};
-ghost use Rattle.std.specs.Prelude.{IsTrue, OnOk, OnErr, IfOk};
+ghost use Rattle.std.specs.Prelude.{◌≡◌, ◌↔◌, ◌≤◌, [], filter, length, true, false, IsTrue, OnOk, OnErr, IfOk};
 ghost use Rattle.yd_ids.specs.Set.{AreMaximal};
 ghost use Rattle.yd_ops.specs.Valid.{IsValidUpdate};
 ghost use Rattle.yd_ops.specs.View.{update_value};

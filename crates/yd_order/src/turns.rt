@@ -1,5 +1,8 @@
 //! In which turns rows are numbered, as it is proposed: each behind its left and its right. A row that
-//! comes too early is numbered in a later pass ([`crate::numbering`]), so no clause speaks of turns.
+//! comes too early is numbered in a later pass ([`crate::numbering`]), so no clause speaks of their order.
+
+ghost use Rattle.std.specs.Prelude.{◌<◌, length, OnOk, IfOk};
+ghost use Rattle.yd_ids.specs.Each.{Each};
 
 use crate::fault::NoMemory;
 use crate::linking::LinkedRow;
@@ -7,7 +10,9 @@ use std::alloc::Global;
 
 /// The places of the rows, each behind those of its left and its right. It takes a few steps for each
 /// row, where these lead to rows and in no circle.
-pub fn turns_of(alloc: Global, rows: &[LinkedRow]) -> Result<Vec<usize>, NoMemory> {
+pub fn turns_of(alloc: Global, rows: &[LinkedRow]) -> Result<Vec<usize>, NoMemory>
+    ensures { IfOk result (λ turns. Each (λ at. at < length rows.now) turns.items) }
+{
     let mut turns = Vec::new(alloc);
     let mut taken = vec![in alloc; false; rows.len()]?;
     let mut due = Vec::new(alloc);
@@ -24,7 +29,10 @@ fn take_turns(
     taken: &mut [bool],
     due: &mut Vec<usize>,
     turns: &mut Vec<usize>,
-) -> Result<(), NoMemory> {
+) -> Result<(), NoMemory>
+    requires { Each (λ at. at < length rows.now) turns.old.items }
+    ensures { OnOk result (Each (λ at. at < length rows.now) turns.new.items) }
+{
     // Each row that is not taken is put back twice at most, so these steps are enough.
     for _ in 0..rows.len().saturating_mul(4) {
         match due.pop() {
@@ -42,22 +50,30 @@ fn take_turn(
     due: &mut Vec<usize>,
     turns: &mut Vec<usize>,
     at: usize,
-) -> Result<(), NoMemory> {
+) -> Result<(), NoMemory>
+    requires { Each (λ at. at < length rows.now) turns.old.items }
+    ensures { OnOk result (Each (λ at. at < length rows.now) turns.new.items) }
+{
     if at >= rows.len() || is_taken(taken, at) {
         return Ok(());
     }
     if let Some(first) = missing(taken, rows[at].left) {
-        due.push(at)?;
-        due.push(first)?;
+        put_behind(due, at, first)?;
         return Ok(());
     }
     if let Some(first) = missing(taken, rows[at].right) {
-        due.push(at)?;
-        due.push(first)?;
+        put_behind(due, at, first)?;
         return Ok(());
     }
     turns.push(at)?;
     take(taken, at);
+    Ok(())
+}
+
+/// Makes a row due again, behind one that is to have its turn first.
+fn put_behind(due: &mut Vec<usize>, at: usize, first: usize) -> Result<(), NoMemory> {
+    due.push(at)?;
+    due.push(first)?;
     Ok(())
 }
 

@@ -1,21 +1,15 @@
 //! Taking in the operations of an update.
 
-ghost use Rattle.std.specs.Prelude.{◌≡◌, ◌↔◌, ◌<◌, ◌≤◌, ◌-◌, ◌⊎◌, [], ◌∷◌, length, filter, map};
-ghost use Rattle.std.specs.Prelude.{IsTrue, OnOk, IfOk};
+ghost use Rattle.std.specs.Prelude.{◌≡◌, ◌↔◌, ◌<◌, ◌≤◌, ◌-◌, ◌⊎◌, [], ◌∷◌, length, filter, map, IsTrue, OnOk, IfOk};
 ghost use Rattle.std.specs.Bool.{OnFalse};
 ghost use Rattle.yd_ids.specs.Each.{Each};
-ghost use Rattle.yd_ops.specs.Operation.{operations_of_run, operations_of_structs};
-ghost use Rattle.yd_ops.specs.Operation.{operations_of_blocks};
+ghost use Rattle.yd_ops.specs.Operation.{operations_of_run, operations_of_structs, operations_of_blocks};
 ghost use Rattle.yd_ops.specs.Valid.{IsValidBlock, IsValidUpdate};
 ghost use Rattle.yd_ops.specs.Value.{len_of};
-ghost use Rattle.yd_ops.specs.View.{content_value, run_value, struct_value, block_value};
-ghost use Rattle.yd_ops.specs.View.{update_value};
+ghost use Rattle.yd_ops.specs.View.{content_value, run_value, struct_value, block_value, update_value};
 ghost use Rattle.yd_meaning.specs.Received.{with_runs, runs_of, runs_of_structs, runs_of_blocks};
-ghost use Rattle.yd_received.specs.Taken.{AreTaken, AreInOrder, operations_in, is_held};
-ghost use Rattle.yd_received.specs.Taken.{StaysOfFirst, GrowBy};
-ghost use Rattle.yd_received.specs.Taking.{AreCovered, BringsOne, BringsOperation, HasUnits, IsRun};
-ghost use Rattle.yd_received.specs.Taking.{IsKept, IsPassed, IsTakenNext, IsTakeable, TakesIn};
-ghost use Rattle.yd_received.specs.Taking.{AreUnchanged};
+ghost use Rattle.yd_received.specs.Taken.{AreTaken, AreInOrder, operations_in, is_held, StaysOfFirst, GrowBy};
+ghost use Rattle.yd_received.specs.Taking.{AreCovered, BringsOne, BringsOperation, HasUnits, IsRun, IsKept, IsPassed, IsTakenNext, IsTakeable, TakesIn, AreUnchanged};
 
 use crate::fault::NoMemory;
 use crate::gaps::{ids_from, known_from};
