@@ -4,15 +4,11 @@ use Rattle.std.specs.List.Sorted.{IsPermutation}
 use Rattle.std.proofs.lemmas.Bool.{eqb-true, eqb-false}
 use Rattle.std.proofs.lemmas.List.{drop_more, drop_all}
 use Rattle.std.proofs.lemmas.List.Sorted.{IsPermutation-sym}
-use Rattle.yd_ids.specs.declared.id.Client.{Client}
-use Rattle.yd_ids.specs.Each.{Each}
+use Rattle.yd_words.specs.Each.{Each}
+use Rattle.yd_words.proofs.EachLemmas.{each_weaker, each_permuted}
 use Rattle.yd_ids.specs.Vector.{clock_of, IsVector, IsEntry, RaisesOnly, with_clock, vector_of_entries, greatest_clock, HasGreatest}
-use Rattle.yd_ids.proofs.EachLemmas.{each_weaker, each_permuted}
 use Rattle.yd_ids.proofs.MaximumLemmas.{with_this, with_other, with_vector}
-use Rattle.yd_ids.proofs.VectorLemmas.{vectors_same, above_none}
-
-abbrev Entry : Type 0
-Entry = Client × ℕ
+use Rattle.yd_ids.proofs.VectorLemmas.{vectors_same, above_none, Entry}
 
 -- ---- the vector of entries
 

@@ -2,17 +2,18 @@
 use Rattle.std.proofs.Common.{◌≡◌, ℕ, zero, suc, ◌+◌, ◌<◌, ◌≤◌, ◌⊎◌, ◌↔◌, List, [], ◌∷◌, length, get_or, drop, inl, inr, sym, subst, false, is_lt, add-one, arith}
 use Rattle.std.specs.List.Sorted.{IsSorted}
 use Rattle.std.proofs.lemmas.List.{drop_more, drop_all}
+use Rattle.yd_words.specs.Each.{Each}
+use Rattle.yd_words.proofs.EachLemmas.{each_weaker, each_at}
 use Rattle.yd_ids.specs.declared.id.Id.{Id}
 use Rattle.yd_ids.specs.declared.id.Span.{Span}
-use Rattle.yd_ids.specs.Each.{Each}
 use Rattle.yd_ids.specs.Gathering.{AreOrdered}
 use Rattle.yd_ids.specs.Id.{IsSpan}
 use Rattle.yd_ids.specs.Set.{HasId, HaveSameIds, AreMaximal}
 use Rattle.yd_ids.specs.Span.{InSpan, BeginsBy}
 use Rattle.yd_ids.specs.Uniting.{with_last}
-use Rattle.yd_ids.proofs.EachLemmas.{each_weaker, each_at}
 use Rattle.yd_ids.proofs.SpanLemmas.{span_cmp, by_order, by_both}
-use Rattle.yd_ids.proofs.UnitingLemmas.{AllBy, with_maximal, with_has, has_with, next_order}
+use Rattle.yd_ids.proofs.UnitingLemmas.{AllBy, with_maximal, with_has, has_with, next_order, none_before}
+use Rattle.yd_ids.proofs.InsertingLemmas.{regroup}
 
 -- ---- in order
 
@@ -36,10 +37,6 @@ pub record IsGathering (spans set : List Span) (i : ℕ) : Type 0 where
   pub order : Each (AllBy set) (drop i spans)
   pub ids : (id : Id) → (HasId set id ⊎ HasId (drop i spans) id) ↔ HasId spans id
 
-none_before : (xs : List Span) → Each (AllBy []) xs
-none_before [] = tt
-none_before (x ∷ xs) = (tt, none_before xs)
-
 ordered_back : (xs : List Span) (n : ℕ) → AreOrdered xs → AreOrdered (drop n xs)
 ordered_back xs zero o = o
 ordered_back [] (suc n) o = tt
@@ -50,18 +47,6 @@ behind_at : (xs : List Span) (n : ℕ) (d : Span) → AreOrdered xs → n < leng
 behind_at xs n d o lt =
     let back : AreOrdered (get_or xs n d ∷ drop (n + 1) xs) = subst AreOrdered (drop_more xs n d lt) (ordered_back xs n o) in
     back.0
-
-put_ids : {B C T R S : Type 0} → C ↔ (B ⊎ T) → (B ⊎ (T ⊎ R)) ↔ S → (C ⊎ R) ↔ S
-put_ids {B} {C} {T} {R} {S} f g = (there, λ s. back (g.1 s))
-  where
-    there : C ⊎ R → S
-    there (inl c) = elim (f.0 c) [ inl b ↦ g.0 (inl b) | inr t ↦ g.0 (inr (inl t)) ]
-    there (inr r) = g.0 (inr (inr r))
-
-    back : B ⊎ (T ⊎ R) → C ⊎ R
-    back (inl b) = inl (f.1 (inl b))
-    back (inr (inl t)) = inl (f.1 (inr t))
-    back (inr (inr r)) = inr r
 
 left_ids : {B T R S : Type 0} → (T → ⊥) → (B ⊎ (T ⊎ R)) ↔ S → (B ⊎ R) ↔ S
 left_ids {B} {T} {R} {S} f g = (there, λ s. back (g.1 s))
@@ -91,7 +76,7 @@ gathering_puts spans set i d are ordered g lt some =
     record {
       maximal = with_maximal set (get_or spans i d) g.maximal (each_at IsSpan spans i d are lt) some order.0;
       order = next_order set (get_or spans i d) (drop (i + 1) spans) order.1 (behind_at spans i d ordered lt);
-      ids = λ id. put_ids ((λ h. with_has set (get_or spans i d) id order.0 h), (λ h. has_with set (get_or spans i d) id order.0 h)) (subst (λ zs. (HasId set id ⊎ HasId zs id) ↔ HasId spans id) here (g.ids id));
+      ids = λ id. regroup (subst (λ zs. (HasId set id ⊎ HasId zs id) ↔ HasId spans id) here (g.ids id)) ((λ h. with_has set (get_or spans i d) id order.0 h), (λ h. has_with set (get_or spans i d) id order.0 h));
     }
 
 -- one without ids is left out

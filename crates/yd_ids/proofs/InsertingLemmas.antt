@@ -1,14 +1,14 @@
 -- An insertion: the span is joined with one after another, and is put between the others.
 use Rattle.std.proofs.Common.{◌≡◌, ℕ, ◌+◌, ◌<◌, ◌≤◌, ◌⊎◌, ◌↔◌, List, ◌∷◌, ◌++◌, length, get_or, take, drop, inl, inr, sym, subst, arith}
 use Rattle.std.proofs.lemmas.List.{drop_more, take-append-drop}
+use Rattle.yd_words.specs.Each.{Each}
+use Rattle.yd_words.proofs.EachLemmas.{each_weaker, each_both}
 use Rattle.yd_ids.specs.declared.id.Id.{Id}
 use Rattle.yd_ids.specs.declared.id.Span.{Span}
-use Rattle.yd_ids.specs.Each.{Each}
 use Rattle.yd_ids.specs.Id.{IsSpan}
 use Rattle.yd_ids.specs.Inserting.{IsPlace, JoinsUpTo}
 use Rattle.yd_ids.specs.Set.{HasId, AreMaximal, AddsSpan}
 use Rattle.yd_ids.specs.Span.{InSpan, EndsBefore, Reaches, joined}
-use Rattle.yd_ids.proofs.EachLemmas.{each_weaker, each_both}
 use Rattle.yd_ids.proofs.SetLemmas.{span_at, before_at, maximal_front, maximal_back, maximal_around, has_front, has_either}
 use Rattle.yd_ids.proofs.SpanLemmas.{touch_client, joined_span, joined_some, before_joined, reaches_joined, in_joined}
 
@@ -20,7 +20,7 @@ pub record IsJoining (spans : List Span) (from : ℕ) (span : Span) (to : ℕ) (
   pub behind : Each (λ next. Reaches next whole.client.0 whole.clock) (drop to spans)
   pub ids : (id : Id) → (InSpan whole id ⊎ HasId (drop to spans) id) ↔ (InSpan span id ⊎ HasId (drop from spans) id)
 
-regroup : {A B C J S : Type 0} → (A ⊎ (B ⊎ C)) ↔ S → J ↔ (A ⊎ B) → (J ⊎ C) ↔ S
+pub regroup : {A B C J S : Type 0} → (A ⊎ (B ⊎ C)) ↔ S → J ↔ (A ⊎ B) → (J ⊎ C) ↔ S
 regroup {A} {B} {C} {J} {S} f g = (there, back)
   where
     there : J ⊎ C → S

@@ -1,6 +1,6 @@
-pub mod EachLemmas
 pub mod EntriesLemmas
 pub mod GatheringLemmas
+pub mod IdLemmas
 pub mod InsertingLemmas
 pub mod MaximumLemmas
 pub mod SetLemmas

@@ -1,15 +1,12 @@
 -- State vectors: what their maximum has.
 use Rattle.std.proofs.Common.{◌≡◌, ◌≢◌, ℕ, ◌<◌, max, Bool, true, false, cond, List, [], ◌∷◌, refl, sym, ap, ◌∙◌, subst, arith, nat_eq, nat_lt}
 use Rattle.std.proofs.lemmas.Bool.{ltb-true, ltb-false, eqb-true, eqb-false, eq-eqb, ne_eqb}
+use Rattle.yd_words.specs.Each.{Each}
+use Rattle.yd_words.proofs.EachLemmas.{each_weaker}
 use Rattle.yd_ids.specs.declared.id.Client.{Client}
-use Rattle.yd_ids.specs.Each.{Each}
 use Rattle.yd_ids.specs.Id.{IsClient, IsClock}
 use Rattle.yd_ids.specs.Vector.{clock_of, IsVector, RaisesOnly, with_clock, maximum_of}
-use Rattle.yd_ids.proofs.EachLemmas.{each_weaker}
-use Rattle.yd_ids.proofs.VectorLemmas.{vectors_same, above_none}
-
-abbrev Entry : Type 0
-Entry = Client × ℕ
+use Rattle.yd_ids.proofs.VectorLemmas.{vectors_same, above_none, Entry}
 
 -- ---- one clock more
 

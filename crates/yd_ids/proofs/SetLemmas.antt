@@ -4,13 +4,13 @@ use Rattle.std.specs.List.Sorted.{IsPartitionedBy, IsPermutation}
 use Rattle.std.proofs.lemmas.Bool.{cases_lt}
 use Rattle.std.proofs.lemmas.List.{get_or_default}
 use Rattle.std.proofs.lemmas.List.Sorted.{Contains-permutation, IsPermutation-sym}
+use Rattle.yd_words.specs.Each.{Each}
+use Rattle.yd_words.proofs.EachLemmas.{each_weaker, each_append, each_front, each_at}
 use Rattle.yd_ids.specs.declared.id.Id.{Id}
 use Rattle.yd_ids.specs.declared.id.Span.{Span}
-use Rattle.yd_ids.specs.Each.{Each}
 use Rattle.yd_ids.specs.Id.{IsSpan}
 use Rattle.yd_ids.specs.Set.{HasId, HaveSameIds, AreMaximal, AddsSpan}
 use Rattle.yd_ids.specs.Span.{InSpan, EndsBelow, Reaches, ends_below, EndsBefore, BeginsBy}
-use Rattle.yd_ids.proofs.EachLemmas.{each_weaker, each_append, each_at}
 use Rattle.yd_ids.proofs.SpanLemmas.{below_true, below_is, below_through, through, by_through, by_flipped, below_none, behind_none, in_reaches}
 
 -- ---- one of them
@@ -33,11 +33,6 @@ spans_parted xs c k m i j d le lt t = elim (cases_lt i j) [
 ]
 
 -- ---- parts of them
-
-each_front : {X : Type 0} (P : X → Type 0) (xs : List X) (n : ℕ) → Each P xs → Each P (take n xs)
-each_front P xs zero h = tt
-each_front P [] (suc n) h = tt
-each_front P (x ∷ xs) (suc n) h = (h.0, each_front P xs n h.1)
 
 pub maximal_front : (xs : List Span) (n : ℕ) → AreMaximal xs → AreMaximal (take n xs)
 maximal_front xs zero m = tt

@@ -1,11 +1,11 @@
 -- The set of spans: it is maximal, and it has their ids.
 use Rattle.std.proofs.Common.{◌≡◌, List, [], ◌∷◌, inl, inr}
 use Rattle.std.specs.List.Sorted.{IsPermutation}
+use Rattle.yd_words.specs.Each.{Each}
+use Rattle.yd_words.proofs.EachLemmas.{each_permuted}
 use Rattle.yd_ids.specs.declared.id.Span.{Span}
-use Rattle.yd_ids.specs.Each.{Each}
 use Rattle.yd_ids.specs.Id.{IsSpan}
 use Rattle.yd_ids.specs.Set.{HasId, HaveSameIds, AreMaximal, AddsSpan, with_span, set_of}
-use Rattle.yd_ids.proofs.EachLemmas.{each_permuted}
 use Rattle.yd_ids.proofs.SetLemmas.{same_back, same_through, permuted_same}
 use Rattle.yd_ids.proofs.UnionLemmas.{sets_same, with_maximal, with_ids}
 

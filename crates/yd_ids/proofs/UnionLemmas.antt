@@ -1,13 +1,13 @@
 -- Sets of ids: the same ids make the same list, and what the union has.
 use Rattle.std.proofs.Common.{◌≡◌, ℕ, ◌+◌, ◌<◌, ◌⊎◌, ◌↔◌, Bool, true, false, cond, List, [], ◌∷◌, inl, inr, refl, sym, ap₂, subst, arith, nat_eq}
 use Rattle.std.proofs.lemmas.Bool.{cases_lt, eq-eqb, eqb-true, eqb-false}
+use Rattle.yd_words.specs.Each.{Each}
+use Rattle.yd_words.proofs.EachLemmas.{each_weaker}
 use Rattle.yd_ids.specs.declared.id.Id.{Id}
 use Rattle.yd_ids.specs.declared.id.Span.{Span}
-use Rattle.yd_ids.specs.Each.{Each}
 use Rattle.yd_ids.specs.Id.{IsSpan}
 use Rattle.yd_ids.specs.Set.{HasId, AreMaximal, AddsSpan, AddsSpans, with_span, union_of}
 use Rattle.yd_ids.specs.Span.{InSpan, ends_below, EndsBefore, BeginsBy, joined}
-use Rattle.yd_ids.proofs.EachLemmas.{each_weaker}
 use Rattle.yd_ids.proofs.SetLemmas.{once}
 use Rattle.yd_ids.proofs.SpanLemmas.{below_true, below_false, through, before_begins, before_joined, joined_span, touch_client, in_joined}
 

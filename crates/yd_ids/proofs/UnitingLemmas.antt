@@ -1,14 +1,14 @@
 -- A union: one span after another, in order of where they begin, is put behind the others.
 use Rattle.std.proofs.Common.{◌≡◌, ℕ, zero, suc, ◌+◌, ◌<◌, ◌≤◌, ◌⊎◌, ◌↔◌, Bool, true, false, cond, List, [], ◌∷◌, ◌++◌, length, get_or, set, drop, inl, inr, refl, sym, ap, ◌∙◌, subst, arith}
 use Rattle.std.proofs.lemmas.List.{drop_more, drop_all, get_or_default}
+use Rattle.yd_words.specs.Each.{Each}
+use Rattle.yd_words.proofs.EachLemmas.{each_weaker, each_both}
 use Rattle.yd_ids.specs.declared.id.Id.{Id}
 use Rattle.yd_ids.specs.declared.id.Span.{Span}
-use Rattle.yd_ids.specs.Each.{Each}
 use Rattle.yd_ids.specs.Id.{IsSpan}
 use Rattle.yd_ids.specs.Set.{HasId, AreMaximal, AddsSpans}
 use Rattle.yd_ids.specs.Span.{InSpan, Reaches, ends_below, EndsBefore, BeginsBy, joined}
 use Rattle.yd_ids.specs.Uniting.{with_last}
-use Rattle.yd_ids.proofs.EachLemmas.{each_weaker, each_both}
 use Rattle.yd_ids.proofs.SetLemmas.{span_at, maximal_back}
 use Rattle.yd_ids.proofs.SpanLemmas.{below_true, below_false, before_by, before_begins, by_reaches, touch_client, joined_span, joined_some, before_joined, joined_by, in_joined}
 
@@ -117,7 +117,7 @@ pub record IsUniting (left right both : List Span) (i j : ℕ) : Type 0 where
   pub right_order : Each (AllBy both) (drop j right)
   pub ids : (id : Id) → (HasId both id ⊎ (HasId (drop i left) id ⊎ HasId (drop j right) id)) ↔ (HasId left id ⊎ HasId right id)
 
-none_before : (xs : List Span) → Each (AllBy []) xs
+pub none_before : (xs : List Span) → Each (AllBy []) xs
 none_before [] = tt
 none_before (x ∷ xs) = (tt, none_before xs)
 

@@ -3,13 +3,13 @@ use Rattle.std.proofs.Common.{◌≡◌, ◌≢◌, ◌⊎◌, ℕ, zero, suc, �
 use Rattle.std.specs.List.{HoldsAt, insert}
 use Rattle.std.specs.List.Sorted.{IsPartitionedBy}
 use Rattle.std.proofs.lemmas.Bool.{cases_lt, ltb-true, ltb-false, lt-ltb, eq-eqb, ne_eqb}
+use Rattle.yd_words.specs.Each.{Each}
+use Rattle.yd_words.proofs.EachLemmas.{each_weaker, each_set, each_at}
 use Rattle.yd_ids.specs.declared.id.Client.{Client}
-use Rattle.yd_ids.specs.Each.{Each}
 use Rattle.yd_ids.specs.Id.{IsClient, IsClock}
 use Rattle.yd_ids.specs.Vector.{clock_of, IsVector, RaisesOnly}
-use Rattle.yd_ids.proofs.EachLemmas.{each_weaker, each_set, each_at}
 
-abbrev Entry : Type 0
+abbrev pub Entry : Type 0
 Entry = Client × ℕ
 
 -- clients ascend

@@ -1,9 +1,9 @@
 -- The laws of state vectors and delete sets.
 use Rattle.std.specs.Prelude.{◌≡◌, ℕ, max, ◌<◌, List, [], ◌∷◌}
 use Rattle.std.specs.List.Sorted.{IsPermutation}
+use Rattle.yd_words.specs.Each.{Each}
 use Rattle.yd_ids.specs.declared.id.Client.{Client}
 use Rattle.yd_ids.specs.declared.id.Span.{Span}
-use Rattle.yd_ids.specs.Each.{Each}
 use Rattle.yd_ids.specs.Id.{IsClient, IsClock, IsSpan}
 use Rattle.yd_ids.specs.Set.{HaveSameIds, AreMaximal, AddsSpan, AddsSpans, with_span, union_of, set_of}
 use Rattle.yd_ids.specs.Vector.{clock_of, IsVector, IsEntry, RaisesOnly, with_clock, maximum_of, vector_of_entries, HasGreatest}

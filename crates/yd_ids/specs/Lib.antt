@@ -1,6 +1,6 @@
-pub mod Each
 pub mod Gathering
 pub mod Id
+pub mod Ids
 pub mod Inserting
 pub mod Law
 pub mod Set

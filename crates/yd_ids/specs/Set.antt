@@ -1,8 +1,8 @@
 -- Sets of ids as their maximal spans, in order (Yjs, delete set).
 use Rattle.std.specs.Prelude.{◌↔◌, ◌<◌, ◌⊎◌, List, [], ◌∷◌, if◌then◌else◌, nat_eq}
+use Rattle.yd_words.specs.Each.{Each}
 use Rattle.yd_ids.specs.declared.id.Id.{Id}
 use Rattle.yd_ids.specs.declared.id.Span.{Span}
-use Rattle.yd_ids.specs.Each.{Each}
 use Rattle.yd_ids.specs.Id.{IsSpan}
 use Rattle.yd_ids.specs.Span.{InSpan, EndsBefore, ends_below, joined}
 

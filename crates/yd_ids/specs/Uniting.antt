@@ -1,7 +1,7 @@
 -- A union step by step: which span comes next, and one span more behind others (own).
 use Rattle.std.specs.Prelude.{List, [], ◌∷◌, if◌then◌else◌}
+use Rattle.yd_words.specs.Each.{Each}
 use Rattle.yd_ids.specs.declared.id.Span.{Span}
-use Rattle.yd_ids.specs.Each.{Each}
 use Rattle.yd_ids.specs.Span.{BeginsBy, ends_below, joined}
 
 -- the span begins where each of the others does, or before

@@ -1,7 +1,7 @@
 -- A state vector: clients and the clocks that they have reached, in order of the clients (Yjs, state vector).
 use Rattle.std.specs.Prelude.{◌≡◌, ◌≢◌, ℕ, max, ◌<◌, List, [], ◌∷◌, if◌then◌else◌, nat_eq, nat_lt}
+use Rattle.yd_words.specs.Each.{Each}
 use Rattle.yd_ids.specs.declared.id.Client.{Client}
-use Rattle.yd_ids.specs.Each.{Each}
 use Rattle.yd_ids.specs.Id.{IsClient, IsClock}
 
 -- the clock of a client, which is 0 for one that the vector does not have

@@ -1,7 +1,7 @@
 //! The set of many spans, in any order.
 
 ghost use Rattle.std.specs.Prelude.{IfOk};
-ghost use Rattle.yd_ids.specs.Each.{Each};
+ghost use Rattle.yd_words.specs.Each.{Each};
 ghost use Rattle.yd_ids.specs.Gathering.{AreOrdered};
 ghost use Rattle.yd_ids.specs.Id.{IsSpan};
 ghost use Rattle.yd_ids.specs.Set.{HaveSameIds, AreMaximal};

@@ -1,7 +1,7 @@
 //! Where an id stands among maximal spans.
 
 ghost use Rattle.std.specs.Prelude.{◌≡◌, ◌↔◌, ◌≤◌, true, false, length, take, drop, IsTrue};
-ghost use Rattle.yd_ids.specs.Each.{Each};
+ghost use Rattle.yd_words.specs.Each.{Each};
 ghost use Rattle.yd_ids.specs.Id.{IsId};
 ghost use Rattle.yd_ids.specs.Set.{HasId, AreMaximal};
 ghost use Rattle.yd_ids.specs.Span.{EndsBelow, Reaches};

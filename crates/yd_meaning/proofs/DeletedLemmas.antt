@@ -1,14 +1,16 @@
 -- What is deleted: whether an operation is, is a matter of its own list and of the item of that list.
 use Rattle.std.proofs.Common.{◌≡◌, ◌≢◌, ℕ, zero, suc, ◌<◌, ◌≤◌, Bool, true, false, ◌||◌, List, Option, Some, None, ◌⊎◌, inl, inr, length, refl, sym, ap, ◌∙◌, arith, true≢false}
-use Rattle.std.specs.Prelude.{IfSome, not}
+use Rattle.std.specs.Prelude.{not}
+use Rattle.yd_words.specs.Test.{is_some_and}
+use Rattle.yd_words.specs.Member.{IsIn}
+use Rattle.yd_words.proofs.OptionLemmas.{if_some_map, test_alike}
+use Rattle.yd_words.proofs.TestLemmas.{both_hold, hold_both}
 use Rattle.yd_ids.specs.declared.id.Id.{Id}
+use Rattle.yd_ids.specs.Ids.{is_same_neighbour}
+use Rattle.yd_ids.proofs.IdLemmas.{same_itself, other_id}
 use Rattle.yd_ops.specs.Operation.{Operation}
-use Rattle.yd_origins.specs.Ids.{is_same_neighbour, is_some_and, IsIn}
 use Rattle.yd_origins.specs.Table.{ids_of}
 use Rattle.yd_origins.specs.Deleted.{last_of, IsOverwritten, IsDeleted, by_name, by_key, by_item}
-use Rattle.yd_origins.proofs.IdLemmas.{same_itself, other_id}
-use Rattle.yd_origins.proofs.MemberLemmas.{if_some_map}
-use Rattle.yd_meaning.specs.ListNames.{both_hold, hold_both}
 use Rattle.yd_meaning.specs.Names.{has_key, item_of_list}
 use Rattle.yd_meaning.specs.Received.{has_operation, IsWritten}
 use Rattle.yd_meaning.specs.Held.{held_set}
@@ -16,11 +18,6 @@ use Rattle.yd_meaning.specs.Order.{rows_of, operation_set, list_of, order_of}
 use Rattle.yd_meaning.specs.Deleted.{is_overwritten, is_deleted_within, is_deleted}
 use Rattle.yd_meaning.proofs.RowLemmas.{has_row}
 use Rattle.yd_meaning.proofs.NestingLemmas.{nesting, nesting_small, nesting_falls, held_item}
-
--- tests that agree on what is there
-test_alike : (f g : Id → Bool) (z : Option Id) → IfSome z (λ y. f y ≡ g y) → is_some_and f z ≡ is_some_and g z
-test_alike f g None e = refl
-test_alike f g (Some y) e = e
 
 -- ---- what is overwritten
 

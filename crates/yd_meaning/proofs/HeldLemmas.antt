@@ -1,19 +1,19 @@
 -- What is held, round by round: rounds grow and come to rest, and what is held is the least set with all that it needs.
 use Rattle.std.proofs.Common.{◌≡◌, ℕ, zero, suc, ◌<◌, Bool, true, List, [], ◌∷◌, ◌⊎◌, Some, inl, inr, length, refl, sym, ap, ◌∙◌, subst, arith}
 use Rattle.std.specs.Prelude.{filter}
+use Rattle.yd_words.specs.Member.{IsIn}
+use Rattle.yd_words.proofs.TestLemmas.{one_answer}
+use Rattle.yd_words.proofs.FilterLemmas.{filter-all, kept_one, one_kept, filter_alike, length-filter, same_or_more}
 use Rattle.yd_ids.specs.declared.id.Id.{Id}
 use Rattle.yd_ops.specs.Operation.{Operation}
-use Rattle.yd_origins.specs.Ids.{IsIn}
-use Rattle.yd_origins.proofs.TestLemmas.{one_answer}
-use Rattle.yd_meaning.specs.Received.{IsOneOf, has_operation, IsWritten}
+use Rattle.yd_meaning.specs.Received.{has_operation, IsWritten}
 use Rattle.yd_meaning.specs.Held.{item_carried, needs, has_all, next_round, round, held_set}
-use Rattle.yd_meaning.proofs.FilterLemmas.{filter-all, kept_one, one_kept, filter_alike, length-filter, same_or_more}
 use Rattle.yd_meaning.proofs.OneOfLemmas.{operation_with, id_is_there, all_has, has_each}
 use Rattle.yd_meaning.proofs.RowLemmas.{written_distinct, one_operation}
 use Rattle.yd_meaning.proofs.NeedLemmas.{left_needed, right_needed, item_needed}
 
 -- ids that stay where operations stay
-ids_stay : (before after : List Operation) → ((o : Operation) → IsOneOf o before → IsOneOf o after) → (x : Id) → has_operation before x ≡ true →
+ids_stay : (before after : List Operation) → ((o : Operation) → IsIn o before → IsIn o after) → (x : Id) → has_operation before x ≡ true →
     has_operation after x ≡ true
 ids_stay before after stay x e = let (o, i, g) = operation_with before x e in subst (λ y. has_operation after y ≡ true) g (id_is_there after o (stay o i))
 
@@ -21,15 +21,15 @@ module _ (os : List Operation) where
   -- ---- rounds
 
   -- a round has what the next one needs
-  pub needs_before : (n : ℕ) (o : Operation) → IsOneOf o (round os (suc n)) → (x : Id) → IsIn x (needs o) → has_operation (round os n) x ≡ true
+  pub needs_before : (n : ℕ) (o : Operation) → IsIn o (round os (suc n)) → (x : Id) → IsIn x (needs o) → has_operation (round os n) x ≡ true
   needs_before n o i x j = all_has (round os n) (needs o) (kept_one (λ p. has_all (round os n) (needs p)) os o i).0 x j
 
-  pub round_in : (n : ℕ) (o : Operation) → IsOneOf o (round os n) → IsOneOf o os
+  pub round_in : (n : ℕ) (o : Operation) → IsIn o (round os n) → IsIn o os
   round_in zero o i = absurd i
   round_in (suc n) o i = (kept_one (λ p. has_all (round os n) (needs p)) os o i).1
 
   -- each round has the one before
-  pub round_grows : (n : ℕ) (o : Operation) → IsOneOf o (round os n) → IsOneOf o (round os (suc n))
+  pub round_grows : (n : ℕ) (o : Operation) → IsIn o (round os n) → IsIn o (round os (suc n))
   round_grows zero o i = absurd i
   round_grows (suc n) o i = one_kept (λ p. has_all (round os (suc n)) (needs p)) os o
       (has_each (round os (suc n)) (needs o) (λ x j. ids_stay (round os n) (round os (suc n)) (λ p k. round_grows n p k) x (needs_before n o i x j)))
@@ -66,41 +66,41 @@ module _ (os : List Operation) where
   ]
 
   -- what is held is received
-  pub held_in : (o : Operation) → IsOneOf o (held_set os) → IsOneOf o os
+  pub held_in : (o : Operation) → IsIn o (held_set os) → IsIn o os
   held_in = round_in (length os)
 
   -- all that a held operation needs is held
-  pub held_needs : (o : Operation) → IsOneOf o (held_set os) → (x : Id) → IsIn x (needs o) → has_operation (held_set os) x ≡ true
+  pub held_needs : (o : Operation) → IsIn o (held_set os) → (x : Id) → IsIn x (needs o) → has_operation (held_set os) x ≡ true
   held_needs o i = all_has (held_set os) (needs o)
-      (kept_one (λ p. has_all (held_set os) (needs p)) os o (subst (λ ps. IsOneOf o ps) (sym next_round-held) i)).0
+      (kept_one (λ p. has_all (held_set os) (needs p)) os o (subst (λ ps. IsIn o ps) (sym next_round-held) i)).0
 
   -- what is received is held, where all that it needs is
-  pub needs_held : (o : Operation) → IsOneOf o os → ((x : Id) → IsIn x (needs o) → has_operation (held_set os) x ≡ true) → IsOneOf o (held_set os)
-  needs_held o i f = subst (λ ps. IsOneOf o ps) next_round-held (one_kept (λ p. has_all (held_set os) (needs p)) os o (has_each (held_set os) (needs o) f) i)
+  pub needs_held : (o : Operation) → IsIn o os → ((x : Id) → IsIn x (needs o) → has_operation (held_set os) x ≡ true) → IsIn o (held_set os)
+  needs_held o i f = subst (λ ps. IsIn o ps) next_round-held (one_kept (λ p. has_all (held_set os) (needs p)) os o (has_each (held_set os) (needs o) f) i)
 
   -- what is true of an operation once it is true of its needs is true of all that is held
-  pub held_least : (P : Id → Type 0) → ((o : Operation) → IsOneOf o os → ((x : Id) → IsIn x (needs o) → P x) → P o.id) →
-      (o : Operation) → IsOneOf o (held_set os) → P o.id
+  pub held_least : (P : Id → Type 0) → ((o : Operation) → IsIn o os → ((x : Id) → IsIn x (needs o) → P x) → P o.id) →
+      (o : Operation) → IsIn o (held_set os) → P o.id
   held_least P step = by_rounds (length os)
     where
-      by_rounds : (n : ℕ) (o : Operation) → IsOneOf o (round os n) → P o.id
+      by_rounds : (n : ℕ) (o : Operation) → IsIn o (round os n) → P o.id
       by_rounds zero o i = absurd i
       by_rounds (suc n) o i = step o (round_in (suc n) o i)
           (λ x j. let (p, k, g) = operation_with (round os n) x (needs_before n o i x j) in subst P g (by_rounds n p k))
 
   -- the origins of a held operation are held, and so is the item of the list that it carries
-  pub held_left : (o : Operation) → IsOneOf o (held_set os) → (y : Id) → o.left_origin ≡ Some y → has_operation (held_set os) y ≡ true
+  pub held_left : (o : Operation) → IsIn o (held_set os) → (y : Id) → o.left_origin ≡ Some y → has_operation (held_set os) y ≡ true
   held_left o i y e = held_needs o i y (left_needed o y e)
 
-  pub held_right : (o : Operation) → IsOneOf o (held_set os) → (y : Id) → o.right_origin ≡ Some y → has_operation (held_set os) y ≡ true
+  pub held_right : (o : Operation) → IsIn o (held_set os) → (y : Id) → o.right_origin ≡ Some y → has_operation (held_set os) y ≡ true
   held_right o i y e = held_needs o i y (right_needed o y e)
 
-  pub held_carried : (o : Operation) → IsOneOf o (held_set os) → (y : Id) → item_carried o.list ≡ Some y → has_operation (held_set os) y ≡ true
+  pub held_carried : (o : Operation) → IsIn o (held_set os) → (y : Id) → item_carried o.list ≡ Some y → has_operation (held_set os) y ≡ true
   held_carried o i y e = held_needs o i y (item_needed o y e)
 
   -- a test that held operations alone pass, and that each passes whose needs pass it, tells what is held
-  pub held_set-test : (test : Id → Bool) → ((o : Operation) → IsOneOf o os → test o.id ≡ true → IsOneOf o (held_set os)) →
-      ((o : Operation) → IsOneOf o os → ((x : Id) → IsIn x (needs o) → test x ≡ true) → test o.id ≡ true) →
+  pub held_set-test : (test : Id → Bool) → ((o : Operation) → IsIn o os → test o.id ≡ true → IsIn o (held_set os)) →
+      ((o : Operation) → IsIn o os → ((x : Id) → IsIn x (needs o) → test x ≡ true) → test o.id ≡ true) →
       held_set os ≡ filter (λ o. test o.id) os
   held_set-test test sound complete = sym next_round-held ∙ filter_alike (λ o. has_all (held_set os) (needs o)) (λ o. test o.id) os
       (λ o i. one_answer (has_all (held_set os) (needs o)) (test o.id) ((λ e. e), (λ e. e)) (
@@ -111,26 +111,26 @@ module _ (os : List Operation) where
 -- ---- lemmas for callers, of two sets
 
 -- what is held stays held when more is received
-pub held_id_grows : (os more : List Operation) → ((o : Operation) → IsOneOf o os → IsOneOf o more) → (x : Id) → has_operation (held_set os) x ≡ true →
+pub held_id_grows : (os more : List Operation) → ((o : Operation) → IsIn o os → IsIn o more) → (x : Id) → has_operation (held_set os) x ≡ true →
     has_operation (held_set more) x ≡ true
 held_id_grows os more stay x e = let (p, i, g) = operation_with (held_set os) x e in subst (λ y. has_operation (held_set more) y ≡ true) g
     (held_least os (λ y. has_operation (held_set more) y ≡ true) (λ o j f. id_is_there (held_set more) o (needs_held more o (stay o j) f)) p i)
 
-pub held_grows : (os more : List Operation) → ((o : Operation) → IsOneOf o os → IsOneOf o more) → (o : Operation) → IsOneOf o (held_set os) →
-    IsOneOf o (held_set more)
+pub held_grows : (os more : List Operation) → ((o : Operation) → IsIn o os → IsIn o more) → (o : Operation) → IsIn o (held_set os) →
+    IsIn o (held_set more)
 held_grows os more stay o i = needs_held more o (stay o (held_in os o i)) (λ x j. held_id_grows os more stay x (held_needs os o i x j))
 
 -- some held operations with all that they need are what is held of themselves
-pub held_set-part : (os part : List Operation) → IsWritten os → ((o : Operation) → IsOneOf o part → IsOneOf o (held_set os)) →
-    ((o : Operation) → IsOneOf o part → (x : Id) → IsIn x (needs o) → has_operation part x ≡ true) → held_set part ≡ part
+pub held_set-part : (os part : List Operation) → IsWritten os → ((o : Operation) → IsIn o part → IsIn o (held_set os)) →
+    ((o : Operation) → IsIn o part → (x : Id) → IsIn x (needs o) → has_operation part x ≡ true) → held_set part ≡ part
 held_set-part os part w within closed = sym (next_round-held part) ∙ filter-all (λ o. has_all (held_set part) (needs o)) part
     (λ o i. has_each (held_set part) (needs o) (λ x j. stays x (closed o i x j)))
   where
-    stays_one : (o : Operation) → IsOneOf o (held_set os) → has_operation part o.id ≡ true → has_operation (held_set part) o.id ≡ true
+    stays_one : (o : Operation) → IsIn o (held_set os) → has_operation part o.id ≡ true → has_operation (held_set part) o.id ≡ true
     stays_one = held_least os (λ x. has_operation part x ≡ true → has_operation (held_set part) x ≡ true) (λ o i stay e.
         let (p, j, g) = operation_with part o.id e in
         let one : p ≡ o = one_operation os (written_distinct os w) p o (held_in os p (within p j)) i g in
-        let own : IsOneOf o part = subst (λ q. IsOneOf q part) one j in
+        let own : IsIn o part = subst (λ q. IsIn q part) one j in
         id_is_there (held_set part) o (needs_held part o own (λ x k. stay x k (closed o own x k))))
 
     stays : (x : Id) → has_operation part x ≡ true → has_operation (held_set part) x ≡ true

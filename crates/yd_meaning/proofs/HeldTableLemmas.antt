@@ -1,24 +1,19 @@
 -- The held operations are a table of origins: what an operation needs came in an earlier round.
-use Rattle.std.proofs.Common.{◌≡◌, ℕ, zero, suc, ◌+◌, ◌<◌, Bool, true, false, List, Option, Some, None, length, refl, sym, subst, arith, true≢false}
+use Rattle.std.proofs.Common.{◌≡◌, ℕ, zero, suc, ◌+◌, ◌<◌, Bool, true, false, List, length, refl, sym, subst, arith, true≢false}
 use Rattle.std.specs.Prelude.{IfSome, not}
+use Rattle.yd_words.specs.Member.{IsIn, AreDistinct}
+use Rattle.yd_words.specs.Test.{one_if}
+use Rattle.yd_words.proofs.OptionLemmas.{if_some_map, if_some_each}
 use Rattle.yd_ids.specs.declared.id.Id.{Id}
 use Rattle.yd_ops.specs.Operation.{Operation}
-use Rattle.yd_origins.specs.Ids.{IsIn, AreDistinct}
-use Rattle.yd_origins.specs.Sorted.{one_if}
 use Rattle.yd_origins.specs.Table.{OriginTable, ids_of, left_of, right_of, IsTable}
-use Rattle.yd_origins.proofs.MemberLemmas.{if_some_map}
-use Rattle.yd_meaning.specs.Received.{IsOneOf, has_operation, IsWritten}
+use Rattle.yd_meaning.specs.Received.{has_operation, IsWritten}
 use Rattle.yd_meaning.specs.Held.{needs, has_all, round, held_set}
 use Rattle.yd_meaning.specs.Order.{rows_of}
 use Rattle.yd_meaning.proofs.OneOfLemmas.{operation_with}
 use Rattle.yd_meaning.proofs.RowLemmas.{row_one, has_row, written_distinct, distinct_kept, one_operation, left_of-row, right_of-row}
 use Rattle.yd_meaning.proofs.NeedLemmas.{left_needed, right_needed}
 use Rattle.yd_meaning.proofs.HeldLemmas.{needs_before, round_in, held_needs}
-
--- what is true of all that is there is true of what may be
-pub if_some_each : (P : Id → Type 0) (z : Option Id) → ((y : Id) → z ≡ Some y → P y) → IfSome z P
-if_some_each P None f = tt
-if_some_each P (Some y) f = f y refl
 
 module _ (os : List Operation) (w : IsWritten os) where
   -- ---- how many rounds come before an operation
@@ -28,7 +23,7 @@ module _ (os : List Operation) (w : IsWritten os) where
   rounds_without zero x = 0
   rounds_without (suc n) x = one_if (not (has_operation (round os n) x)) + rounds_without n x
 
-  module _ (o : Operation) (i : IsOneOf o os) (y : Id) (j : IsIn y (needs o)) where
+  module _ (o : Operation) (i : IsIn o os) (y : Id) (j : IsIn y (needs o)) where
     -- a round that has the operation comes after one that has what it needs
     later_round : (n : ℕ) → has_operation (round os (suc n)) o.id ≡ true → has_operation (round os n) y ≡ true
     later_round n e = let (p, k, g) = operation_with (round os (suc n)) o.id e in
@@ -46,7 +41,7 @@ module _ (os : List Operation) (w : IsWritten os) where
         go false true f lt = omega arith
         go false false f lt = omega arith
 
-    pub need_is_earlier : (n : ℕ) → IsOneOf o (round os n) → rounds_without n y < rounds_without n o.id
+    pub need_is_earlier : (n : ℕ) → IsIn o (round os n) → rounds_without n y < rounds_without n o.id
     need_is_earlier zero k = absurd k
     need_is_earlier (suc n) k = rw (needs_before os n o k y j) (omega (arith, fewer_rounds n))
 
@@ -74,7 +69,7 @@ module _ (os : List Operation) (w : IsWritten os) where
       go (suc n) = distinct_kept (λ p. has_all (round os n) (needs p)) os (written_distinct os w)
 
   -- what an operation needs is earlier
-  pub needed : (o : Operation) → IsOneOf o held → (y : Id) → IsIn y (needs o) → IsEarlier o.id y
+  pub needed : (o : Operation) → IsIn o held → (y : Id) → IsIn y (needs o) → IsEarlier o.id y
   needed o i y j = (has_row held y (held_needs os o i y j), need_is_earlier o (round_in os (length os) o i) y j (length os) i)
 
   -- and so are its origins

@@ -2,7 +2,6 @@ pub mod ClockLemmas
 pub mod DeletedLemmas
 pub mod DocumentLemmas
 pub mod ExampleLemmas
-pub mod FilterLemmas
 pub mod HeldLemmas
 pub mod HeldListLemmas
 pub mod HeldTableLemmas

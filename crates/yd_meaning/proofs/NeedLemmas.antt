@@ -1,9 +1,9 @@
 -- What an operation needs: its client's id before, its origins, and the item of the list that it carries.
 use Rattle.std.proofs.Common.{◌≡◌, ℕ, suc, List, ◌++◌, Option, Some, None, inl, refl, sym, subst}
+use Rattle.yd_words.specs.Member.{IsIn}
+use Rattle.yd_words.proofs.MemberLemmas.{in_left_part, in_right_part}
 use Rattle.yd_ids.specs.declared.id.Id.{Id}
 use Rattle.yd_ops.specs.Operation.{Operation}
-use Rattle.yd_origins.specs.Ids.{IsIn}
-use Rattle.yd_origins.proofs.MemberLemmas.{in_left_part, in_right_part}
 use Rattle.yd_meaning.specs.Held.{id_before, given, item_carried, needs}
 
 in_given : (z : Option Id) (y : Id) → z ≡ Some y → IsIn y (given z)

@@ -1,22 +1,22 @@
 -- How deep lists of held operations lie in items: the item of an operation's list came earlier, so nesting ends.
 use Rattle.std.proofs.Common.{◌≡◌, true, ℕ, zero, suc, ◌<◌, List, Option, Some, None, length, subst, arith}
 use Rattle.std.specs.Prelude.{IfSome}
+use Rattle.yd_words.specs.Member.{IsIn}
+use Rattle.yd_words.proofs.OptionLemmas.{if_some_map, if_some_each}
 use Rattle.yd_ids.specs.declared.id.Id.{Id}
 use Rattle.yd_ops.specs.declared.lists.List.{List as DocList}
 use Rattle.yd_ops.specs.Operation.{Operation}
-use Rattle.yd_origins.specs.Ids.{IsIn}
 use Rattle.yd_origins.specs.Table.{OriginTable, ids_of, left_of, right_of}
 use Rattle.yd_origins.specs.Operations.{list_by_origins, list_within}
-use Rattle.yd_origins.proofs.MemberLemmas.{if_some_map}
 use Rattle.yd_origins.proofs.ListingLemmas.{arranged, arranged_in, in_arranged, arranged_falling, arranged_distinct, arranged_length, listed, rank, rank_below, rank_left}
 use Rattle.yd_origins.proofs.PlacedLemmas.{IsListed}
 use Rattle.yd_meaning.specs.Names.{item_of_list}
-use Rattle.yd_meaning.specs.Received.{IsOneOf, has_operation, IsWritten}
+use Rattle.yd_meaning.specs.Received.{has_operation, IsWritten}
 use Rattle.yd_meaning.specs.Held.{item_carried, held_set}
 use Rattle.yd_meaning.specs.Order.{rows_of, list_or_root, list_carried, operation_set, list_of}
 use Rattle.yd_meaning.proofs.RowLemmas.{row_one, has_row, row_has, length-rows, list_carried-one}
 use Rattle.yd_meaning.proofs.NeedLemmas.{item_needed}
-use Rattle.yd_meaning.proofs.HeldTableLemmas.{if_some_each, arrival, IsEarlier, held_distinct, needed, left_earlier, right_earlier}
+use Rattle.yd_meaning.proofs.HeldTableLemmas.{arrival, IsEarlier, held_distinct, needed, left_earlier, right_earlier}
 
 module _ (os : List Operation) (w : IsWritten os) where
   abbrev held : List Operation
@@ -31,7 +31,7 @@ module _ (os : List Operation) (w : IsWritten os) where
   carried_earlier x i = let (o, j, e) = row_one held x i in subst (λ z. IfSome (item_of_list (list_carried held z)) (IsEarlier os w z)) e
       (rw (list_carried-one held (held_distinct os w) o j) (go o j o.list (λ y g. needed os w o j y (item_needed o y g))))
     where
-      go : (o : Operation) → IsOneOf o held → (z : Option DocList) → ((y : Id) → item_carried z ≡ Some y → IsEarlier os w o.id y) →
+      go : (o : Operation) → IsIn o held → (z : Option DocList) → ((y : Id) → item_carried z ≡ Some y → IsEarlier os w o.id y) →
           IfSome (item_of_list (list_or_root z)) (IsEarlier os w o.id)
       go o j None f = tt
       go o j (Some list) f = if_some_each (IsEarlier os w o.id) (item_of_list list) f

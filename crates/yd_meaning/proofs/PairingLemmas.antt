@@ -1,12 +1,13 @@
 -- Taking in a run with a valid content: pairs stay whole, and a half is torn where its partner's id is there.
 use Rattle.std.proofs.Common.{◌≡◌, Bool, true, false, List, inl, inr, refl, sym, ap, ◌∙◌, subst, arith, true≢false}
 use Rattle.std.proofs.lemmas.Bool.{cases_Bool, false_from_ne_true}
+use Rattle.yd_words.specs.Member.{IsIn}
 use Rattle.yd_ids.specs.declared.id.Id.{Id}
-use Rattle.yd_origins.proofs.IdLemmas.{same_numbers}
+use Rattle.yd_ids.proofs.IdLemmas.{same_numbers}
 use Rattle.yd_ops.specs.Operation.{Operation, later_id, operations_of_run, IsHighUnit, IsLowUnit, ArePartners}
 use Rattle.yd_ops.specs.Value.{RunValue}
 use Rattle.yd_ops.specs.Valid.{IsValidContent}
-use Rattle.yd_meaning.specs.Received.{IsOneOf, has_operation, IsWritten, is_torn, as_taken, with_run}
+use Rattle.yd_meaning.specs.Received.{has_operation, IsWritten, is_torn, as_taken, with_run}
 use Rattle.yd_meaning.specs.Law.{ArePaired}
 use Rattle.yd_meaning.proofs.PartnerLemmas.{AreOnePair, IsHalf, pair_half, pair_flip, one_partner, high_partner, low_partner}
 use Rattle.yd_meaning.proofs.TornLemmas.{HasPartners, paired_has, has_paired, torn_decides, torn_where}
@@ -21,7 +22,7 @@ torn_no_half o (inl high) = absurd (omega arith)
 torn_no_half o (inr low) = absurd (omega arith)
 
 -- an operation of a run is torn where a partner's id is there
-torn_by : (run taken : List Operation) (o p : Operation) → ArePaired taken → has_operation taken o.id ≡ false → IsOneOf p run → AreOnePair o p → has_operation taken p.id ≡ true →
+torn_by : (run taken : List Operation) (o p : Operation) → ArePaired taken → has_operation taken o.id ≡ false → IsIn p run → AreOnePair o p → has_operation taken p.id ≡ true →
     is_torn run taken o ≡ true
 torn_by run taken o p paired none i pair there = (torn_where run taken o paired none).1 (p, i, pair, there)
 
@@ -38,12 +39,12 @@ with_run_partners run taken valid w paired q i is_half = elim ((with_run_is run 
   | inr (o, j, none, e) ↦ new o j none (is_torn (operations_of_run run) taken o) refl e
 ]
   where
-    new : (o : Operation) → IsOneOf o (operations_of_run run) → has_operation taken o.id ≡ false → (t : Bool) → is_torn (operations_of_run run) taken o ≡ t → q ≡ as_taken t o →
-        (p : Operation) × IsOneOf p (with_run run taken) × AreOnePair q p
+    new : (o : Operation) → IsIn o (operations_of_run run) → has_operation taken o.id ≡ false → (t : Bool) → is_torn (operations_of_run run) taken o ≡ t → q ≡ as_taken t o →
+        (p : Operation) × IsIn p (with_run run taken) × AreOnePair q p
     new o j none true torn e = absurd (torn_no_half o (subst (λ (r : Operation). IsHalf r.content) e is_half))
     new o j none false torn e = with_partner (paired_has (operations_of_run run) (run_paired run valid) o j (subst (λ (r : Operation). IsHalf r.content) e is_half))
       where
-        with_partner : (p : Operation) × IsOneOf p (operations_of_run run) × AreOnePair o p → (p : Operation) × IsOneOf p (with_run run taken) × AreOnePair q p
+        with_partner : (p : Operation) × IsIn p (operations_of_run run) × AreOnePair o p → (p : Operation) × IsIn p (with_run run taken) × AreOnePair q p
         with_partner (p, k, pair) = elim (cases_Bool (has_operation taken p.id)) [
           | inl there ↦ absurd (true≢false (sym (torn_by (operations_of_run run) taken o p paired none k pair there) ∙ torn))
           | inr absent ↦
@@ -62,7 +63,7 @@ pub with_run_paired : (run : RunValue) (taken : List Operation) → IsValidConte
 with_run_paired run taken valid w paired = has_paired (with_run run taken) (with_run_partners run taken valid w paired)
 
 -- a half of it that is not there is torn as its partner's id is there
-pub half_torn : (run : RunValue) (taken : List Operation) (o p : Operation) → ArePaired taken → has_operation taken o.id ≡ false → IsOneOf p (operations_of_run run) → AreOnePair o p →
+pub half_torn : (run : RunValue) (taken : List Operation) (o p : Operation) → ArePaired taken → has_operation taken o.id ≡ false → IsIn p (operations_of_run run) → AreOnePair o p →
     is_torn (operations_of_run run) taken o ≡ has_operation taken p.id
 half_torn run taken o p paired none i pair = elim (cases_Bool (has_operation taken p.id)) [
   | inl there ↦ torn_by (operations_of_run run) taken o p paired none i pair there ∙ sym there
@@ -70,7 +71,7 @@ half_torn run taken o p paired none i pair = elim (cases_Bool (has_operation tak
 ]
 
 -- a high half is torn where the next id is there
-pub high_torn : (run : RunValue) (taken : List Operation) (o : Operation) → IsValidContent run.content → ArePaired taken → IsOneOf o (operations_of_run run) → has_operation taken o.id ≡ false →
+pub high_torn : (run : RunValue) (taken : List Operation) (o : Operation) → IsValidContent run.content → ArePaired taken → IsIn o (operations_of_run run) → has_operation taken o.id ≡ false →
     IsHighUnit o.content → is_torn (operations_of_run run) taken o ≡ has_operation taken (later_id o.id 1)
 high_torn run taken o valid paired i none high =
     let (p, j, pair) = paired_has (operations_of_run run) (run_paired run valid) o i (inl high) in
@@ -78,7 +79,7 @@ high_torn run taken o valid paired i none high =
     half_torn run taken o p paired none j pair ∙ ap (λ x. has_operation taken x) behind.next_clock
 
 -- a low half is torn where the id before it is there
-pub low_torn : (run : RunValue) (taken : List Operation) (o : Operation) (x : Id) → IsValidContent run.content → ArePaired taken → IsOneOf o (operations_of_run run) →
+pub low_torn : (run : RunValue) (taken : List Operation) (o : Operation) (x : Id) → IsValidContent run.content → ArePaired taken → IsIn o (operations_of_run run) →
     has_operation taken o.id ≡ false → IsLowUnit o.content → o.id ≡ later_id x 1 → is_torn (operations_of_run run) taken o ≡ has_operation taken x
 low_torn run taken o x valid paired i none low next =
     let (p, j, pair) = paired_has (operations_of_run run) (run_paired run valid) o i (inr low) in

@@ -2,10 +2,11 @@
 use Rattle.std.proofs.Common.{◌≡◌, ℕ, Bool, true, false, ◌||◌, ◌&&◌, ◌⊎◌, inl, inr, Option, Some, None, refl, sym, ap, ◌∙◌, subst, arith, tests, true≢false}
 use Rattle.std.specs.Prelude.{Decides}
 use Rattle.std.proofs.lemmas.Bool.Decides.{Decides-and, Decides-or, Decides-like}
+use Rattle.yd_words.proofs.OptionLemmas.{some_is}
 use Rattle.yd_ids.specs.declared.id.Id.{Id}
 use Rattle.yd_units.specs.Half.{IsHigh, IsLow}
-use Rattle.yd_origins.specs.Ids.{is_same, is_same_neighbour}
-use Rattle.yd_origins.proofs.IdLemmas.{same_is, same_itself}
+use Rattle.yd_ids.specs.Ids.{is_same, is_same_neighbour}
+use Rattle.yd_ids.proofs.IdLemmas.{same_is, same_itself}
 use Rattle.yd_ops.specs.declared.lists.List.{List as DocList}
 use Rattle.yd_ops.specs.Operation.{UnitContent, text_unit, any_unit, json_unit, bytes, embedded, mark, nested_type, Operation, later_id, IsHighUnit, IsLowUnit, ArePartners}
 use Rattle.yd_meaning.specs.Names.{same_carried}
@@ -100,9 +101,6 @@ pair_flip o p (inr pair) = inl pair
 pub pair_half : (o p : Operation) → AreOnePair o p → IsHalf p.content
 pair_half o p (inl pair) = inr pair.low_half
 pair_half o p (inr pair) = inl pair.high_half
-
-some_is : (x y : Id) → ◌≡◌ {A = Option Id} (Some x) (Some y) → x ≡ y
-some_is x y e = cc
 
 -- the partners of an operation have one id
 pub one_partner : (o p q : Operation) → AreOnePair o p → AreOnePair o q → p.id ≡ q.id

@@ -1,16 +1,18 @@
 -- What is received: it stays as it has to be, a repeat changes nothing, and under agreement it is all that was handed in.
 use Rattle.std.proofs.Common.{◌≡◌, ◌↔◌, false, List, [], ◌∷◌, ◌++◌, ◌⊎◌, inl, inr, refl, sym, ap, ◌∙◌, subst}
 use Rattle.std.proofs.lemmas.Bool.{cases_Bool, false_from_ne_true}
+use Rattle.yd_words.specs.Each.{Each}
+use Rattle.yd_words.specs.Member.{IsIn}
+use Rattle.yd_words.proofs.MemberLemmas.{in_left_part, in_right_part, in_parts}
 use Rattle.yd_ids.specs.declared.id.Id.{Id}
-use Rattle.yd_ids.specs.Each.{Each}
 use Rattle.yd_ids.specs.Set.{HasId, AreMaximal, union_of}
 use Rattle.yd_ids.proofs.UnionLemmas.{sets_same, union_maximal, union_ids, union_again, union_groups}
 use Rattle.yd_ops.specs.Operation.{Operation, operations_of_run}
 use Rattle.yd_ops.specs.Value.{RunValue, UpdateValue}
 use Rattle.yd_ops.specs.Valid.{IsValidUpdate}
-use Rattle.yd_meaning.specs.Received.{IsOneOf, has_operation, Agree, IsWritten, is_torn, as_taken, with_run, with_runs, runs_of, Received, nothing_received, received_after, received_more, received_set, operations_of_all, DeleteId, HaveSameContents}
+use Rattle.yd_meaning.specs.Received.{has_operation, Agree, IsWritten, is_torn, as_taken, with_run, with_runs, runs_of, Received, nothing_received, received_after, received_more, received_set, operations_of_all, DeleteId, HaveSameContents}
 use Rattle.yd_meaning.specs.Law.{IsReceived}
-use Rattle.yd_meaning.proofs.OneOfLemmas.{one_of_front, one_of_back, one_of_parts, operation_with}
+use Rattle.yd_meaning.proofs.OneOfLemmas.{operation_with}
 use Rattle.yd_meaning.proofs.WritingLemmas.{written_alone}
 use Rattle.yd_meaning.proofs.TornLemmas.{torn_decides}
 use Rattle.yd_meaning.proofs.TakingLemmas.{with_run_is, with_run_written}
@@ -44,7 +46,7 @@ after_again r update is valid = one_received (received_after (received_after r u
 -- ---- operations that agree
 
 -- of operations that agree none is torn
-agreed_torn : (all run taken : List Operation) (o : Operation) → Agree all → ((q : Operation) → IsOneOf q run → IsOneOf q all) → ((q : Operation) → IsOneOf q taken → IsOneOf q all) →
+agreed_torn : (all run taken : List Operation) (o : Operation) → Agree all → ((q : Operation) → IsIn q run → IsIn q all) → ((q : Operation) → IsIn q taken → IsIn q all) →
     is_torn run taken o ≡ false
 agreed_torn all run taken o agree from_run from_taken = false_from_ne_true (is_torn run taken o) (λ e.
     let (p, i, pair, (q, j, id, other)) = (torn_decides run taken o).0 e in
@@ -52,55 +54,55 @@ agreed_torn all run taken o agree from_run from_taken = false_from_ne_true (is_t
 
 -- so a run is taken in as it is
 agreed_run : (all : List Operation) (run : RunValue) (taken : List Operation) → Agree all → IsWritten taken →
-    ((q : Operation) → IsOneOf q (operations_of_run run) → IsOneOf q all) → ((q : Operation) → IsOneOf q taken → IsOneOf q all) → (q : Operation) →
-    IsOneOf q (with_run run taken) ↔ (IsOneOf q taken ⊎ IsOneOf q (operations_of_run run))
+    ((q : Operation) → IsIn q (operations_of_run run) → IsIn q all) → ((q : Operation) → IsIn q taken → IsIn q all) → (q : Operation) →
+    IsIn q (with_run run taken) ↔ (IsIn q taken ⊎ IsIn q (operations_of_run run))
 agreed_run all run taken agree w from_run from_taken q = (there, back)
   where
     as_it_is : (o : Operation) → as_taken (is_torn (operations_of_run run) taken o) o ≡ o
     as_it_is o = ap (λ t. as_taken t o) (agreed_torn all (operations_of_run run) taken o agree from_run from_taken)
 
-    there : IsOneOf q (with_run run taken) → IsOneOf q taken ⊎ IsOneOf q (operations_of_run run)
+    there : IsIn q (with_run run taken) → IsIn q taken ⊎ IsIn q (operations_of_run run)
     there i = elim ((with_run_is run taken w q).0 i) [
       | inl j ↦ inl j
-      | inr (o, j, none, e) ↦ inr (subst (λ r. IsOneOf r (operations_of_run run)) (sym (e ∙ as_it_is o)) j)
+      | inr (o, j, none, e) ↦ inr (subst (λ r. IsIn r (operations_of_run run)) (sym (e ∙ as_it_is o)) j)
     ]
 
-    back : IsOneOf q taken ⊎ IsOneOf q (operations_of_run run) → IsOneOf q (with_run run taken)
+    back : IsIn q taken ⊎ IsIn q (operations_of_run run) → IsIn q (with_run run taken)
     back (inl i) = (with_run_is run taken w q).1 (inl i)
     back (inr i) = elim (cases_Bool (has_operation taken q.id)) [
       | inl e ↦
           let (p, j, id) = operation_with taken q.id e in
-          (with_run_is run taken w q).1 (inl (subst (λ r. IsOneOf r taken) (agree p q (from_taken p j) (from_run q i) id) j))
+          (with_run_is run taken w q).1 (inl (subst (λ r. IsIn r taken) (agree p q (from_taken p j) (from_run q i) id) j))
       | inr none ↦ (with_run_is run taken w q).1 (inr (q, i, none, sym (as_it_is q)))
     ]
 
 agreed_runs : (all : List Operation) (runs : List RunValue) (taken : List Operation) → Agree all → IsWritten taken →
-    ((q : Operation) → IsOneOf q (operations_of_runs runs) → IsOneOf q all) → ((q : Operation) → IsOneOf q taken → IsOneOf q all) → (q : Operation) →
-    IsOneOf q (with_runs runs taken) ↔ (IsOneOf q taken ⊎ IsOneOf q (operations_of_runs runs))
+    ((q : Operation) → IsIn q (operations_of_runs runs) → IsIn q all) → ((q : Operation) → IsIn q taken → IsIn q all) → (q : Operation) →
+    IsIn q (with_runs runs taken) ↔ (IsIn q taken ⊎ IsIn q (operations_of_runs runs))
 agreed_runs all [] taken agree w from_runs from_taken q = ((λ i. inl i), (λ i. elim i [ inl j ↦ j | inr j ↦ absurd j ]))
 agreed_runs all (run ∷ runs) taken agree w from_runs from_taken q =
-    step (agreed_runs all runs (with_run run taken) agree (with_run_written run taken w) (λ p i. from_runs p (one_of_back p (operations_of_run run) (operations_of_runs runs) i)) from_both q)
+    step (agreed_runs all runs (with_run run taken) agree (with_run_written run taken w) (λ p i. from_runs p (in_right_part p (operations_of_run run) (operations_of_runs runs) i)) from_both q)
   where
-    from_run : (p : Operation) → IsOneOf p (operations_of_run run) → IsOneOf p all
-    from_run p i = from_runs p (one_of_front p (operations_of_run run) (operations_of_runs runs) i)
+    from_run : (p : Operation) → IsIn p (operations_of_run run) → IsIn p all
+    from_run p i = from_runs p (in_left_part p (operations_of_run run) (operations_of_runs runs) i)
 
-    first : (p : Operation) → IsOneOf p (with_run run taken) ↔ (IsOneOf p taken ⊎ IsOneOf p (operations_of_run run))
+    first : (p : Operation) → IsIn p (with_run run taken) ↔ (IsIn p taken ⊎ IsIn p (operations_of_run run))
     first p = agreed_run all run taken agree w from_run from_taken p
 
-    from_both : (p : Operation) → IsOneOf p (with_run run taken) → IsOneOf p all
+    from_both : (p : Operation) → IsIn p (with_run run taken) → IsIn p all
     from_both p i = elim ((first p).0 i) [ inl j ↦ from_taken p j | inr j ↦ from_run p j ]
 
-    step : IsOneOf q (with_runs runs (with_run run taken)) ↔ (IsOneOf q (with_run run taken) ⊎ IsOneOf q (operations_of_runs runs)) →
-        IsOneOf q (with_runs runs (with_run run taken)) ↔ (IsOneOf q taken ⊎ IsOneOf q (operations_of_run run ++ operations_of_runs runs))
+    step : IsIn q (with_runs runs (with_run run taken)) ↔ (IsIn q (with_run run taken) ⊎ IsIn q (operations_of_runs runs)) →
+        IsIn q (with_runs runs (with_run run taken)) ↔ (IsIn q taken ⊎ IsIn q (operations_of_run run ++ operations_of_runs runs))
     step later = ((λ i. there (later.0 i)), (λ i. later.1 (back i)))
       where
-        there : IsOneOf q (with_run run taken) ⊎ IsOneOf q (operations_of_runs runs) → IsOneOf q taken ⊎ IsOneOf q (operations_of_run run ++ operations_of_runs runs)
-        there (inl i) = elim ((first q).0 i) [ inl j ↦ inl j | inr j ↦ inr (one_of_front q (operations_of_run run) (operations_of_runs runs) j) ]
-        there (inr i) = inr (one_of_back q (operations_of_run run) (operations_of_runs runs) i)
+        there : IsIn q (with_run run taken) ⊎ IsIn q (operations_of_runs runs) → IsIn q taken ⊎ IsIn q (operations_of_run run ++ operations_of_runs runs)
+        there (inl i) = elim ((first q).0 i) [ inl j ↦ inl j | inr j ↦ inr (in_left_part q (operations_of_run run) (operations_of_runs runs) j) ]
+        there (inr i) = inr (in_right_part q (operations_of_run run) (operations_of_runs runs) i)
 
-        back : IsOneOf q taken ⊎ IsOneOf q (operations_of_run run ++ operations_of_runs runs) → IsOneOf q (with_run run taken) ⊎ IsOneOf q (operations_of_runs runs)
+        back : IsIn q taken ⊎ IsIn q (operations_of_run run ++ operations_of_runs runs) → IsIn q (with_run run taken) ⊎ IsIn q (operations_of_runs runs)
         back (inl i) = inl ((first q).1 (inl i))
-        back (inr i) = elim (one_of_parts q (operations_of_run run) (operations_of_runs runs) i) [ inl j ↦ inl ((first q).1 (inr j)) | inr j ↦ inr j ]
+        back (inr i) = elim (in_parts q (operations_of_run run) (operations_of_runs runs) i) [ inl j ↦ inl ((first q).1 (inr j)) | inr j ↦ inr j ]
 
 -- ---- the operations of updates
 
@@ -113,16 +115,16 @@ pub received_written : (updates : List UpdateValue) → IsWritten (received_set 
 received_written updates = subst (λ os. IsWritten os) (sym (more_operations nothing_received updates)) (with_runs_written (runs_of_all updates) [] tt)
 
 -- under agreement all operations that were handed in are received
-pub received_is : (updates : List UpdateValue) → Agree (operations_of_all updates) → (o : Operation) → IsOneOf o (received_set updates).operations ↔ IsOneOf o (operations_of_all updates)
+pub received_is : (updates : List UpdateValue) → Agree (operations_of_all updates) → (o : Operation) → IsIn o (received_set updates).operations ↔ IsIn o (operations_of_all updates)
 received_is updates agree o = rw (more_operations nothing_received updates, all_operations updates) (
   (λ i. elim (taken.0 i) [ inl j ↦ absurd j | inr j ↦ j ]),
   (λ i. taken.1 (inr i)),
 )
   where
-    from_updates : (q : Operation) → IsOneOf q (operations_of_runs (runs_of_all updates)) → IsOneOf q (operations_of_all updates)
-    from_updates q i = subst (λ os. IsOneOf q os) (sym (all_operations updates)) i
+    from_updates : (q : Operation) → IsIn q (operations_of_runs (runs_of_all updates)) → IsIn q (operations_of_all updates)
+    from_updates q i = subst (λ os. IsIn q os) (sym (all_operations updates)) i
 
-    taken : IsOneOf o (with_runs (runs_of_all updates) []) ↔ (⊥ ⊎ IsOneOf o (operations_of_runs (runs_of_all updates)))
+    taken : IsIn o (with_runs (runs_of_all updates) []) ↔ (⊥ ⊎ IsIn o (operations_of_runs (runs_of_all updates)))
     taken = agreed_runs (operations_of_all updates) (runs_of_all updates) [] agree tt from_updates (λ q i. absurd i) o
 
 -- ---- the deletions of updates

@@ -1,15 +1,17 @@
 -- The operations of a run: they are in the order of writing, and where the content is valid each half has its partner.
 use Rattle.std.proofs.Common.{◌≡◌, ℕ, ◌≤◌, true, List, [], ◌∷◌, map, inl, inr, Option, Some, None, refl, sym, ap, subst, arith, tests}
+use Rattle.yd_words.specs.Each.{Each}
+use Rattle.yd_words.specs.Member.{IsIn}
 use Rattle.yd_any.specs.Tree.{AnyTree, AnyTrees, no_trees, tree}
 use Rattle.yd_ids.specs.declared.id.Id.{Id}
-use Rattle.yd_ids.specs.Each.{Each}
 use Rattle.yd_units.specs.Half.{IsLow}
 use Rattle.yd_units.proofs.HalfLemmas.{WholeAfter, whole_after}
+use Rattle.yd_ids.specs.Ids.{is_written_before}
 use Rattle.yd_ops.specs.declared.lists.List.{List as DocList}
 use Rattle.yd_ops.specs.Value.{ContentValue, json, binary, string, embed, format, nested, any, RunValue}
 use Rattle.yd_ops.specs.Operation.{UnitContent, text_unit, json_unit, units_of_trees, units_of_content, Operation, later_id, operations_from, operations_of_run, IsHighUnit, IsLowUnit, ArePartners}
 use Rattle.yd_ops.specs.Valid.{IsValidContent}
-use Rattle.yd_meaning.specs.Received.{IsOneOf, is_written_before, IsWritten}
+use Rattle.yd_meaning.specs.Received.{IsWritten}
 use Rattle.yd_meaning.specs.Law.{ArePaired}
 use Rattle.yd_meaning.proofs.PartnerLemmas.{IsHalf}
 use Rattle.yd_meaning.proofs.TornLemmas.{HasPartners, has_paired}
@@ -17,7 +19,7 @@ use Rattle.yd_meaning.proofs.TornLemmas.{HasPartners, has_paired}
 -- ---- the order of writing
 
 -- an operation from an id on has that id or a later one
-from_id : (id : Id) (left right : Option Id) (list : Option DocList) (units : List UnitContent) (o : Operation) → IsOneOf o (operations_from id left right list units) →
+from_id : (id : Id) (left right : Option Id) (list : Option DocList) (units : List UnitContent) (o : Operation) → IsIn o (operations_from id left right list units) →
     (o.id.client.0 ≡ id.client.0) × (id.clock ≤ o.id.clock)
 from_id id left right list [] o i = absurd i
 from_id id left right list (unit ∷ units) o (inl e) = (ap (λ (r : Operation). r.id.client.0) e, omega (arith, ap (λ (r : Operation). r.id.clock) e))
@@ -29,14 +31,14 @@ from_written : (id : Id) (left right : Option Id) (list : Option DocList) (units
 from_written id left right list [] = tt
 from_written id left right list (unit ∷ units) = (first, from_written (later_id id 1) (Some id) right None units)
   where
-    first : (p : Operation) → IsOneOf p (operations_from (later_id id 1) (Some id) right None units) → is_written_before id p.id ≡ true
+    first : (p : Operation) → IsIn p (operations_from (later_id id 1) (Some id) right None units) → is_written_before id p.id ≡ true
     first p i = let (client, clock) = from_id (later_id id 1) (Some id) right None units p i in grind (arith, tests)
 
 -- ---- what its units hold
 
 -- what holds of each unit holds of what each operation holds
 from_content : (P : UnitContent → Type 0) (id : Id) (left right : Option Id) (list : Option DocList) (units : List UnitContent) → Each P units →
-    (o : Operation) → IsOneOf o (operations_from id left right list units) → P o.content
+    (o : Operation) → IsIn o (operations_from id left right list units) → P o.content
 from_content P id left right list [] each o i = absurd i
 from_content P id left right list (unit ∷ units) each o (inl e) = subst (λ (r : Operation). P r.content) (sym e) each.0
 from_content P id left right list (unit ∷ units) each o (inr i) = from_content P (later_id id 1) (Some id) right None units each.1 o i
@@ -60,8 +62,8 @@ quiet_partners id left right list units none o i is_half = absurd (from_content 
 
 -- behind a unit of whole ones each high half has its partner
 high_behind : (id : Id) (left right : Option Id) (list : Option DocList) (unit : ℕ) (units : List ℕ) → WholeAfter unit units →
-    (o : Operation) → IsOneOf o (operations_from id left right list (map text_unit (unit ∷ units))) → IsHighUnit o.content →
-    (p : Operation) × IsOneOf p (operations_from id left right list (map text_unit (unit ∷ units))) × ArePartners o p
+    (o : Operation) → IsIn o (operations_from id left right list (map text_unit (unit ∷ units))) → IsHighUnit o.content →
+    (p : Operation) × IsIn p (operations_from id left right list (map text_unit (unit ∷ units))) × ArePartners o p
 high_behind id left right list unit [] whole o (inl e) high = absurd (whole (subst (λ (r : Operation). IsHighUnit r.content) e high))
 high_behind id left right list unit [] whole o (inr i) high = absurd i
 high_behind id left right list unit (next ∷ units) whole o (inl e) high = (
@@ -80,8 +82,8 @@ high_behind id left right list unit (next ∷ units) whole o (inr i) high =
 
 -- and each low one that stands behind it
 low_behind : (id : Id) (left right : Option Id) (list : Option DocList) (unit : ℕ) (units : List ℕ) → WholeAfter unit units →
-    (o : Operation) → IsOneOf o (operations_from (later_id id 1) (Some id) right None (map text_unit units)) → IsLowUnit o.content →
-    (p : Operation) × IsOneOf p (operations_from id left right list (map text_unit (unit ∷ units))) × ArePartners p o
+    (o : Operation) → IsIn o (operations_from (later_id id 1) (Some id) right None (map text_unit units)) → IsLowUnit o.content →
+    (p : Operation) × IsIn p (operations_from id left right list (map text_unit (unit ∷ units))) × ArePartners p o
 low_behind id left right list unit [] whole o i low = absurd i
 low_behind id left right list unit (next ∷ units) whole o (inl e) low = (
   record { id = id; left_origin = left; right_origin = right; list = list; content = text_unit unit },

@@ -1,14 +1,16 @@
 -- Taking in runs one after another, and those of an update: what stays, and that a repeat changes nothing.
 use Rattle.std.proofs.Common.{◌≡◌, true, List, [], ◌∷◌, ◌++◌, inl, inr, refl, sym, ap, ◌∙◌, append_assoc}
-use Rattle.yd_ids.specs.Each.{Each}
-use Rattle.yd_ids.proofs.EachLemmas.{each_append}
+use Rattle.yd_words.specs.Each.{Each}
+use Rattle.yd_words.specs.Member.{IsIn}
+use Rattle.yd_words.proofs.EachLemmas.{each_append}
+use Rattle.yd_words.proofs.MemberLemmas.{in_left_part, in_right_part, in_parts}
 use Rattle.yd_ops.specs.Operation.{Operation, operations_of_run, operations_of_structs, operations_of_blocks, operations_of}
 use Rattle.yd_ops.specs.Value.{RunValue, StructValue, item, skip, BlockValue, UpdateValue}
 use Rattle.yd_ops.specs.Valid.{IsValidContent, HasValidContent, HasValidContents, IsValidUpdate}
 use Rattle.yd_ops.proofs.ValidLemmas.{blocks_contents}
-use Rattle.yd_meaning.specs.Received.{IsOneOf, has_operation, IsWritten, with_run, with_runs, runs_of_structs, runs_of_blocks, runs_of, operations_of_all}
+use Rattle.yd_meaning.specs.Received.{has_operation, IsWritten, with_run, with_runs, runs_of_structs, runs_of_blocks, runs_of, operations_of_all}
 use Rattle.yd_meaning.specs.Law.{ArePaired}
-use Rattle.yd_meaning.proofs.OneOfLemmas.{one_of_front, one_of_back, one_of_parts, ids_stay}
+use Rattle.yd_meaning.proofs.OneOfLemmas.{ids_stay}
 use Rattle.yd_meaning.proofs.TakingLemmas.{with_run_stays, with_run_ids, with_run_written, with_run_there}
 use Rattle.yd_meaning.proofs.PairingLemmas.{with_run_paired}
 
@@ -81,25 +83,25 @@ with_runs_paired (run ∷ runs) taken valid w paired =
     with_runs_paired runs (with_run run taken) valid.1 (with_run_written run taken w) (with_run_paired run taken valid.0 w paired)
 
 -- what is there stays
-pub with_runs_stays : (runs : List RunValue) (taken : List Operation) (q : Operation) → IsOneOf q taken → IsOneOf q (with_runs runs taken)
+pub with_runs_stays : (runs : List RunValue) (taken : List Operation) (q : Operation) → IsIn q taken → IsIn q (with_runs runs taken)
 with_runs_stays [] taken q i = i
 with_runs_stays (run ∷ runs) taken q i = with_runs_stays runs (with_run run taken) q (with_run_stays run taken q i)
 
 -- each id of the runs is there
-pub with_runs_ids : (runs : List RunValue) (taken : List Operation) (o : Operation) → IsOneOf o (operations_of_runs runs) → has_operation (with_runs runs taken) o.id ≡ true
+pub with_runs_ids : (runs : List RunValue) (taken : List Operation) (o : Operation) → IsIn o (operations_of_runs runs) → has_operation (with_runs runs taken) o.id ≡ true
 with_runs_ids [] taken o i = absurd i
-with_runs_ids (run ∷ runs) taken o i = elim (one_of_parts o (operations_of_run run) (operations_of_runs runs) i) [
+with_runs_ids (run ∷ runs) taken o i = elim (in_parts o (operations_of_run run) (operations_of_runs runs) i) [
   | inl j ↦ ids_stay (with_run run taken) (with_runs runs (with_run run taken)) o.id (λ q k. with_runs_stays runs (with_run run taken) q k) (with_run_ids run taken o j)
   | inr j ↦ with_runs_ids runs (with_run run taken) o j
 ]
 
 -- runs of which each id is there change nothing
-pub with_runs_there : (runs : List RunValue) (taken : List Operation) → IsWritten taken → ((o : Operation) → IsOneOf o (operations_of_runs runs) → has_operation taken o.id ≡ true) →
+pub with_runs_there : (runs : List RunValue) (taken : List Operation) → IsWritten taken → ((o : Operation) → IsIn o (operations_of_runs runs) → has_operation taken o.id ≡ true) →
     with_runs runs taken ≡ taken
 with_runs_there [] taken w there = refl
 with_runs_there (run ∷ runs) taken w there =
-    ap (λ os. with_runs runs os) (with_run_there run taken w (λ o i. there o (one_of_front o (operations_of_run run) (operations_of_runs runs) i)))
-    ∙ with_runs_there runs taken w (λ o i. there o (one_of_back o (operations_of_run run) (operations_of_runs runs) i))
+    ap (λ os. with_runs runs os) (with_run_there run taken w (λ o i. there o (in_left_part o (operations_of_run run) (operations_of_runs runs) i)))
+    ∙ with_runs_there runs taken w (λ o i. there o (in_right_part o (operations_of_run run) (operations_of_runs runs) i))
 
 -- runs that are taken in again change nothing
 pub with_runs_again : (runs : List RunValue) (taken : List Operation) → IsWritten taken → with_runs runs (with_runs runs taken) ≡ with_runs runs taken

@@ -2,10 +2,11 @@
 use Rattle.std.proofs.Common.{◌≡◌, ◌≢◌, ◌↔◌, Bool, true, false, ◌||◌, ◌&&◌, not, List, [], ◌∷◌, ◌⊎◌, inl, inr, refl, sym, subst, true≢false}
 use Rattle.std.specs.Prelude.{Decides}
 use Rattle.std.proofs.lemmas.Bool.Decides.{Decides-or, Decides-like, Decides-not}
-use Rattle.yd_origins.specs.Ids.{is_same}
+use Rattle.yd_words.specs.Member.{IsIn}
+use Rattle.yd_ids.specs.Ids.{is_same}
 use Rattle.yd_ops.specs.Operation.{Operation, IsHighUnit, IsLowUnit}
 use Rattle.yd_meaning.specs.Pairs.{are_partners}
-use Rattle.yd_meaning.specs.Received.{IsOneOf, has_operation, is_the_half, is_taken_otherwise, is_torn}
+use Rattle.yd_meaning.specs.Received.{has_operation, is_the_half, is_taken_otherwise, is_torn}
 use Rattle.yd_meaning.specs.Law.{ArePaired}
 use Rattle.yd_meaning.proofs.OneOfLemmas.{operation_with, id_there, id_not_there}
 use Rattle.yd_meaning.proofs.PartnerLemmas.{AreOnePair, IsHalf, same_decides, partners_decide, pair_decides, the_half_decides, high_unit, low_unit, pair_half, pair_flip, one_partner, high_partner, low_partner}
@@ -14,11 +15,11 @@ use Rattle.yd_meaning.proofs.PartnerLemmas.{AreOnePair, IsHalf, same_decides, pa
 
 -- another operation that is there has the id of the half
 abbrev pub IsTakenOtherwise : List Operation → Operation → Type 0
-IsTakenOtherwise taken p = (q : Operation) × IsOneOf q taken × (q.id ≡ p.id) × (q ≢ p)
+IsTakenOtherwise taken p = (q : Operation) × IsIn q taken × (q.id ≡ p.id) × (q ≢ p)
 
 -- a partner of the operation in its run is taken otherwise
 abbrev pub IsTorn : List Operation → List Operation → Operation → Type 0
-IsTorn run taken o = (p : Operation) × IsOneOf p run × AreOnePair o p × IsTakenOtherwise taken p
+IsTorn run taken o = (p : Operation) × IsIn p run × AreOnePair o p × IsTakenOtherwise taken p
 
 -- two tests together, where the second one is known only under the first
 and_decides : {P Q : Type 0} (s t : Bool) → Decides s P → (P → Decides t Q) → Decides (s && t) (P × Q)
@@ -61,7 +62,7 @@ torn_decides (p ∷ ps) taken o = Decides-like (is_torn (p ∷ ps) taken o) ther
 
 -- each half has a partner in the list
 abbrev pub HasPartners : List Operation → Type 0
-HasPartners os = (o : Operation) → IsOneOf o os → IsHalf o.content → (p : Operation) × IsOneOf p os × AreOnePair o p
+HasPartners os = (o : Operation) → IsIn o os → IsHalf o.content → (p : Operation) × IsIn p os × AreOnePair o p
 
 pub paired_has : (os : List Operation) → ArePaired os → HasPartners os
 paired_has os paired o i (inl high) = let (p, j, e) = paired.high o i ((high_unit o.content).1 high) in (p, j, inl ((partners_decide o p).0 e))
@@ -77,16 +78,16 @@ has_paired os partners = record {
 
 -- beside whole pairs, an operation that is not there is torn exactly where a partner of it in the run has its id there
 pub torn_where : (run taken : List Operation) (o : Operation) → ArePaired taken → has_operation taken o.id ≡ false →
-    is_torn run taken o ≡ true ↔ ((p : Operation) × IsOneOf p run × AreOnePair o p × (has_operation taken p.id ≡ true))
+    is_torn run taken o ≡ true ↔ ((p : Operation) × IsIn p run × AreOnePair o p × (has_operation taken p.id ≡ true))
 torn_where run taken o paired none = (there, back)
   where
-    there : is_torn run taken o ≡ true → (p : Operation) × IsOneOf p run × AreOnePair o p × (has_operation taken p.id ≡ true)
+    there : is_torn run taken o ≡ true → (p : Operation) × IsIn p run × AreOnePair o p × (has_operation taken p.id ≡ true)
     there e = let (p, i, pair, (q, j, id, other)) = (torn_decides run taken o).0 e in (p, i, pair, id_there taken q p.id j id)
 
-    not_it : (p q : Operation) → AreOnePair o p → IsOneOf q taken → q ≢ p
+    not_it : (p q : Operation) → AreOnePair o p → IsIn q taken → q ≢ p
     not_it p q pair j e =
-        let (x, k, other) = paired_has taken paired p (subst (λ r. IsOneOf r taken) e j) (pair_half o p pair) in
+        let (x, k, other) = paired_has taken paired p (subst (λ r. IsIn r taken) e j) (pair_half o p pair) in
         id_not_there taken o.id none x k (one_partner p x o other (pair_flip o p pair))
 
-    back : (p : Operation) × IsOneOf p run × AreOnePair o p × (has_operation taken p.id ≡ true) → is_torn run taken o ≡ true
+    back : (p : Operation) × IsIn p run × AreOnePair o p × (has_operation taken p.id ≡ true) → is_torn run taken o ≡ true
     back (p, i, pair, e) = let (q, j, id) = operation_with taken p.id e in (torn_decides run taken o).1 (p, i, pair, (q, j, id, not_it p q pair j))

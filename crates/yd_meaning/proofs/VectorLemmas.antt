@@ -1,15 +1,16 @@
 -- The state vector: a client's held operations, as they are written, have the clocks from 0 on without a gap.
 use Rattle.std.proofs.Common.{◌≡◌, ℕ, zero, suc, ◌+◌, ◌<◌, ◌≤◌, Bool, true, false, List, [], ◌∷◌, inl, inr, nat_eq, length, refl, sym, ap, ◌∙◌, subst, arith, tests, true≢false}
 use Rattle.std.specs.Prelude.{◌↔◌, filter, if◌then◌else◌}
+use Rattle.yd_words.specs.Member.{IsIn}
+use Rattle.yd_words.proofs.TestLemmas.{split}
+use Rattle.yd_words.proofs.FilterLemmas.{kept_one}
 use Rattle.yd_ids.specs.declared.id.Client.{Client}
 use Rattle.yd_ids.specs.declared.id.Id.{Id}
+use Rattle.yd_ids.specs.Ids.{is_same, HasSmallerClock, is_written_before}
+use Rattle.yd_ids.proofs.IdLemmas.{same_numbers}
 use Rattle.yd_ops.specs.Operation.{Operation}
-use Rattle.yd_origins.specs.Ids.{is_same, HasSmallerClock}
-use Rattle.yd_origins.proofs.IdLemmas.{same_numbers}
-use Rattle.yd_origins.proofs.TestLemmas.{split}
-use Rattle.yd_meaning.specs.Received.{IsOneOf, has_operation, is_written_before, IsWritten}
+use Rattle.yd_meaning.specs.Received.{has_operation, IsWritten}
 use Rattle.yd_meaning.specs.Held.{needs, has_all, round, held_set, held_clock}
-use Rattle.yd_meaning.proofs.FilterLemmas.{kept_one}
 use Rattle.yd_meaning.proofs.OneOfLemmas.{operation_with, has_behind, id_is_there}
 use Rattle.yd_meaning.proofs.NeedLemmas.{before_needed}
 use Rattle.yd_meaning.proofs.HeldLemmas.{held_needs}
@@ -47,7 +48,7 @@ module _ (client : Client) where
 
   -- the client's operations have no clocks below m
   abbrev StartsAt : ℕ → List Operation → Type 0
-  StartsAt m os = (o : Operation) → IsOneOf o os → o.id.client.0 ≡ client.0 → m ≤ o.id.clock
+  StartsAt m os = (o : Operation) → IsIn o os → o.id.client.0 ≡ client.0 → m ≤ o.id.clock
 
   -- they have no gap from m on
   abbrev HasNoGap : ℕ → List Operation → Type 0
@@ -58,7 +59,7 @@ module _ (client : Client) where
   CountsFrom m os = (k : ℕ) → has_operation os (at k) ≡ true ↔ (m ≤ k) × (k < m + held_clock os client.0)
 
   -- the first of them has clock m
-  first_clock : (m : ℕ) (o : Operation) (os : List Operation) → ((p : Operation) → IsOneOf p os → is_written_before o.id p.id ≡ true) →
+  first_clock : (m : ℕ) (o : Operation) (os : List Operation) → ((p : Operation) → IsIn p os → is_written_before o.id p.id ≡ true) →
       StartsAt m (o ∷ os) → HasNoGap m (o ∷ os) → o.id.client.0 ≡ client.0 → o.id.clock ≡ m
   first_clock m o os before low closed same = go o.id.clock refl (low o (inl refl) same)
     where
@@ -70,7 +71,7 @@ module _ (client : Client) where
             (subst (λ x. has_operation (o ∷ os) x ≡ true) (same_numbers o.id (at (suc k)) same e) (id_is_there (o ∷ os) o (inl refl))))))
       ]
         where
-          smaller_first : (k : ℕ) → o.id.clock ≡ suc k → (p : Operation) × IsOneOf p (o ∷ os) × (p.id ≡ at k) → ⊥
+          smaller_first : (k : ℕ) → o.id.clock ≡ suc k → (p : Operation) × IsIn p (o ∷ os) × (p.id ≡ at k) → ⊥
           smaller_first k e (p, inl g, h) = omega (arith, ap (λ q. q.id.clock) g, ap (λ x. x.clock) h)
           smaller_first k e (p, inr i, h) = omega (arith, ascends o.id p.id (before p i) (same ∙ sym (ap (λ x. x.client.0) h)), ap (λ x. x.clock) h)
 
@@ -112,7 +113,7 @@ module _ (client : Client) where
                 | inr b ↦ subst (λ x. has_operation os x ≡ true) g (id_is_there os p b)
               ]
 
-          within : (p : Operation) → IsOneOf p (o ∷ os) → p.id ≡ at k → (m ≤ k) × (k < m + suc (held_clock os client.0))
+          within : (p : Operation) → IsIn p (o ∷ os) → p.id ≡ at k → (m ≤ k) × (k < m + suc (held_clock os client.0))
           within p (inl f) g = let here : k ≡ m = omega (arith, ap (λ q. q.id.clock) f, ap (λ x. x.clock) g, clock) in (omega arith, omega arith)
           within p (inr i) g = let bounds = (later k).0 (subst (λ x. has_operation os x ≡ true) g (id_is_there os p i)) in
               (omega (arith, bounds), omega (arith, bounds))

@@ -1,11 +1,12 @@
 -- What is deleted: what a deletion names, what is overwritten under its key, and what lies under a deleted item (Yjs 13, the deletions that an integration makes).
 use Rattle.std.specs.Prelude.{◌↔◌, ◌≡◌, ℕ, zero, suc, Bool, true, false, ◌&&◌, ◌||◌, not, List, length, Some}
+use Rattle.yd_words.specs.Test.{is_some_and}
 use Rattle.yd_ids.specs.declared.id.Id.{Id}
 use Rattle.yd_ids.specs.declared.id.Span.{Span}
 use Rattle.yd_ids.specs.Set.{HasId}
+use Rattle.yd_ids.specs.Ids.{is_same_neighbour}
 use Rattle.yd_ops.specs.declared.lists.List.{List as DocList}
 use Rattle.yd_ops.specs.Operation.{Operation}
-use Rattle.yd_origins.specs.Ids.{is_same_neighbour, is_some_and}
 use Rattle.yd_origins.specs.Deleted.{last_of}
 use Rattle.yd_meaning.specs.Names.{has_key, item_of_list}
 use Rattle.yd_meaning.specs.Received.{Received, has_operation}

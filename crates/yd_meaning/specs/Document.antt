@@ -1,9 +1,9 @@
 -- The document that received operations and deletions define, as it is read.
 use Rattle.std.specs.Prelude.{Bool, List, [], ◌∷◌, if◌then◌else◌}
 use Rattle.yd_ids.specs.declared.id.Id.{Id}
+use Rattle.yd_ids.specs.Ids.{is_same}
 use Rattle.yd_ops.specs.declared.lists.List.{List as DocList}
 use Rattle.yd_ops.specs.Operation.{Operation}
-use Rattle.yd_origins.specs.Ids.{is_same}
 use Rattle.yd_meaning.specs.Received.{Received}
 use Rattle.yd_meaning.specs.Held.{held_set, is_named}
 use Rattle.yd_meaning.specs.Order.{order_of}

@@ -1,10 +1,11 @@
 -- The laws of what updates mean, as statements.
 use Rattle.std.specs.Prelude.{◌≡◌, ◌<◌, ◌↔◌, ℕ, Bool, true, ◌||◌, List, Some, map}
+use Rattle.yd_words.specs.Each.{Each}
+use Rattle.yd_words.specs.Member.{IsIn, AreDistinct}
+use Rattle.yd_words.specs.Test.{is_some_and}
 use Rattle.yd_ids.specs.declared.id.Client.{Client}
 use Rattle.yd_ids.specs.declared.id.Id.{Id}
-use Rattle.yd_ids.specs.Each.{Each}
 use Rattle.yd_ids.specs.Set.{HasId, AreMaximal}
-use Rattle.yd_origins.specs.Ids.{IsIn, AreDistinct, is_some_and}
 use Rattle.yd_origins.specs.Table.{IsTable}
 use Rattle.yd_origins.specs.Deleted.{IsDeleted}
 use Rattle.yd_origins.specs.Operations.{list_by_origins}
@@ -14,7 +15,7 @@ use Rattle.yd_ops.specs.Valid.{IsValidUpdate}
 use Rattle.yd_ops.specs.Value.{UpdateValue}
 use Rattle.yd_meaning.specs.Names.{item_of_list}
 use Rattle.yd_meaning.specs.Pairs.{is_high, is_low, is_text_and, are_partners}
-use Rattle.yd_meaning.specs.Received.{IsOneOf, has_operation, Agree, IsWritten, Received, nothing_received, received_after, received_set, operations_of_all, DeleteId, HaveSameContents}
+use Rattle.yd_meaning.specs.Received.{has_operation, Agree, IsWritten, Received, nothing_received, received_after, received_set, operations_of_all, DeleteId, HaveSameContents}
 use Rattle.yd_meaning.specs.Held.{needs, held_set, held_clock}
 use Rattle.yd_meaning.specs.Order.{rows_of, list_or_root, list_of, order_of, operation_set}
 use Rattle.yd_meaning.specs.Deleted.{is_overwritten, is_deleted, is_in_delete_set}
@@ -25,8 +26,8 @@ use Rattle.yd_meaning.specs.Text.{shown_text}
 
 -- each half stands with its partner: a high one's comes directly behind it, a low one's directly before it
 pub record ArePaired (os : List Operation) : Type 0 where
-  pub high : (o : Operation) → IsOneOf o os → is_text_and is_high o.content ≡ true → (p : Operation) × IsOneOf p os × (are_partners o p ≡ true)
-  pub low : (o : Operation) → IsOneOf o os → is_text_and is_low o.content ≡ true → (p : Operation) × IsOneOf p os × (are_partners p o ≡ true)
+  pub high : (o : Operation) → IsIn o os → is_text_and is_high o.content ≡ true → (p : Operation) × IsIn p os × (are_partners o p ≡ true)
+  pub low : (o : Operation) → IsIn o os → is_text_and is_low o.content ≡ true → (p : Operation) × IsIn p os × (are_partners p o ≡ true)
 
 -- operations in the order of writing, no id twice, with whole pairs, and deletions as maximal spans
 pub record IsReceived (r : Received) : Type 0 where
@@ -42,7 +43,7 @@ pub record ReceivedKeepsPairs : Type 0 where
 -- under agreement all operations are received that were handed in; always all deletions are, and no others
 pub record ReceivedIsAll : Type 0 where
   pub operations : (updates : List UpdateValue) → Agree (operations_of_all updates) → (o : Operation) →
-      IsOneOf o (received_set updates).operations ↔ IsOneOf o (operations_of_all updates)
+      IsIn o (received_set updates).operations ↔ IsIn o (operations_of_all updates)
   pub deletes : (updates : List UpdateValue) → Each IsValidUpdate updates → (x : Id) → HasId (received_set updates).deletes x ↔ DeleteId updates x
 
 -- under agreement neither the order in which updates come nor a repeat changes what is received
@@ -60,13 +61,13 @@ RepeatsChangeNothing = (r : Received) (update : UpdateValue) → IsReceived r �
 -- what is held is received, with all that it needs; it is all of what is received that has so; and nothing more: a test
 -- that an operation passes where its needs pass it is passed by all that is held
 pub record HeldIsLeast : Type 0 where
-  pub closed : (received : List Operation) (o : Operation) → IsOneOf o (held_set received) →
-      IsOneOf o received × ((x : Id) → IsIn x (needs o) → has_operation (held_set received) x ≡ true)
-  pub whole : (received : List Operation) (o : Operation) → IsOneOf o received →
-      ((x : Id) → IsIn x (needs o) → has_operation (held_set received) x ≡ true) → IsOneOf o (held_set received)
+  pub closed : (received : List Operation) (o : Operation) → IsIn o (held_set received) →
+      IsIn o received × ((x : Id) → IsIn x (needs o) → has_operation (held_set received) x ≡ true)
+  pub whole : (received : List Operation) (o : Operation) → IsIn o received →
+      ((x : Id) → IsIn x (needs o) → has_operation (held_set received) x ≡ true) → IsIn o (held_set received)
   pub least : (received : List Operation) (test : Id → Bool) →
-      ((o : Operation) → IsOneOf o received → ((x : Id) → IsIn x (needs o) → test x ≡ true) → test o.id ≡ true) →
-      (o : Operation) → IsOneOf o (held_set received) → test o.id ≡ true
+      ((o : Operation) → IsIn o received → ((x : Id) → IsIn x (needs o) → test x ≡ true) → test o.id ≡ true) →
+      (o : Operation) → IsIn o (held_set received) → test o.id ≡ true
 
 -- the held clocks of a client are those below its clock in the state vector
 abbrev pub VectorCounts : Type 0
@@ -79,7 +80,7 @@ HeldIsTable = (received : List Operation) → IsWritten received → IsTable (ro
 
 -- the list of a held operation is that of its left origin, else of its right origin, else the one that it carries
 abbrev pub ListsFollowOrigins : Type 0
-ListsFollowOrigins = (received : List Operation) → IsWritten received → (o : Operation) → IsOneOf o (held_set received) →
+ListsFollowOrigins = (received : List Operation) → IsWritten received → (o : Operation) → IsIn o (held_set received) →
     list_of (held_set received) o.id ≡ list_by_origins o.left_origin o.right_origin (list_or_root o.list) (list_of (held_set received))
 
 -- a list has each operation that is of it, once and no other, and the document has them all, in this order and as they
@@ -88,7 +89,7 @@ pub record HasWholeLists (held : List Operation) : Type 0 where
   pub each : (list : DocList) (x : Id) → IsIn x (order_of held list) ↔ (has_operation held x ≡ true) × (list_of held x ≡ list)
   pub once : (list : DocList) → AreDistinct (order_of held list)
   pub units : (named : Id → Bool) (list : DocList) → map (λ (o : Operation). o.id) ((document_with held named).units list) ≡ order_of held list
-  pub as_held : (named : Id → Bool) (list : DocList) (o : Operation) → IsOneOf o ((document_with held named).units list) → IsOneOf o held
+  pub as_held : (named : Id → Bool) (list : DocList) (o : Operation) → IsIn o ((document_with held named).units list) → IsIn o held
   pub items : (list : DocList) (x y : Id) → IsIn x (order_of held list) → item_of_list list ≡ Some y → has_operation held y ≡ true
 
 -- so are the lists of what is held: each has its operations, once and no other, and the document has them all; and the item

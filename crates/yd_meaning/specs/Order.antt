@@ -1,10 +1,10 @@
 -- The lists of held operations: which operation is in which, and the order that the origins give (own; the definitions of the order stand in `yd_origins`).
 use Rattle.std.specs.Prelude.{List, [], ◌∷◌, Option, Some, None, if◌then◌else◌}
 use Rattle.yd_ids.specs.declared.id.Id.{Id}
+use Rattle.yd_ids.specs.Ids.{is_same}
 use Rattle.yd_ops.specs.declared.lists.List.{List as DocList}
 use Rattle.yd_ops.specs.declared.lists.Parent.TheVariants.{Root}
 use Rattle.yd_ops.specs.Operation.{Operation}
-use Rattle.yd_origins.specs.Ids.{is_same}
 use Rattle.yd_origins.specs.Table.{Row, OriginTable}
 use Rattle.yd_origins.specs.Sorted.{origin_order}
 use Rattle.yd_origins.specs.Operations.{OperationSet, list_of_operation, table_of_list, IsHonest}

@@ -1,6 +1,6 @@
 -- Pairs: the two operations of one character, and what is taken of one whose partner is another's.
 use Rattle.std.specs.Prelude.{ℕ, Bool, false, ◌&&◌, Some, nat_le}
-use Rattle.yd_origins.specs.Ids.{is_same, is_same_neighbour}
+use Rattle.yd_ids.specs.Ids.{is_same, is_same_neighbour}
 use Rattle.yd_ops.specs.Operation.{UnitContent, text_unit, any_unit, json_unit, bytes, embedded, mark, nested_type, Operation, later_id}
 
 -- whether a number is the first half of a pair

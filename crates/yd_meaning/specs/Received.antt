@@ -1,20 +1,16 @@
 -- What a replica was handed: of each id the operation that came first, and all deletions (own, where Yjs 13 keeps what comes first of each client).
-use Rattle.std.specs.Prelude.{◌↔◌, ◌≡◌, ◌⊎◌, Bool, true, false, ◌&&◌, ◌||◌, not, List, [], ◌∷◌, ◌++◌, if◌then◌else◌, nat_eq, nat_lt}
+use Rattle.std.specs.Prelude.{◌↔◌, ◌≡◌, ◌⊎◌, Bool, true, false, ◌&&◌, ◌||◌, not, List, [], ◌∷◌, ◌++◌, if◌then◌else◌, nat_eq}
+use Rattle.yd_words.specs.Member.{IsIn}
 use Rattle.yd_ids.specs.declared.id.Id.{Id}
 use Rattle.yd_ids.specs.declared.id.Span.{Span}
 use Rattle.yd_ids.specs.Set.{HasId, union_of}
-use Rattle.yd_origins.specs.Ids.{is_same, is_same_neighbour}
+use Rattle.yd_ids.specs.Ids.{is_same, is_same_neighbour, is_written_before}
 use Rattle.yd_ops.specs.Operation.{UnitContent, text_unit, Operation, operations_of_run, operations_of}
 use Rattle.yd_ops.specs.Value.{RunValue, StructValue, item, skip, BlockValue, UpdateValue}
 use Rattle.yd_meaning.specs.Names.{same_carried}
 use Rattle.yd_meaning.specs.Pairs.{is_text_and, are_partners}
 
 -- ---- operations
-
--- the operation is one of the list's
-abbrev pub IsOneOf : Operation → List Operation → Type 0
-IsOneOf o [] = ⊥
-IsOneOf o (p ∷ ps) = (o ≡ p) ⊎ IsOneOf o ps
 
 -- whether an operation has the id
 abbrev pub has_operation : List Operation → Id → Bool
@@ -23,16 +19,12 @@ has_operation (o ∷ os) x = is_same o.id x || has_operation os x
 
 -- no two operations with one id differ
 abbrev pub Agree : List Operation → Type 0
-Agree os = (o p : Operation) → IsOneOf o os → IsOneOf p os → o.id ≡ p.id → o ≡ p
-
--- whether the first id is written before the second: clients descending, and of one client clocks ascending
-abbrev pub is_written_before : Id → Id → Bool
-is_written_before a b = nat_lt b.client.0 a.client.0 || (nat_eq a.client.0 b.client.0 && nat_lt a.clock b.clock)
+Agree os = (o p : Operation) → IsIn o os → IsIn p os → o.id ≡ p.id → o ≡ p
 
 -- the operations are in the order of writing, no id twice
 abbrev pub IsWritten : List Operation → Type 0
 IsWritten [] = Unit {0}
-IsWritten (o ∷ os) = ((p : Operation) → IsOneOf p os → is_written_before o.id p.id ≡ true) × IsWritten os
+IsWritten (o ∷ os) = ((p : Operation) → IsIn p os → is_written_before o.id p.id ≡ true) × IsWritten os
 
 -- the operations with one more, unless its id is there
 abbrev pub taken_in : Operation → List Operation → List Operation
@@ -139,5 +131,5 @@ DeleteId (update ∷ updates) x = HasId update.deletes x ⊎ DeleteId updates x
 
 -- updates with the same operations that delete the same ids, in any order and repeated
 pub record HaveSameContents (one other : List UpdateValue) : Type 0 where
-  pub operations : (o : Operation) → IsOneOf o (operations_of_all one) ↔ IsOneOf o (operations_of_all other)
+  pub operations : (o : Operation) → IsIn o (operations_of_all one) ↔ IsIn o (operations_of_all other)
   pub deletes : (x : Id) → DeleteId one x ↔ DeleteId other x

@@ -22,7 +22,7 @@ length-units_of_content (format key t) = refl
 length-units_of_content (nested kind) = refl
 length-units_of_content (any ts) = length-units_of_trees ts
 
-length-operations_from : (id : Id) (left right : Option Id) (list : Option DocList) (units : List UnitContent) → length (operations_from id left right list units) ≡ length units
+pub length-operations_from : (id : Id) (left right : Option Id) (list : Option DocList) (units : List UnitContent) → length (operations_from id left right list units) ≡ length units
 length-operations_from id left right list [] = refl
 length-operations_from id left right list (unit ∷ units) = ap suc (length-operations_from (later_id id 1) (Some id) right None units)
 
@@ -34,17 +34,21 @@ first_of : (id : Id) (left right : Option Id) (list : Option DocList) (units : L
 first_of id left right list [] unit h = absurd cc
 first_of id left right list (first ∷ units) unit h = cc
 
-later_later : (id : Id) (i : ℕ) → later_id (later_id id 1) i ≡ later_id id (suc i)
-later_later id i = ap (λ (c : ℕ). record { client = id.client; clock = c }) (omega arith)
+-- the id of a unit behind another, whose place is counted from a first one
+pub later_later : (id : Id) (i k : ℕ) → later_id (later_id id i) k ≡ later_id id (i + k)
+later_later id i k = ap (λ (c : ℕ). record { client = id.client; clock = c }) (omega arith)
 
-later_none : (id : Id) → id ≡ later_id id 0
+pub later_none : (id : Id) → later_id id 0 ≡ id
 later_none id = ap (λ (c : ℕ). record { client = id.client; clock = c }) (omega arith)
+
+next_later : (id : Id) (i : ℕ) → later_id (later_id id 1) i ≡ later_id id (suc i)
+next_later id i = later_later id 1 i ∙ ap (later_id id) (omega arith)
 
 later_of : (id : Id) (left right : Option Id) (list : Option DocList) (units : List UnitContent) (i : ℕ) (unit : UnitContent) → slice_get units (suc i) ≡ Some unit
     → slice_get (operations_from id left right list units) (suc i) ≡ Some (record { id = later_id id (suc i); left_origin = Some (later_id id i); right_origin = right; list = None; content = unit })
 later_of id left right list [] i unit h = absurd cc
-later_of id left right list (first ∷ units) zero unit h = first_of (later_id id 1) (Some id) right None units unit h ∙ rw (← later_none id) refl
-later_of id left right list (first ∷ units) (suc i) unit h = later_of (later_id id 1) (Some id) right None units i unit h ∙ rw (later_later id (suc i), later_later id i) refl
+later_of id left right list (first ∷ units) zero unit h = first_of (later_id id 1) (Some id) right None units unit h ∙ rw (later_none id) refl
+later_of id left right list (first ∷ units) (suc i) unit h = later_of (later_id id 1) (Some id) right None units i unit h ∙ rw (next_later id (suc i), next_later id i) refl
 
 pub first_at : (run : RunValue) (unit : UnitContent) → slice_get (units_of_content run.content) 0 ≡ Some unit → slice_get (operations_of_run run) 0 ≡ Some (first_operation run unit)
 first_at run unit h = first_of run.id run.left run.right run.list (units_of_content run.content) unit h

@@ -2,13 +2,13 @@
 use Rattle.std.proofs.Common.{◌≡◌, ℕ, suc, ◌+◌, length, ap, List, [], ◌∷◌, refl}
 use Rattle.std.specs.Prelude.{IsTrue}
 use Rattle.std.proofs.lemmas.Bool.{and_from}
+use Rattle.yd_words.specs.Each.{Each}
+use Rattle.yd_words.proofs.EachLemmas.{each_weaker}
 use Rattle.yd_any.specs.Tree.{AnyTrees, no_trees, tree}
 use Rattle.yd_any.specs.AnyView.{items_trees}
 use Rattle.yd_any.specs.declared.any_value.Any.{Any}
 use Rattle.yd_any.specs.Valid.{is_valid_any, are_valid_any}
-use Rattle.yd_ids.specs.Each.{Each}
 use Rattle.yd_ids.specs.declared.id.Client.{Client}
-use Rattle.yd_ids.proofs.EachLemmas.{each_weaker}
 use Rattle.yd_ops.specs.Value.{StructValue, item, skip, len_of, count_of, BlockValue}
 use Rattle.yd_ops.specs.Valid.{AreValidTrees, HasValidContent, HasValidContents, AreStructsFrom, IsValidBlock}
 

@@ -1,8 +1,8 @@
 -- Which contents and updates are valid (Yjs 13 for ids and clocks; the limits, and that texts are whole, are own).
 use Rattle.std.specs.Prelude.{◌≡◌, ℕ, ◌+◌, ◌<◌, List, [], ◌∷◌, Option, Some, None, IfSome, IsTrue}
+use Rattle.yd_words.specs.Each.{Each}
 use Rattle.yd_any.specs.Tree.{AnyTree, AnyTrees, no_trees, tree}
 use Rattle.yd_any.specs.Valid.{is_valid_any, is_valid_json}
-use Rattle.yd_ids.specs.Each.{Each}
 use Rattle.yd_ids.specs.Id.{IsClient, IsClock, IsId}
 use Rattle.yd_ids.specs.Set.{AreMaximal}
 use Rattle.yd_ids.specs.declared.id.Client.{Client}

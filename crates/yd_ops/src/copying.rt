@@ -1,7 +1,7 @@
 //! Copies: the same plain data in memory of its own.
 
 ghost use Rattle.std.specs.Prelude.{◌≡◌, map, IfOk};
-ghost use Rattle.yd_ids.specs.Each.{Each};
+ghost use Rattle.yd_words.specs.Each.{Each};
 ghost use Rattle.yd_ops.specs.View.{unit_value, content_value, run_value};
 ghost use Rattle.yd_ops.specs.View.{struct_value, block_value, update_value};
 ghost use Rattle.yd_ops.specs.Valid.{IsValidUnit, IsValidContent, IsValidUpdate};

@@ -1,8 +1,8 @@
 //! Which contents and updates are valid.
 
 ghost use Rattle.std.specs.Prelude.{◌≡◌, ◌↔◌, ◌+◌, ◌^◌, nat_lt, map, IsTrue, IfSome};
+ghost use Rattle.yd_words.specs.Each.{Each};
 ghost use Rattle.yd_any.specs.AnyView.{items_trees};
-ghost use Rattle.yd_ids.specs.Each.{Each};
 ghost use Rattle.yd_ids.specs.Id.{IsClock, IsId};
 ghost use Rattle.yd_ops.specs.View.{unit_value, content_value, run_value};
 ghost use Rattle.yd_ops.specs.View.{struct_value, block_value, update_value};

@@ -1,14 +1,15 @@
 -- Rows among themselves, where a right that is no row counts as absent, in another arrangement.
-use Rattle.std.proofs.Common.{◌≡◌, Bool, List, [], ◌∷◌, map, Option, Some, None, inl, inr, refl, sym, ap, ap₂, ◌∙◌, subst}
+use Rattle.std.proofs.Common.{◌≡◌, Bool, List, [], ◌∷◌, map, Option, Some, None, inl, inr, refl, sym, ap, ◌∙◌, subst}
 use Rattle.std.specs.Prelude.{if◌then◌else◌}
 use Rattle.std.specs.List.Sorted.{IsPermutation}
 use Rattle.std.proofs.lemmas.List.Sorted.{IsPermutation-map, IsPermutation-sym}
+use Rattle.yd_words.specs.Member.{IsIn, AreDistinct}
 use Rattle.yd_ids.specs.declared.id.Id.{Id}
-use Rattle.yd_origins.specs.Ids.{IsIn, AreDistinct}
+use Rattle.yd_ids.proofs.IdLemmas.{has_says}
 use Rattle.yd_origins.specs.Table.{Row, OriginTable, ids_of, right_of, IsTable}
 use Rattle.yd_origins.specs.Operations.{with_rights}
 use Rattle.yd_origins.specs.Sorted.{origin_order}
-use Rattle.yd_origins.proofs.MemberLemmas.{has_says}
+use Rattle.yd_origins.proofs.ListLemmas.{rights_alike}
 use Rattle.yd_order.specs.Stretch.{right_among, among_rows}
 use Rattle.yd_order.proofs.ArrangementLemmas.{one_order}
 use Rattle.yd_order.proofs.LinkingLemmas.{distinct_rows}
@@ -17,11 +18,6 @@ use Rattle.yd_order.proofs.PermutedLemmas.{permuted_row, permuted_table, rights_
 rights_are : (f : Id → Option Id) (table : OriginTable) → with_rights f table ≡ map (λ (row : Row). record { id = row.id; left = row.left; right = f row.id }) table
 rights_are f [] = refl
 rights_are f (row ∷ rows) = ap (λ (rs : OriginTable). record { id = row.id; left = row.left; right = f row.id } ∷ rs) (rights_are f rows)
-
-rights_alike : (f g : Id → Option Id) (table : OriginTable) → ((x : Id) → IsIn x (ids_of table) → f x ≡ g x) → with_rights f table ≡ with_rights g table
-rights_alike f g [] same = refl
-rights_alike f g (row ∷ rows) same = ap₂ (λ (z : Option Id) (rs : OriginTable). record { id = row.id; left = row.left; right = z } ∷ rs) (same row.id (inl refl))
-    (rights_alike f g rows (λ x i. same x (inr i)))
 
 among_alike : (ids others : List Id) (z : Option Id) → ((x : Id) → IsIn x ids → IsIn x others) → ((x : Id) → IsIn x others → IsIn x ids) → right_among ids z ≡ right_among others z
 among_alike ids others None there back = refl

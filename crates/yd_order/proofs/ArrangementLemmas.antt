@@ -1,14 +1,16 @@
 -- For every table the origin order is one for all arrangements of its rows.
 use Rattle.std.proofs.Common.{◌≡◌, ◌≢◌, ℕ, ◌+◌, ◌≤◌, ◌↔◌, Bool, ◌||◌, ◌&&◌, List, [], ◌∷◌, nat_lt, nat_eq, inl, inr, refl, sym, ap, ap₂, ◌∙◌, subst, arith}
 use Rattle.std.specs.Prelude.{if◌then◌else◌}
+use Rattle.yd_words.specs.Member.{IsIn, AreDistinct}
+use Rattle.yd_words.specs.Test.{one_if}
 use Rattle.yd_ids.specs.declared.id.Id.{Id}
-use Rattle.yd_origins.specs.Ids.{is_same, is_smaller, IsIn, AreDistinct}
-use Rattle.yd_origins.specs.Table.{Row, OriginTable, ids_of, IsTable, IsRowOf, IsPart}
+use Rattle.yd_ids.specs.Ids.{is_same, is_smaller}
+use Rattle.yd_ids.proofs.IdLemmas.{same_says}
+use Rattle.yd_origins.specs.Table.{Row, OriginTable, ids_of, IsTable, IsPart}
 use Rattle.yd_origins.specs.Before.{is_before}
-use Rattle.yd_origins.specs.Sorted.{one_if, count_before, goes_first, origin_order}
-use Rattle.yd_origins.proofs.IdLemmas.{same_says}
+use Rattle.yd_origins.specs.Sorted.{count_before, goes_first, origin_order}
 use Rattle.yd_origins.proofs.LineLemmas.{in_order_alike}
-use Rattle.yd_origins.proofs.PartLemmas.{part_member, part_order}
+use Rattle.yd_origins.proofs.PartLemmas.{part_member, part_order, table_is_part}
 use Rattle.yd_origins.proofs.SortedLemmas.{in_origin_order, origin_order_in}
 use Rattle.yd_order.specs.Counting.{count_in}
 use Rattle.yd_order.proofs.SortedLemmas.{counts_line, sorted_in_order, in_order_is_order}
@@ -53,18 +55,18 @@ count_alike f g (x ∷ xs) z same = ap₂ (λ (t : Bool) (n : ℕ). one_if t + n
 
 -- ---- two arrangements
 
-module _ (table other : OriginTable) (t : IsTable table) (u : IsTable other) (same : (row : Row) → IsRowOf row table ↔ IsRowOf row other) where
+module _ (table other : OriginTable) (t : IsTable table) (u : IsTable other) (same : (row : Row) → IsIn row table ↔ IsIn row other) where
   other_is_part : IsPart other table
-  other_is_part = record { within = λ row. (same row).1; distinct = u.distinct; has_left = u.has_left; has_right = u.has_right }
+  other_is_part = table_is_part other table u (λ row. (same row).1)
 
-  table_is_part : IsPart table other
-  table_is_part = record { within = λ row. (same row).0; distinct = t.distinct; has_left = t.has_left; has_right = t.has_right }
+  whole_is_part : IsPart table other
+  whole_is_part = table_is_part table other t (λ row. (same row).0)
 
   to_table : (x : Id) → IsIn x (ids_of other) → IsIn x (ids_of table)
   to_table = part_member other table t other_is_part
 
   to_other : (x : Id) → IsIn x (ids_of table) → IsIn x (ids_of other)
-  to_other = part_member table other u table_is_part
+  to_other = part_member table other u whole_is_part
 
   same_count : (x : Id) → IsIn x (ids_of other) → count_in other x ≡ count_in table x
   same_count x i = count_alike (is_before other) (is_before table) (ids_of other) x (λ w j. part_order other table t other_is_part w x j i)

@@ -6,11 +6,12 @@ use Rattle.std.specs.declared.cmp.Ordering.{Ordering}
 use Rattle.std.specs.declared.cmp.Ordering.TheVariants.{Less, Equal, Greater}
 use Rattle.std.specs.List.Sorted.{IsSortedByKey, IsPartitionedBy, IsPartitionPoint}
 use Rattle.std.proofs.lemmas.List.{get_or_default}
+use Rattle.yd_words.specs.Member.{AreDistinct}
+use Rattle.yd_words.proofs.EachLemmas.{each_weaker, each_at}
 use Rattle.yd_ids.specs.declared.id.Id.{Id}
-use Rattle.yd_ids.proofs.EachLemmas.{each_weaker, each_at}
-use Rattle.yd_origins.specs.Ids.{is_same, is_smaller, AreDistinct}
+use Rattle.yd_ids.specs.Ids.{is_same, is_smaller}
+use Rattle.yd_ids.proofs.IdLemmas.{other_id, same_is, smaller_total, smaller_through}
 use Rattle.yd_origins.specs.Table.{ids_of}
-use Rattle.yd_origins.proofs.IdLemmas.{other_id, same_is, smaller_total, smaller_through}
 use Rattle.yd_order.specs.declared.rows.OriginRow.{OriginRow}
 use Rattle.yd_order.specs.Rows.{table_of, IsBelow, AreAscending, place_of}
 

@@ -1,9 +1,10 @@
 -- How many rows are before each, one row after another.
 use Rattle.std.proofs.Common.{◌≡◌, ℕ, zero, suc, ◌+◌, ◌<◌, ◌≤◌, List, [], ◌∷◌, ◌++◌, map, length, get_or, drop, refl, sym, ap, ◌∙◌, append_assoc, arith}
 use Rattle.std.proofs.lemmas.List.{drop_more, drop_all}
+use Rattle.yd_words.specs.Test.{one_if}
 use Rattle.yd_ids.specs.declared.id.Id.{Id}
 use Rattle.yd_origins.specs.Before.{is_before}
-use Rattle.yd_origins.specs.Sorted.{one_if, count_before}
+use Rattle.yd_origins.specs.Sorted.{count_before}
 use Rattle.yd_origins.specs.Table.{ids_of}
 use Rattle.yd_order.specs.declared.counting.Place.{Place}
 use Rattle.yd_order.specs.declared.linking.LinkedRow.{LinkedRow}

@@ -2,11 +2,12 @@
 use Rattle.std.proofs.Common.{◌≡◌, ◌≢◌, ℕ, ◌<◌, Bool, true, false, ◌||◌, List, length, get_or, nat_eq, Option, Some, None, inl, inr, refl, sym, ◌∙◌, subst, true≢false, arith, tests}
 use Rattle.std.specs.Prelude.{IfSome}
 use Rattle.std.proofs.lemmas.Bool.{cases_eq}
+use Rattle.yd_words.specs.Test.{is_some_and}
 use Rattle.yd_ids.specs.declared.id.Id.{Id}
-use Rattle.yd_origins.specs.Ids.{is_same, is_smaller, is_same_neighbour, is_some_and}
+use Rattle.yd_ids.specs.Ids.{is_same, is_smaller, is_same_neighbour}
+use Rattle.yd_ids.proofs.IdLemmas.{same_itself, other_id}
 use Rattle.yd_origins.specs.Table.{OriginTable, left_of, right_of, IsTable}
 use Rattle.yd_origins.specs.Before.{is_up_to, is_later_left, by_lines, is_before}
-use Rattle.yd_origins.proofs.IdLemmas.{same_itself, other_id}
 use Rattle.yd_origins.proofs.LineLemmas.{first_of_lines}
 use Rattle.yd_origins.proofs.TableLemmas.{lines_decide}
 use Rattle.yd_order.specs.declared.linking.LinkedRow.{LinkedRow}

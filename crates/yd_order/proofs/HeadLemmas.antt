@@ -3,7 +3,7 @@ use Rattle.std.proofs.Common.{◌≡◌, ◌↔◌, ℕ, suc, ◌+◌, ◌-◌, 
 use Rattle.std.specs.Prelude.{slice_index}
 use Rattle.std.proofs.lemmas.Bool.{cases_eq}
 use Rattle.std.proofs.lemmas.List.{get_or_append_left, get_or_push, length-append}
-use Rattle.yd_origins.specs.Ids.{is_smaller}
+use Rattle.yd_ids.specs.Ids.{is_smaller}
 use Rattle.yd_order.specs.declared.linking.LinkedRow.{LinkedRow}
 use Rattle.yd_order.specs.Linking.{id_at, left_at, right_at}
 use Rattle.yd_order.specs.Seating.{seat_of, is_passed, has_reason, is_direct, IsHead, AreHeads, HaveReasons}

@@ -1,11 +1,11 @@
 -- Linked rows as a table: what stands at a place.
 use Rattle.std.proofs.Common.{◌≡◌, ℕ, zero, suc, ◌<◌, List, [], ◌∷◌, map, length, get_or, inl, inr, refl, sym, ap, subst, arith}
 use Rattle.std.specs.Prelude.{IfSome}
+use Rattle.yd_words.specs.Each.{Each}
+use Rattle.yd_words.specs.Member.{IsIn, AreDistinct}
 use Rattle.yd_ids.specs.declared.id.Id.{Id}
-use Rattle.yd_ids.specs.Each.{Each}
-use Rattle.yd_origins.specs.Ids.{IsIn, AreDistinct}
+use Rattle.yd_ids.proofs.IdLemmas.{same_itself, other_id}
 use Rattle.yd_origins.specs.Table.{ids_of, left_of, right_of}
-use Rattle.yd_origins.proofs.IdLemmas.{same_itself, other_id}
 use Rattle.yd_order.specs.declared.linking.LinkedRow.{LinkedRow}
 use Rattle.yd_order.specs.Linking.{id_at, left_at, right_at, id_of_link, unlinked, table_of_linked, HasLinks, AreLinked}
 

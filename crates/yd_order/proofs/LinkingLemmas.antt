@@ -2,33 +2,24 @@
 use Rattle.std.proofs.Common.{◌≡◌, ℕ, suc, ◌<◌, List, [], ◌∷◌, map, length, Option, Some, None, inl, inr, refl, sym, ap, ap₂, ◌∙◌, subst, arith}
 use Rattle.std.specs.Prelude.{IfSome, option_map, if◌then◌else◌}
 use Rattle.std.proofs.lemmas.List.{length-map}
+use Rattle.yd_words.specs.Each.{Each}
+use Rattle.yd_words.specs.Member.{IsIn, AreDistinct}
 use Rattle.yd_ids.specs.declared.id.Id.{Id}
-use Rattle.yd_ids.specs.Each.{Each}
-use Rattle.yd_origins.specs.Ids.{is_same, has_id, IsIn, AreDistinct}
-use Rattle.yd_origins.specs.Table.{Row, OriginTable, ids_of, left_of, right_of, IsTable, IsRowOf}
+use Rattle.yd_ids.specs.Ids.{has_id}
+use Rattle.yd_ids.proofs.IdLemmas.{same_says, has_says}
+use Rattle.yd_origins.specs.Table.{Row, OriginTable, ids_of, left_of, right_of, IsTable}
 use Rattle.yd_origins.specs.Operations.{with_rights}
-use Rattle.yd_origins.proofs.IdLemmas.{same_says}
-use Rattle.yd_origins.proofs.MemberLemmas.{has_says}
 use Rattle.yd_origins.proofs.PartLemmas.{found_left, found_right, row_id_in}
+use Rattle.yd_origins.proofs.ListLemmas.{rights_ids, rights_left}
 use Rattle.yd_order.specs.declared.rows.OriginRow.{OriginRow}
 use Rattle.yd_order.specs.declared.linking.LinkedRow.{LinkedRow}
 use Rattle.yd_order.specs.Rows.{row_of, table_of, place_of, place_of_neighbour}
 use Rattle.yd_order.specs.Stretch.{right_among, among_rows}
 use Rattle.yd_order.specs.Linking.{linked_row, id_of_link, unlinked, table_of_linked, HasLinks, AreLinked}
 
--- ---- among rows: the ids and the lefts stay
-
-pub among_ids : (f : Id → Option Id) (table : OriginTable) → ids_of (with_rights f table) ≡ ids_of table
-among_ids f [] = refl
-among_ids f (row ∷ rows) = ap (λ xs. row.id ∷ xs) (among_ids f rows)
-
-pub among_left : (f : Id → Option Id) (table : OriginTable) (x : Id) → left_of (with_rights f table) x ≡ left_of table x
-among_left f [] x = refl
-among_left f (row ∷ rows) x = ap (λ z. if is_same row.id x then row.left else z) (among_left f rows x)
-
 -- where the rows among themselves are a table, their ids differ
 pub distinct_rows : (table : OriginTable) → IsTable (among_rows table) → AreDistinct (ids_of table)
-distinct_rows table t = subst AreDistinct (among_ids (λ x. right_among (ids_of table) (right_of table x)) table) t.distinct
+distinct_rows table t = subst AreDistinct (rights_ids (λ x. right_among (ids_of table) (right_of table x)) table) t.distinct
 
 -- an id that is there stays
 there : (ids : List Id) (z : Option Id) → IfSome z (λ y. IsIn y ids) → right_among ids z ≡ z
@@ -63,21 +54,21 @@ module _ (rows : List OriginRow) where
 
   module _ (t : IsTable (among_rows table)) where
     lefts_there : (x : Id) → IsIn x (ids_of table) → IfSome (left_of table x) (λ y. IsIn y (ids_of table))
-    lefts_there x i = subst (λ (z : Option Id). IfSome z (λ y. IsIn y (ids_of table))) (among_left (λ y. right_among (ids_of table) (right_of table y)) table x)
+    lefts_there x i = subst (λ (z : Option Id). IfSome z (λ y. IsIn y (ids_of table))) (rights_left (λ y. right_among (ids_of table) (right_of table y)) table x)
         (subst (λ (xs : List Id). IfSome (left_of (among_rows table) x) (λ y. IsIn y xs)) same
         (t.has_left x (subst (λ (xs : List Id). IsIn x xs) (sym same) i)))
       where
         same : ids_of (among_rows table) ≡ ids_of table
-        same = among_ids (λ y. right_among (ids_of table) (right_of table y)) table
+        same = rights_ids (λ y. right_among (ids_of table) (right_of table y)) table
 
-    unlinked_row : (row : OriginRow) → IsRowOf (row_of row) table →
+    unlinked_row : (row : OriginRow) → IsIn (row_of row) table →
         unlinked links (linked_row rows row) ≡ record { id = row.id; left = row.left; right = right_among (ids_of table) (right_of table row.id) }
     unlinked_row row i = ap₂ (λ (l r : Option Id). record { id = row.id; left = l; right = r })
         (neighbour_among row.left ∙ there (ids_of table) row.left
         (subst (λ (z : Option Id). IfSome z (λ y. IsIn y (ids_of table))) (found_left (row_of row) table (distinct_rows table t) i) (lefts_there row.id (row_id_in (row_of row) table i))))
         (neighbour_among row.right ∙ ap (right_among (ids_of table)) (sym (found_right (row_of row) table (distinct_rows table t) i)))
 
-    unlinked_rows : (some : List OriginRow) → ((row : Row) → IsRowOf row (table_of some) → IsRowOf row table) →
+    unlinked_rows : (some : List OriginRow) → ((row : Row) → IsIn row (table_of some) → IsIn row table) →
         map (unlinked links) (map (linked_row rows) some) ≡ with_rights (λ x. right_among (ids_of table) (right_of table x)) (table_of some)
     unlinked_rows [] within = refl
     unlinked_rows (row ∷ some) within = ap₂ (λ (r : Row) (rs : OriginTable). r ∷ rs) (unlinked_row row (within (row_of row) (inl refl)))

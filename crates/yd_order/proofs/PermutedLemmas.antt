@@ -5,11 +5,12 @@ use Rattle.std.specs.List.{IsDistinct, AllByRecursion, Contains}
 use Rattle.std.specs.List.Sorted.{IsPermutation}
 use Rattle.std.proofs.lemmas.List.Sorted.{IsPermutation-map, IsPermutation-sym, Contains-permutation}
 use Rattle.std.proofs.lemmas.Map.Keys.{IsDistinct-IsPermutation}
+use Rattle.yd_words.specs.Member.{IsIn, AreDistinct}
+use Rattle.yd_words.proofs.OptionLemmas.{if_some_map}
 use Rattle.yd_ids.specs.declared.id.Id.{Id}
-use Rattle.yd_origins.specs.Ids.{is_same, IsIn, AreDistinct}
-use Rattle.yd_origins.specs.Table.{Row, OriginTable, ids_of, left_of, right_of, IsTable, IsRowOf}
-use Rattle.yd_origins.proofs.IdLemmas.{same_flip, other_id, differs}
-use Rattle.yd_origins.proofs.MemberLemmas.{if_some_map}
+use Rattle.yd_ids.specs.Ids.{is_same}
+use Rattle.yd_ids.proofs.IdLemmas.{same_flip, other_id, differs}
+use Rattle.yd_origins.specs.Table.{Row, OriginTable, ids_of, left_of, right_of, IsTable}
 use Rattle.yd_origins.proofs.PartLemmas.{found_left, found_right, row_id_in, row_of_id}
 
 -- ---- distinct ids
@@ -62,17 +63,17 @@ permuted_distinct table other p d = subst AreDistinct (sym (ids_are other))
 
 -- ---- rows
 
-row_contained : (row : Row) (rows : OriginTable) → IsRowOf row rows → Contains rows row
+row_contained : (row : Row) (rows : OriginTable) → IsIn row rows → Contains rows row
 row_contained row [] i = absurd i
 row_contained row (r ∷ rs) (inl e) = (0, omega arith, sym e)
 row_contained row (r ∷ rs) (inr i) = let (k, lt, e) = row_contained row rs i in (suc k, omega arith, e)
 
-contained_row : (row : Row) (rows : OriginTable) → (k : ℕ) → k < length rows → get_or rows k row ≡ row → IsRowOf row rows
+contained_row : (row : Row) (rows : OriginTable) → (k : ℕ) → k < length rows → get_or rows k row ≡ row → IsIn row rows
 contained_row row [] k lt e = absurd (omega arith)
 contained_row row (r ∷ rs) zero lt e = inl (sym e)
 contained_row row (r ∷ rs) (suc k) lt e = inr (contained_row row rs k (omega arith) e)
 
-pub permuted_row : (table other : OriginTable) → IsPermutation table other → (row : Row) → IsRowOf row table → IsRowOf row other
+pub permuted_row : (table other : OriginTable) → IsPermutation table other → (row : Row) → IsIn row table → IsIn row other
 permuted_row table other p row i = let (k, lt, e) = Contains-permutation table other row p (row_contained row table i) in contained_row row other k lt e
 
 -- ---- tables

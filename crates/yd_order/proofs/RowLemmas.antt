@@ -3,23 +3,18 @@ use Rattle.std.proofs.Common.{◌≡◌, ℕ, suc, ◌+◌, ◌-◌, ◌<◌, Li
 use Rattle.std.proofs.lemmas.List.{map_push}
 use Rattle.yd_ids.specs.declared.id.Id.{Id}
 use Rattle.yd_ops.specs.Operation.{later_id}
+use Rattle.yd_ops.proofs.OperationLemmas.{later_later}
 use Rattle.yd_origins.specs.Table.{OriginTable}
 use Rattle.yd_order.specs.declared.rows.OriginRow.{OriginRow}
 use Rattle.yd_order.specs.Rows.{row_of, table_of}
 use Rattle.yd_order.specs.Stretch.{rows_from}
-
-later_later : (id : Id) (i : ℕ) → later_id (later_id id i) 1 ≡ later_id id (i + 1)
-later_later id i = ap (λ (c : ℕ). record { client = id.client; clock = c }) (omega arith)
-
-pub later_none : (id : Id) → later_id id 0 ≡ id
-later_none id = ap (λ (c : ℕ). record { client = id.client; clock = c }) (omega arith)
 
 -- where units are left, the rows are the next one and those behind it
 pub rows_more : (id : Id) (left right : Option Id) (i n : ℕ) → i < n →
     rows_from (later_id id i) left right (n - i)
     ≡ record { id = later_id id i; left = left; right = right } ∷ rows_from (later_id id (i + 1)) (Some (later_id id i)) right (n - (i + 1))
 rows_more id left right i n lt = ap (rows_from (later_id id i) left right) count
-    ∙ ap (λ (next : Id). record { id = later_id id i; left = left; right = right } ∷ rows_from next (Some (later_id id i)) right (n - (i + 1))) (later_later id i)
+    ∙ ap (λ (next : Id). record { id = later_id id i; left = left; right = right } ∷ rows_from next (Some (later_id id i)) right (n - (i + 1))) (later_later id i 1)
   where
     count : n - i ≡ suc (n - (i + 1))
     count = omega arith

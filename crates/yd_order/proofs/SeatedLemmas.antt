@@ -1,11 +1,13 @@
 -- Rows that stand in an order as their lefts and rights ask: the order is the origin order.
 use Rattle.std.proofs.Common.{◌≡◌, ℕ, zero, suc, ◌-◌, ◌<◌, ◌≤◌, Bool, true, false, ◌||◌, ◌&&◌, List, [], ◌∷◌, map, length, ◌⊎◌, inl, inr, Option, Some, None, nat_lt, nat_le, nat_eq, refl, sym, ap, ◌∙◌, subst, arith, tests, true≢false}
 use Rattle.std.specs.Prelude.{IfSome, slice_index, if◌then◌else◌}
+use Rattle.yd_words.specs.Member.{IsIn}
+use Rattle.yd_words.specs.Test.{one_if}
 use Rattle.yd_ids.specs.declared.id.Id.{Id}
-use Rattle.yd_origins.specs.Ids.{is_same, is_smaller, IsIn}
+use Rattle.yd_ids.specs.Ids.{is_same, is_smaller}
+use Rattle.yd_ids.proofs.IdLemmas.{same_says}
 use Rattle.yd_origins.specs.Table.{OriginTable, ids_of, left_of, right_of, IsTable}
-use Rattle.yd_origins.specs.Sorted.{one_if, origin_order}
-use Rattle.yd_origins.proofs.IdLemmas.{same_says}
+use Rattle.yd_origins.specs.Sorted.{origin_order}
 use Rattle.yd_origins.proofs.MemberLemmas.{place, Rising}
 use Rattle.yd_origins.proofs.LineLemmas.{Reasons}
 use Rattle.yd_order.specs.declared.linking.LinkedRow.{LinkedRow}

@@ -3,7 +3,7 @@ use Rattle.std.proofs.Common.{◌≡◌, ◌≢◌, ◌↔◌, ℕ, suc, ◌+◌
 use Rattle.std.specs.Prelude.{IfSome, slice_index}
 use Rattle.std.proofs.lemmas.Bool.{cases_eq, not-true}
 use Rattle.std.proofs.lemmas.List.{length-set, get_or-set_same, get_or-set_other, ext_get_or}
-use Rattle.yd_origins.specs.Ids.{is_smaller}
+use Rattle.yd_ids.specs.Ids.{is_smaller}
 use Rattle.yd_order.specs.declared.linking.LinkedRow.{LinkedRow}
 use Rattle.yd_order.specs.Linking.{left_at, right_at}
 use Rattle.yd_order.specs.Seating.{AreSeatsOf, AreSeated, seat_of, is_passed, is_ahead, IsBetween, AllStand, StandIn}

@@ -8,12 +8,13 @@ use Rattle.std.specs.declared.cmp.Ordering.{Ordering}
 use Rattle.std.specs.declared.cmp.Ordering.TheVariants.{Less, Equal, Greater}
 use Rattle.std.proofs.lemmas.List.{length-map}
 use Rattle.std.proofs.lemmas.List.Sorted.{IsPermutation-map, IsPermutation-sym, All-permutation}
+use Rattle.yd_words.specs.Member.{IsIn, AreDistinct}
 use Rattle.yd_ids.specs.declared.id.Id.{Id}
-use Rattle.yd_origins.specs.Ids.{is_same, is_smaller, IsIn, AreDistinct}
+use Rattle.yd_ids.specs.Ids.{is_same, is_smaller}
+use Rattle.yd_ids.proofs.IdLemmas.{other_id}
 use Rattle.yd_origins.specs.Table.{OriginTable, ids_of, IsTable}
 use Rattle.yd_origins.specs.Before.{IsInOrder}
 use Rattle.yd_origins.specs.Sorted.{goes_first, with_id, sorted, origin_order}
-use Rattle.yd_origins.proofs.IdLemmas.{other_id}
 use Rattle.yd_origins.proofs.SortedLemmas.{with_id_has, sorted_has, in_origin_order, origin_order_in}
 use Rattle.yd_order.specs.declared.counting.Place.{Place}
 use Rattle.yd_order.specs.declared.linking.LinkedRow.{LinkedRow}

@@ -1,17 +1,21 @@
 -- Rows that stand as their lefts and rights ask: their places are the order of the table.
 use Rattle.std.proofs.Common.{◌≡◌, ◌≢◌, ℕ, zero, suc, ◌+◌, ◌<◌, ◌≤◌, ◌↔◌, Bool, true, false, ◌||◌, ◌&&◌, List, [], ◌∷◌, ◌⊎◌, inl, inr, Option, None, Some, nat_lt, nat_eq, refl, sym, ap, ◌∙◌, subst, arith, tests, true≢false}
 use Rattle.std.specs.Prelude.{IfSome}
+use Rattle.yd_words.specs.Member.{IsIn}
+use Rattle.yd_words.specs.Test.{one_if}
+use Rattle.yd_words.proofs.TestLemmas.{nat_lt_says}
+use Rattle.yd_words.proofs.OptionLemmas.{if_some_both}
 use Rattle.yd_ids.specs.declared.id.Id.{Id}
-use Rattle.yd_origins.specs.Ids.{is_smaller, IsIn}
+use Rattle.yd_ids.specs.Ids.{is_smaller}
+use Rattle.yd_ids.proofs.IdLemmas.{other_id, same_says, tie_flip}
 use Rattle.yd_origins.specs.Table.{OriginTable, ids_of, left_of, right_of, IsTable}
 use Rattle.yd_origins.specs.Before.{by_lines, is_before, IsInOrder}
-use Rattle.yd_origins.specs.Sorted.{one_if, count_before, goes_first, origin_order}
-use Rattle.yd_origins.proofs.TestLemmas.{nat_lt_says}
-use Rattle.yd_origins.proofs.IdLemmas.{other_id, same_says, tie_flip}
-use Rattle.yd_origins.proofs.MemberLemmas.{if_some_both, place, Rising}
+use Rattle.yd_origins.specs.Sorted.{count_before, goes_first, origin_order}
+use Rattle.yd_origins.proofs.MemberLemmas.{place, Rising}
 use Rattle.yd_origins.proofs.LineLemmas.{Line, Reasons, Decided, decided, up_to_left_says, from_right_says, same_left_says, later_left_says}
 use Rattle.yd_origins.proofs.BeforeLemmas.{lines_alike}
 use Rattle.yd_origins.proofs.TableLemmas.{lines_decide, not_itself}
+use Rattle.yd_origins.proofs.SortedLemmas.{count_less}
 use Rattle.yd_order.specs.Line.{seat_or, AreInLine}
 use Rattle.yd_order.proofs.SortedLemmas.{in_order_is_order}
 
@@ -24,31 +28,6 @@ pub record Stand (table : OriginTable) (pos : Id → ℕ) (end : ℕ) : Type 0 w
   pub behind_left : (x : Id) → IsIn x (ids_of table) → place pos 0 (left_of table x) < pos x
   pub before_right : (x : Id) → IsIn x (ids_of table) → pos x < place pos end (right_of table x)
   pub reason : (x y : Id) → IsIn x (ids_of table) → IsIn y (ids_of table) → pos x < pos y → Reasons (left_of table) (right_of table) pos end x y
-
--- ---- counts
-
-count_at_most : (f : Id → Id → Bool) (zs : List Id) (a b : Id) → ((z : Id) → IsIn z zs → f z a ≡ true → f z b ≡ true) →
-    count_before f zs a ≤ count_before f zs b
-count_at_most f [] a b both = omega arith
-count_at_most f (z ∷ zs) a b both = go (f z a) (f z b) refl refl (count_at_most f zs a b (λ y i. both y (inr i)))
-  where
-    go : (t u : Bool) → f z a ≡ t → f z b ≡ u → count_before f zs a ≤ count_before f zs b → one_if t + count_before f zs a ≤ one_if u + count_before f zs b
-    go true true e k le = omega arith
-    go true false e k le = absurd (true≢false (sym (both z (inl refl) e) ∙ k))
-    go false u e k le = omega arith
-
--- fewer are before a where what is before a is before b, and another too
-count_less : (f : Id → Id → Bool) (zs : List Id) (a b : Id) → ((z : Id) → IsIn z zs → f z a ≡ true → f z b ≡ true) →
-    (w : Id) → IsIn w zs → f w a ≡ false → f w b ≡ true → count_before f zs a < count_before f zs b
-count_less f [] a b both w i p q = absurd i
-count_less f (z ∷ zs) a b both w (inl i) p q =
-    rw (subst (λ (v : Id). f v a ≡ false) i p, subst (λ (v : Id). f v b ≡ true) i q) (omega (arith, count_at_most f zs a b (λ y j. both y (inr j))))
-count_less f (z ∷ zs) a b both w (inr i) p q = go (f z a) (f z b) refl refl (count_less f zs a b (λ y j. both y (inr j)) w i p q)
-  where
-    go : (t u : Bool) → f z a ≡ t → f z b ≡ u → count_before f zs a < count_before f zs b → one_if t + count_before f zs a < one_if u + count_before f zs b
-    go true true e k le = omega arith
-    go true false e k le = absurd (true≢false (sym (both z (inl refl) e) ∙ k))
-    go false u e k le = omega arith
 
 fewer_first : (m n : ℕ) (s : Bool) → m < n → (nat_lt m n || (nat_eq m n && s)) ≡ true
 fewer_first m n s lt = grind (arith, tests)

@@ -1,7 +1,8 @@
 -- Rows in a line: each has a seat, a number, and stands where its left and its right ask (own).
 use Rattle.std.specs.Prelude.{◌≡◌, ◌<◌, ◌≤◌, ◌⊎◌, ℕ, true, Option, None, Some}
+use Rattle.yd_words.specs.Member.{IsIn}
 use Rattle.yd_ids.specs.declared.id.Id.{Id}
-use Rattle.yd_origins.specs.Ids.{is_smaller, IsIn}
+use Rattle.yd_ids.specs.Ids.{is_smaller}
 use Rattle.yd_origins.specs.Table.{OriginTable, ids_of, left_of, right_of}
 
 -- the seat of a neighbour, and the given number where it is absent

@@ -1,7 +1,7 @@
 -- Linked rows: a row whose left and right are told by their places among the rows (own).
 use Rattle.std.specs.Prelude.{◌<◌, ℕ, zero, suc, List, [], ◌∷◌, map, Option, Some, None, IfSome, length}
+use Rattle.yd_words.specs.Each.{Each}
 use Rattle.yd_ids.specs.declared.id.Id.{Id}
-use Rattle.yd_ids.specs.Each.{Each}
 use Rattle.yd_origins.specs.Table.{Row, OriginTable}
 use Rattle.yd_order.specs.Rows.{place_of_neighbour}
 use Rattle.yd_order.specs.declared.rows.OriginRow.{OriginRow}

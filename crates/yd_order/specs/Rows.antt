@@ -1,8 +1,8 @@
 -- Rows in memory as rows of a table, in order of their ids.
 use Rattle.std.specs.Prelude.{◌≡◌, ℕ, zero, suc, true, List, [], ◌∷◌, map, Option, Some, None, option_map, if◌then◌else◌}
+use Rattle.yd_words.specs.Each.{Each}
 use Rattle.yd_ids.specs.declared.id.Id.{Id}
-use Rattle.yd_ids.specs.Each.{Each}
-use Rattle.yd_origins.specs.Ids.{is_same, is_smaller}
+use Rattle.yd_ids.specs.Ids.{is_same, is_smaller}
 use Rattle.yd_origins.specs.Table.{Row, OriginTable}
 use Rattle.yd_order.specs.declared.rows.OriginRow.{OriginRow}
 

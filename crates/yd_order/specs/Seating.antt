@@ -1,6 +1,6 @@
 -- Seats of rows: each row's number in an order of all rows, from one on, and what lefts and rights ask of seats (own).
 use Rattle.std.specs.Prelude.{◌≡◌, ◌<◌, ◌≤◌, ◌⊎◌, ℕ, suc, Bool, true, false, ◌||◌, ◌&&◌, List, Option, Some, None, IfSome, length, nat_eq, nat_lt, nat_le, slice_index}
-use Rattle.yd_origins.specs.Ids.{is_smaller}
+use Rattle.yd_ids.specs.Ids.{is_smaller}
 use Rattle.yd_order.specs.Linking.{id_at, left_at, right_at}
 use Rattle.yd_order.specs.declared.linking.LinkedRow.{LinkedRow}
 

@@ -2,8 +2,8 @@
 use Rattle.std.specs.Prelude.{ℕ, zero, suc, ◌+◌, List, [], ◌∷◌, ◌++◌, Option, Some, None, if◌then◌else◌}
 use Rattle.yd_ids.specs.declared.id.Id.{Id}
 use Rattle.yd_ids.specs.Id.{IsClock}
+use Rattle.yd_ids.specs.Ids.{has_id}
 use Rattle.yd_ops.specs.Operation.{later_id}
-use Rattle.yd_origins.specs.Ids.{has_id}
 use Rattle.yd_origins.specs.Table.{OriginTable, ids_of, right_of}
 use Rattle.yd_origins.specs.Operations.{with_rights}
 use Rattle.yd_order.specs.declared.stretch.Stretch.{Stretch}

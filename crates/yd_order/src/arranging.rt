@@ -1,7 +1,7 @@
 //! The order of a list that origins alone give.
 
 ghost use Rattle.std.specs.Prelude.{◌≡◌, ◌↔◌, ◌*◌, length, map, IfOk, IfSome, IsSome};
-ghost use Rattle.yd_ids.specs.Each.{Each};
+ghost use Rattle.yd_words.specs.Each.{Each};
 ghost use Rattle.yd_origins.specs.Sorted.{origin_order};
 ghost use Rattle.yd_origins.specs.Table.{IsTable};
 ghost use Rattle.yd_order.specs.Counting.{id_of_place};

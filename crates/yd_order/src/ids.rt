@@ -1,7 +1,7 @@
 //! Which of two ids is smaller, and when they are one.
 
 ghost use Rattle.std.specs.Prelude.{◌≡◌};
-ghost use Rattle.yd_origins.specs.Ids.{is_same, is_smaller};
+ghost use Rattle.yd_ids.specs.Ids.{is_same, is_smaller};
 
 use yd_ids::Id;
 

@@ -2,8 +2,8 @@
 
 ghost use Rattle.std.specs.Prelude.{◌≡◌, ◌++◌, IfOk, OnOk};
 ghost use Rattle.std.specs.List.Sorted.{IsPermutation};
-ghost use Rattle.yd_ids.specs.Each.{Each};
-ghost use Rattle.yd_origins.specs.Ids.{AreDistinct};
+ghost use Rattle.yd_words.specs.Each.{Each};
+ghost use Rattle.yd_words.specs.Member.{AreDistinct};
 ghost use Rattle.yd_origins.specs.Table.{ids_of};
 ghost use Rattle.yd_order.specs.Rows.{AreAscending, table_of};
 ghost use Rattle.yd_order.specs.Stretch.{EndsAtClock, rows_of_stretch, rows_of_stretches};

@@ -1,7 +1,7 @@
 //! The order of the operations of runs.
 
 ghost use Rattle.std.specs.Prelude.{◌≡◌, map, IfOk};
-ghost use Rattle.yd_ids.specs.Each.{Each};
+ghost use Rattle.yd_words.specs.Each.{Each};
 ghost use Rattle.yd_meaning.specs.Order.{rows_of};
 ghost use Rattle.yd_ops.specs.View.{run_value};
 ghost use Rattle.yd_order.specs.Runs.{operations_of_runs, RunEndsAtClock, stretch_of};

@@ -2,7 +2,7 @@
 //! comes too early is numbered in a later pass ([`crate::numbering`]), so no clause speaks of their order.
 
 ghost use Rattle.std.specs.Prelude.{◌<◌, length, OnOk, IfOk};
-ghost use Rattle.yd_ids.specs.Each.{Each};
+ghost use Rattle.yd_words.specs.Each.{Each};
 
 use crate::fault::NoMemory;
 use crate::linking::LinkedRow;

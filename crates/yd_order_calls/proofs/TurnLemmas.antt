@@ -2,16 +2,15 @@
 use Rattle.std.proofs.Common.{◌≡◌, ◌<◌, Bool, true, ◌&&◌, not, List, [], ◌∷◌, Option, Some, None, inl, inr, nat_lt, sym, ◌∙◌, subst, true≢false, arith, tests}
 use Rattle.std.specs.Prelude.{IfSome}
 use Rattle.std.proofs.lemmas.Bool.{and_parts}
+use Rattle.yd_words.specs.Member.{IsIn, AreDistinct}
+use Rattle.yd_words.proofs.OptionLemmas.{if_some_map}
 use Rattle.yd_ids.specs.declared.id.Id.{Id}
-use Rattle.yd_origins.specs.Ids.{has_id, IsIn, AreDistinct}
+use Rattle.yd_ids.specs.Ids.{has_id}
+use Rattle.yd_ids.proofs.IdLemmas.{has_says, has_is}
 use Rattle.yd_origins.specs.Table.{OriginTable, ids_of, left_of, right_of, IsTable}
 use Rattle.yd_order_calls.specs.Turns.{place_in, is_earlier, are_distinct, all_pass, are_in_turn}
-use Rattle.yd_origins.proofs.MemberLemmas.{has_says, if_some_map}
 
 -- ---- what the tests say
-
-there : (ids : List Id) (y : Id) → has_id ids y ≡ true → IsIn y ids
-there ids y e = elim (has_says ids y) [ inl f ↦ f.1 | inr f ↦ absurd (true≢false (sym e ∙ f.0)) ]
 
 not_there : (ids : List Id) (y : Id) → not (has_id ids y) ≡ true → IsIn y ids → ⊥
 not_there ids y e i = elim (has_says ids y) [ inl f ↦ true≢false (sym (subst (λ t. not t ≡ true) f.0 e)) | inr f ↦ f.1 i ]
@@ -28,7 +27,7 @@ passes test (y ∷ ys) x e (inr i) = passes test ys x (and_parts (test y) (all_p
 earlier : (ids : List Id) (x : Id) (z : Option Id) → is_earlier ids x z ≡ true → IfSome z (λ y. IsIn y ids × (place_in ids y < place_in ids x))
 earlier ids x None e = tt
 earlier ids x (Some y) e = let parts = and_parts (has_id ids y) (nat_lt (place_in ids y) (place_in ids x)) e in
-    (there ids y parts.0, grind (arith, tests, parts.1))
+    (has_is ids y parts.0, grind (arith, tests, parts.1))
 
 module _ (table : OriginTable) (e : are_in_turn table ≡ true) where
   abbrev ids : List Id

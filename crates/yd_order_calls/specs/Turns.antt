@@ -1,7 +1,7 @@
 -- Rows in turn: each stands behind those that are its left and its right (own).
 use Rattle.std.specs.Prelude.{ℕ, zero, suc, Bool, true, ◌&&◌, not, List, [], ◌∷◌, Option, Some, None, nat_lt, if◌then◌else◌}
 use Rattle.yd_ids.specs.declared.id.Id.{Id}
-use Rattle.yd_origins.specs.Ids.{is_same, has_id}
+use Rattle.yd_ids.specs.Ids.{is_same, has_id}
 use Rattle.yd_origins.specs.Table.{OriginTable, ids_of, left_of, right_of}
 
 -- how many ids stand in front of one in the list

@@ -1,7 +1,7 @@
 //! Runs of units in order: the orders were found by hand, from what the origins ask.
 
 ghost use Rattle.std.specs.Prelude.{◌≡◌, true, map};
-ghost use Rattle.yd_ids.specs.Each.{Each};
+ghost use Rattle.yd_words.specs.Each.{Each};
 ghost use Rattle.yd_meaning.specs.Order.{rows_of};
 ghost use Rattle.yd_ops.specs.View.{run_value};
 ghost use Rattle.yd_order.specs.Runs.{operations_of_runs, RunEndsAtClock};

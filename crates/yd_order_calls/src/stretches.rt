@@ -1,7 +1,7 @@
 //! Stretches of units in order: the orders were found by hand, from what the origins ask.
 
 ghost use Rattle.std.specs.Prelude.{◌≡◌, true};
-ghost use Rattle.yd_ids.specs.Each.{Each};
+ghost use Rattle.yd_words.specs.Each.{Each};
 ghost use Rattle.yd_order.specs.Stretch.{EndsAtClock, rows_of_stretches, among_rows};
 ghost use Rattle.yd_order_calls.specs.Turns.{are_in_turn};
 

@@ -1,11 +1,12 @@
 -- A table with one row more, whose left and right are rows, is a table.
 use Rattle.std.proofs.Common.{◌≡◌, ℕ, suc, ◌+◌, ◌<◌, false, cond, ◌∷◌, inl, inr, Some, None, Option, refl, sym, subst, arith}
 use Rattle.std.specs.Prelude.{IfSome}
+use Rattle.yd_words.specs.Member.{IsIn}
+use Rattle.yd_words.proofs.OptionLemmas.{if_some_map, if_some_both}
 use Rattle.yd_ids.specs.declared.id.Id.{Id}
-use Rattle.yd_origins.specs.Ids.{is_same, IsIn}
+use Rattle.yd_ids.specs.Ids.{is_same}
+use Rattle.yd_ids.proofs.IdLemmas.{same_itself, other_id}
 use Rattle.yd_origins.specs.Table.{Row, OriginTable, ids_of, left_of, right_of, IsTable}
-use Rattle.yd_origins.proofs.IdLemmas.{same_itself, other_id}
-use Rattle.yd_origins.proofs.MemberLemmas.{if_some_map, if_some_both}
 
 abbrev height_of : (Id → ℕ) → Option Id → ℕ
 height_of h None = 0

@@ -1,25 +1,25 @@
 -- The origin order is one for all arrangements of the rows, and the scan of a part's order is the order of the part with the new row.
 use Rattle.std.proofs.Common.{◌≡◌, ◌↔◌, refl, List, ◌∷◌, inl, inr, ◌<◌, Option, sym, subst}
 use Rattle.std.specs.Prelude.{IfSome}
+use Rattle.yd_words.specs.Member.{IsIn}
+use Rattle.yd_words.proofs.OptionLemmas.{if_some_map}
 use Rattle.yd_ids.specs.declared.id.Id.{Id}
-use Rattle.yd_origins.specs.Ids.{IsIn}
-use Rattle.yd_origins.specs.Table.{Row, OriginTable, ids_of, left_of, right_of, IsTable, IsRowOf, IsPart}
+use Rattle.yd_origins.specs.Table.{Row, OriginTable, ids_of, left_of, right_of, IsTable, IsPart}
 use Rattle.yd_origins.specs.Before.{is_before, IsInOrder, Fits}
 use Rattle.yd_origins.specs.Sorted.{origin_order}
 use Rattle.yd_origins.proofs.LineLemmas.{in_order_alike}
 use Rattle.yd_origins.specs.Scan.{after_scan}
-use Rattle.yd_origins.proofs.MemberLemmas.{if_some_map}
-use Rattle.yd_origins.proofs.PartLemmas.{part_fits, part_member, part_order, part_is_table, part_left, part_right, found_left, found_right, row_id_in}
+use Rattle.yd_origins.proofs.PartLemmas.{part_fits, part_member, part_order, part_is_table, part_left, part_right, found_left, found_right, row_id_in, table_is_part}
 use Rattle.yd_origins.proofs.PlacementLemmas.{scan_law}
 use Rattle.yd_origins.proofs.GrowingLemmas.{in_scan, scan_has}
 use Rattle.yd_origins.proofs.SortedLemmas.{in_origin_order, origin_order_in, order_in_order, in_order_is_origin_order}
 
-module _ (table other : OriginTable) (t : IsTable table) (f : Fits table) (u : IsTable other) (same : (row : Row) → IsRowOf row table ↔ IsRowOf row other) where
+module _ (table other : OriginTable) (t : IsTable table) (f : Fits table) (u : IsTable other) (same : (row : Row) → IsIn row table ↔ IsIn row other) where
   other_is_part : IsPart other table
-  other_is_part = record { within = λ row. (same row).1; distinct = u.distinct; has_left = u.has_left; has_right = u.has_right }
+  other_is_part = table_is_part other table u (λ row. (same row).1)
 
-  table_is_part : IsPart table other
-  table_is_part = record { within = λ row. (same row).0; distinct = t.distinct; has_left = t.has_left; has_right = t.has_right }
+  whole_is_part : IsPart table other
+  whole_is_part = table_is_part table other t (λ row. (same row).0)
 
   pub any_arrangement : origin_order other ≡ origin_order table
   any_arrangement = in_order_is_origin_order table t f (origin_order other)
@@ -27,7 +27,7 @@ module _ (table other : OriginTable) (t : IsTable table) (f : Fits table) (u : I
       (origin_order_in other)
       (order_in_order other u (part_fits other table t other_is_part f)))
       (λ x i. part_member other table t other_is_part x (origin_order_in other x i))
-      (λ x p. in_origin_order other x (part_member table other u table_is_part x p))
+      (λ x p. in_origin_order other x (part_member table other u whole_is_part x p))
 
 -- ---- the scan of a part in order
 

@@ -1,10 +1,11 @@
 -- The order of two rows asks for no more than what is reached from them, and for no more uses of the lines than they need.
 use Rattle.std.proofs.Common.{◌≡◌, ℕ, zero, suc, ◌+◌, ◌<◌, ◌≤◌, Bool, true, false, Option, Some, None, refl, ap, ◌∙◌, arith}
 use Rattle.std.specs.Prelude.{IfSome}
+use Rattle.yd_words.specs.Test.{is_some_and}
+use Rattle.yd_words.proofs.OptionLemmas.{if_some_map, if_some_both, test_alike}
 use Rattle.yd_ids.specs.declared.id.Id.{Id}
-use Rattle.yd_origins.specs.Ids.{is_same, is_same_neighbour, is_smaller, is_some_and}
+use Rattle.yd_ids.specs.Ids.{is_same, is_same_neighbour, is_smaller}
 use Rattle.yd_origins.specs.Before.{is_up_to, is_later_left, by_lines, is_before_within}
-use Rattle.yd_origins.proofs.MemberLemmas.{if_some_map, if_some_both}
 use Rattle.yd_origins.proofs.LineLemmas.{first_of_lines}
 
 up_to_alike : (f g : Id → Id → Bool) (a b : Id) → f a b ≡ g a b → is_up_to f a b ≡ is_up_to g a b
@@ -13,10 +14,6 @@ up_to_alike f g a b e = go (is_same a b) e
     go : (t : Bool) → f a b ≡ g a b → elim t as (λ x. Bool) [ true ↦ true | false ↦ f a b ] ≡ elim t as (λ x. Bool) [ true ↦ true | false ↦ g a b ]
     go true e = refl
     go false e = e
-
-test_alike : (f g : Id → Bool) (z : Option Id) → IfSome z (λ y. f y ≡ g y) → is_some_and f z ≡ is_some_and g z
-test_alike f g None e = refl
-test_alike f g (Some y) e = e
 
 later_left_alike : (f g : Id → Id → Bool) (z w : Option Id) → IfSome w (λ q. IfSome z (λ p. f q p ≡ g q p)) → is_later_left f z w ≡ is_later_left g z w
 later_left_alike f g None w e = refl

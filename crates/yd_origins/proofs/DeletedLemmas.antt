@@ -1,13 +1,14 @@
 -- What stands last in a list of an honest set stands last in each closed part that has it, so a closed part deletes no more.
 use Rattle.std.proofs.Common.{◌≡◌, ◌≢◌, Bool, true, List, [], ◌∷◌, ◌⊎◌, inl, inr, Some, None, Option, refl, sym, ap, ◌∙◌, subst, true≢false}
+use Rattle.yd_words.specs.Member.{IsIn}
+use Rattle.yd_words.proofs.OptionLemmas.{some_is}
 use Rattle.yd_ids.specs.declared.id.Id.{Id}
-use Rattle.yd_origins.specs.Ids.{IsIn}
+use Rattle.yd_ids.proofs.IdLemmas.{same_says}
 use Rattle.yd_origins.specs.Table.{OriginTable, ids_of, IsTable}
 use Rattle.yd_origins.specs.Before.{is_before, IsInOrder, Fits}
 use Rattle.yd_origins.specs.Sorted.{origin_order}
 use Rattle.yd_origins.specs.Operations.{ListNames, OperationSet, list_of_operation, table_of_list, IsHonest, IsClosedPart}
 use Rattle.yd_origins.specs.Deleted.{last_of, IsOverwritten, IsDeleted, by_name, by_key, by_item}
-use Rattle.yd_origins.proofs.IdLemmas.{same_says}
 use Rattle.yd_origins.proofs.TableLemmas.{not_itself}
 use Rattle.yd_origins.proofs.FittingLemmas.{one_way}
 use Rattle.yd_origins.proofs.PartLemmas.{part_member}
@@ -23,10 +24,7 @@ last_in [] x e = absurd (none_some e)
   where
     none_some : ◌≡◌ {A = Option Id} None (Some x) → ⊥
     none_some f = cc
-last_in (y ∷ []) x e = inl (some_is (sym e))
-  where
-    some_is : ◌≡◌ {A = Option Id} (Some x) (Some y) → x ≡ y
-    some_is f = cc
+last_in (y ∷ []) x e = inl (some_is x y (sym e))
 last_in (y ∷ z ∷ rest) x e = inr (last_in (z ∷ rest) x e)
 
 -- each other member is before the last

@@ -1,14 +1,15 @@
 -- Tests of the edit rules on small sets of one list, which the checker computes.
 use Rattle.std.proofs.Common.{◌≡◌, ◌≢◌, ◌<◌, Bool, true, false, ◌||◌, ◌&&◌, List, [], ◌∷◌, inl, inr, Some, None, Option, nat_lt, nat_eq, not, refl, sym, ap, ◌∙◌, subst, arith, tests, true≢false}
 use Rattle.std.specs.Prelude.{IfSome}
+use Rattle.yd_words.specs.Member.{IsIn}
+use Rattle.yd_words.proofs.OptionLemmas.{some_is}
 use Rattle.yd_ids.specs.declared.id.Id.{Id}
-use Rattle.yd_origins.specs.Ids.{is_same, HasSmallerClock, has_id, IsIn}
+use Rattle.yd_ids.specs.Ids.{is_same, HasSmallerClock, has_id}
+use Rattle.yd_ids.proofs.IdLemmas.{other_id, differs, has_is}
 use Rattle.yd_origins.specs.Table.{OriginTable, ids_of, left_of, right_of}
 use Rattle.yd_origins.specs.Before.{is_before, IsLeftFirst, IsBetween}
 use Rattle.yd_origins.specs.Operations.{table_of_all, MeetsRules, past_of, of_left, of_right, of_parent, of_clock, of_past}
 use Rattle.yd_origins.specs.Example.{of_one_list}
-use Rattle.yd_origins.proofs.IdLemmas.{other_id, differs}
-use Rattle.yd_origins.proofs.MemberLemmas.{has_says}
 
 -- ---- tests of the edit rules on a set of one list
 
@@ -59,18 +60,12 @@ keeps_rules table seen x = (has_direct table seen x && have_direct table seen se
 both : (a b : Bool) → (a && b) ≡ true → (a ≡ true) × (b ≡ true)
 both a b e = (grind (arith, tests), grind (arith, tests))
 
-has_is : (seen : List Id) (x : Id) → has_id seen x ≡ true → IsIn x seen
-has_is seen x e = elim (has_says seen x) [ inl f ↦ f.1 | inr f ↦ absurd (true≢false (sym e ∙ f.0)) ]
-
 among_is : (seen : List Id) (z : Option Id) (y : Id) → is_among seen z ≡ true → z ≡ Some y → IsIn y seen
 among_is seen None y e g = absurd (none_some g)
   where
     none_some : ◌≡◌ {A = Option Id} None (Some y) → ⊥
     none_some f = cc
-among_is seen (Some x) y e g = has_is seen y (ap (has_id seen) (some_is (sym g)) ∙ e)
-  where
-    some_is : ◌≡◌ {A = Option Id} (Some y) (Some x) → y ≡ x
-    some_is f = cc
+among_is seen (Some x) y e g = has_is seen y (ap (has_id seen) (some_is y x (sym g)) ∙ e)
 
 clocks_are : (seen : List Id) (x : Id) (ys : List Id) (y : Id) → has_clocks seen x ys ≡ true → IsIn y ys → HasSmallerClock y x → IsIn y seen
 clocks_are seen x [] y e i c = absurd i

@@ -1,8 +1,8 @@
 -- The rows of a table that fits stand in a line, so the order is strict, and each row stands between its left and its right.
 use Rattle.std.proofs.Common.{◌≡◌, ◌≢◌, ◌<◌, true, false, inl, inr, Some, None, Option, sym, ap, ◌∙◌, subst, arith, true≢false}
 use Rattle.std.specs.Prelude.{IfSome}
+use Rattle.yd_words.specs.Member.{IsIn}
 use Rattle.yd_ids.specs.declared.id.Id.{Id}
-use Rattle.yd_origins.specs.Ids.{IsIn}
 use Rattle.yd_origins.specs.Table.{OriginTable, ids_of, left_of, right_of, IsTable}
 use Rattle.yd_origins.specs.Before.{is_before, IsBefore, IsBetween, Fits}
 use Rattle.yd_origins.proofs.LineLemmas.{Line, before_says, first_before}

@@ -1,16 +1,18 @@
 -- Scans in turn keep a closed list closed and in order, so they give the origin order in the end.
 use Rattle.std.proofs.Common.{◌≡◌, ◌<◌, List, [], ◌∷◌, inl, inr, Option, sym, ap, subst, arith}
 use Rattle.std.specs.Prelude.{IfSome}
+use Rattle.yd_words.specs.Member.{IsIn}
+use Rattle.yd_words.proofs.TestLemmas.{split}
+use Rattle.yd_words.proofs.OptionLemmas.{if_some_map}
+use Rattle.yd_words.proofs.MemberLemmas.{in_left_part, in_right_part, in_parts}
 use Rattle.yd_ids.specs.declared.id.Id.{Id}
-use Rattle.yd_origins.specs.Ids.{HasSmallerClock, IsIn}
+use Rattle.yd_ids.specs.Ids.{HasSmallerClock}
+use Rattle.yd_ids.proofs.IdLemmas.{same_numbers}
 use Rattle.yd_origins.specs.Table.{OriginTable, ids_of, left_of, right_of, IsTable}
 use Rattle.yd_origins.specs.Before.{is_before, IsInOrder, Fits}
 use Rattle.yd_origins.specs.Sorted.{sorted, origin_order}
 use Rattle.yd_origins.specs.Scan.{scan_place, after_scan, after_scans}
 use Rattle.yd_origins.specs.Growing.{IsArrangement, GrowsByScan, IsClosed}
-use Rattle.yd_origins.proofs.TestLemmas.{split}
-use Rattle.yd_origins.proofs.IdLemmas.{same_numbers}
-use Rattle.yd_origins.proofs.MemberLemmas.{if_some_map, in_left_part, in_right_part, in_parts}
 use Rattle.yd_origins.proofs.SortedLemmas.{in_order_is_origin_order}
 use Rattle.yd_origins.proofs.PlacementLemmas.{scan_moves_none, scan_law}
 

@@ -1,7 +1,7 @@
 -- The operations of one list of an honest set are a table that fits.
 use Rattle.std.proofs.Common.{◌≡◌, Some, None, Option, refl, sym, ◌∙◌, subst}
+use Rattle.yd_words.specs.Member.{IsIn}
 use Rattle.yd_ids.specs.declared.id.Id.{Id}
-use Rattle.yd_origins.specs.Ids.{IsIn}
 use Rattle.yd_origins.specs.Table.{OriginTable, ids_of, left_of, right_of, IsTable}
 use Rattle.yd_origins.specs.Before.{is_before, IsLeftFirst, IsBetween, Reaches, by_left, by_right, onward, Fits}
 use Rattle.yd_origins.specs.Operations.{ListNames, OperationSet, list_of_operation, kept_right, table_of_all, table_of_list, past_of, of_left, of_right, of_clock, of_past, IsHonest}

@@ -1,7 +1,7 @@
 -- On an honest set the order of each list is strict, and each operation stands between its origins.
 use Rattle.std.proofs.Common.{◌≡◌, ◌≢◌, false, ◌⊎◌, Some, refl, sym, ◌∙◌}
+use Rattle.yd_words.specs.Member.{IsIn}
 use Rattle.yd_ids.specs.declared.id.Id.{Id}
-use Rattle.yd_origins.specs.Ids.{IsIn}
 use Rattle.yd_origins.specs.Table.{OriginTable, ids_of, left_of, right_of, IsTable}
 use Rattle.yd_origins.specs.Before.{is_before, IsBefore}
 use Rattle.yd_origins.specs.Operations.{ListNames, OperationSet, list_of_operation, table_of_all, table_of_list, IsHonest}

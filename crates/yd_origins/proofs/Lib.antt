@@ -7,7 +7,6 @@ pub mod FittingLemmas
 pub mod GrowingLemmas
 pub mod HonestLemmas
 pub mod HonestOrderLemmas
-pub mod IdLemmas
 pub mod LineLemmas
 pub mod ListLemmas
 pub mod ListTableLemmas
@@ -28,5 +27,4 @@ pub mod SideLemmas
 pub mod SortedLemmas
 pub mod StepLemmas
 pub mod TableLemmas
-pub mod TestLemmas
 pub mod WalkLemmas

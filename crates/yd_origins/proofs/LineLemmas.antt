@@ -1,12 +1,13 @@
 -- Rows in a line: each has a place, a number, and the six lines become comparisons of places.
 use Rattle.std.proofs.Common.{◌≡◌, ◌≢◌, ℕ, ◌<◌, ◌≤◌, Bool, true, false, ◌⊎◌, Option, Some, None, List, [], ◌∷◌, inl, inr, refl, sym, ap, ◌∙◌, arith}
 use Rattle.std.specs.Prelude.{IfSome}
+use Rattle.yd_words.specs.Test.{is_some_and, one_if}
+use Rattle.yd_words.specs.Member.{IsIn}
+use Rattle.yd_words.proofs.TestLemmas.{Says}
 use Rattle.yd_ids.specs.declared.id.Id.{Id}
-use Rattle.yd_origins.specs.Ids.{is_smaller, is_same_neighbour, is_some_and, IsIn}
+use Rattle.yd_ids.specs.Ids.{is_smaller, is_same_neighbour}
+use Rattle.yd_ids.proofs.IdLemmas.{same_says}
 use Rattle.yd_origins.specs.Before.{is_up_to, is_later_left, by_lines, IsInOrder}
-use Rattle.yd_origins.specs.Sorted.{one_if}
-use Rattle.yd_origins.proofs.TestLemmas.{Says}
-use Rattle.yd_origins.proofs.IdLemmas.{same_says}
 use Rattle.yd_origins.proofs.MemberLemmas.{place, Rising}
 
 -- rows in a line: each has a place, strictly between 0 and the end, and `before` says which place is smaller

@@ -2,21 +2,22 @@
 -- operations of all lists are a table.
 use Rattle.std.proofs.Common.{◌≡◌, ℕ, zero, suc, ◌<◌, ◌≤◌, Bool, true, false, [], ◌∷◌, inl, inr, Some, None, Option, length, refl, sym, ap, ap₂, ◌∙◌, subst, arith}
 use Rattle.std.specs.Prelude.{IfSome, if◌then◌else◌}
+use Rattle.yd_words.specs.Member.{IsIn, AreDistinct}
+use Rattle.yd_words.proofs.OptionLemmas.{if_some_map, if_some_both}
 use Rattle.yd_ids.specs.declared.id.Id.{Id}
-use Rattle.yd_origins.specs.Ids.{is_same, IsIn, AreDistinct}
+use Rattle.yd_ids.specs.Ids.{is_same}
+use Rattle.yd_ids.proofs.IdLemmas.{same_says}
 use Rattle.yd_origins.specs.Table.{OriginTable, ids_of, left_of, right_of, IsTable}
 use Rattle.yd_origins.specs.Operations.{ListNames, OperationSet, list_by_origins, list_within, list_of_operation, kept_right, with_rights, table_of_all}
-use Rattle.yd_origins.proofs.IdLemmas.{same_says}
-use Rattle.yd_origins.proofs.MemberLemmas.{if_some_map, if_some_both}
 use Rattle.yd_origins.proofs.TableLemmas.{height, height_small, low_left, low_right}
 
 -- ---- other rights
 
-rights_ids : (f : Id → Option Id) (rows : OriginTable) → ids_of (with_rights f rows) ≡ ids_of rows
+pub rights_ids : (f : Id → Option Id) (rows : OriginTable) → ids_of (with_rights f rows) ≡ ids_of rows
 rights_ids f [] = refl
 rights_ids f (r ∷ rs) = ap (λ xs. r.id ∷ xs) (rights_ids f rs)
 
-rights_left : (f : Id → Option Id) (rows : OriginTable) (x : Id) → left_of (with_rights f rows) x ≡ left_of rows x
+pub rights_left : (f : Id → Option Id) (rows : OriginTable) (x : Id) → left_of (with_rights f rows) x ≡ left_of rows x
 rights_left f [] x = refl
 rights_left f (r ∷ rs) x = ap (λ z. if is_same r.id x then r.left else z) (rights_left f rs x)
 

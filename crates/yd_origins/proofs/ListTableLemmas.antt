@@ -1,13 +1,14 @@
 -- The operations of one list are a table, with the order that all operations have.
 use Rattle.std.proofs.Common.{◌≡◌, Bool, true, false, [], ◌∷◌, inl, inr, Option, refl, sym, ap, ◌∙◌, subst, true≢false}
 use Rattle.std.specs.Prelude.{IfSome, filter, if◌then◌else◌}
+use Rattle.yd_words.specs.Member.{IsIn, AreDistinct}
+use Rattle.yd_words.proofs.OptionLemmas.{if_some_map}
 use Rattle.yd_ids.specs.declared.id.Id.{Id}
-use Rattle.yd_origins.specs.Ids.{is_same, IsIn, AreDistinct}
-use Rattle.yd_origins.specs.Table.{Row, OriginTable, ids_of, left_of, right_of, IsTable, IsRowOf, IsPart}
+use Rattle.yd_ids.specs.Ids.{is_same}
+use Rattle.yd_ids.proofs.IdLemmas.{other_id}
+use Rattle.yd_origins.specs.Table.{Row, OriginTable, ids_of, left_of, right_of, IsTable, IsPart}
 use Rattle.yd_origins.specs.Before.{is_before}
 use Rattle.yd_origins.specs.Operations.{ListNames, OperationSet, list_of_operation, kept_right, table_of_all, table_of_list}
-use Rattle.yd_origins.proofs.IdLemmas.{other_id}
-use Rattle.yd_origins.proofs.MemberLemmas.{if_some_map}
 use Rattle.yd_origins.proofs.PartLemmas.{part_is_table, part_order}
 use Rattle.yd_origins.proofs.ListLemmas.{all_in, in_all, all_left, all_right, all_is_table, left_in_list, right_in_list}
 
@@ -36,12 +37,12 @@ in_where test (r ∷ rs) x passes i = go (test r.id) refl i (λ j. in_where test
     go false e (inl g) f = absurd (true≢false (sym passes ∙ ap test g ∙ e))
     go false e (inr j) f = f j
 
-where_row : (test : Id → Bool) (rows : OriginTable) (r : Row) → IsRowOf r (filter (λ (row : Row). test row.id) rows) → IsRowOf r rows
+where_row : (test : Id → Bool) (rows : OriginTable) (r : Row) → IsIn r (filter (λ (row : Row). test row.id) rows) → IsIn r rows
 where_row test [] r i = i
 where_row test (q ∷ qs) r i = go (test q.id) i (λ j. where_row test qs r j)
   where
-    go : (u : Bool) → IsRowOf r (if u then q ∷ filter (λ (row : Row). test row.id) qs else filter (λ (row : Row). test row.id) qs) →
-        (IsRowOf r (filter (λ (row : Row). test row.id) qs) → IsRowOf r qs) → IsRowOf r (q ∷ qs)
+    go : (u : Bool) → IsIn r (if u then q ∷ filter (λ (row : Row). test row.id) qs else filter (λ (row : Row). test row.id) qs) →
+        (IsIn r (filter (λ (row : Row). test row.id) qs) → IsIn r qs) → IsIn r (q ∷ qs)
     go true (inl e) f = inl e
     go true (inr j) f = inr (f j)
     go false j f = inr (f j)

@@ -1,10 +1,11 @@
 -- Rows put in an arrangement in which lefts and rights stand behind, and how many stand behind each.
 use Rattle.std.proofs.Common.{◌≡◌, ℕ, suc, ◌<◌, ◌≤◌, cond, List, [], ◌∷◌, ◌⊎◌, inl, inr, Some, None, Option, length, nat_lt, refl, sym, ap, ◌∙◌, subst, arith}
 use Rattle.std.specs.Prelude.{IfSome}
+use Rattle.yd_words.specs.Member.{IsIn, AreDistinct}
+use Rattle.yd_words.proofs.TestLemmas.{nat_lt_says}
 use Rattle.yd_ids.specs.declared.id.Id.{Id}
-use Rattle.yd_origins.specs.Ids.{is_same, IsIn, AreDistinct}
-use Rattle.yd_origins.proofs.TestLemmas.{nat_lt_says}
-use Rattle.yd_origins.proofs.IdLemmas.{same_says, same_itself}
+use Rattle.yd_ids.specs.Ids.{is_same}
+use Rattle.yd_ids.proofs.IdLemmas.{same_says, same_itself}
 use Rattle.yd_origins.proofs.PlacedLemmas.{IsListed}
 
 module _ (height : Id → ℕ) where

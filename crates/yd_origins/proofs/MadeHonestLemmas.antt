@@ -1,14 +1,15 @@
 -- A made operation meets the edit rules, and so do all others as before.
 use Rattle.std.proofs.Common.{◌≡◌, ◌∷◌, inl, inr, Some, Option, refl, sym, ◌∙◌, subst}
 use Rattle.std.specs.Prelude.{IfSome}
+use Rattle.yd_words.specs.Member.{IsIn}
+use Rattle.yd_words.proofs.OptionLemmas.{if_some_map}
 use Rattle.yd_ids.specs.declared.id.Id.{Id}
-use Rattle.yd_origins.specs.Ids.{IsIn, first_of, behind}
+use Rattle.yd_ids.proofs.IdLemmas.{same_itself}
 use Rattle.yd_origins.specs.Table.{Row, OriginTable, ids_of, left_of, right_of, IsTable}
 use Rattle.yd_origins.specs.Before.{is_before, IsLeftFirst, IsBetween}
 use Rattle.yd_origins.specs.Sorted.{origin_order}
 use Rattle.yd_origins.specs.Operations.{ListNames, OperationSet, list_of_operation, table_of_all, table_of_list, MeetsRules, IsHonest, with_operation, IsMade}
-use Rattle.yd_origins.proofs.IdLemmas.{same_itself}
-use Rattle.yd_origins.proofs.MemberLemmas.{if_some_map}
+use Rattle.yd_origins.specs.Parts.{first_of, behind}
 use Rattle.yd_origins.proofs.SharingLemmas.{between_alike, left_first_alike}
 use Rattle.yd_origins.proofs.NextLemmas.{next_there, next_fits, none_between_new}
 use Rattle.yd_origins.proofs.ListTableLemmas.{in_own, own_order}

@@ -2,15 +2,17 @@
 -- origin, and no past changes.
 use Rattle.std.proofs.Common.{◌≡◌, ◌≢◌, false, ◌∷◌, ◌++◌, inl, inr, Some, None, Option, refl, sym, ap, ◌∙◌, subst, arith}
 use Rattle.std.specs.Prelude.{IfSome, filter}
+use Rattle.yd_words.specs.Member.{IsIn}
+use Rattle.yd_words.proofs.TestLemmas.{test_fails}
+use Rattle.yd_words.proofs.OptionLemmas.{if_some_map}
 use Rattle.yd_ids.specs.declared.id.Id.{Id}
-use Rattle.yd_origins.specs.Ids.{is_same, HasSmallerClock, IsIn, up_to, behind}
+use Rattle.yd_ids.specs.Ids.{is_same, HasSmallerClock}
+use Rattle.yd_ids.proofs.IdLemmas.{same_itself, other_id}
 use Rattle.yd_origins.specs.Table.{Row, OriginTable, ids_of, left_of, right_of, IsTable}
 use Rattle.yd_origins.specs.Before.{Fits}
 use Rattle.yd_origins.specs.Sorted.{origin_order, IsNext}
 use Rattle.yd_origins.specs.Operations.{ListNames, OperationSet, list_by_origins, list_of_operation, parent_item, kept_right, with_rights, table_of_all, table_of_list, past_of, of_left, of_right, of_parent, of_clock, of_past, IsHonest, with_operation, HasParents, IsMade}
-use Rattle.yd_origins.proofs.TestLemmas.{test_fails}
-use Rattle.yd_origins.proofs.IdLemmas.{same_itself, other_id}
-use Rattle.yd_origins.proofs.MemberLemmas.{if_some_map}
+use Rattle.yd_origins.specs.Parts.{up_to, behind}
 use Rattle.yd_origins.proofs.AddingLemmas.{added_is_table, old_left, old_right, new_left, new_right, new_lefts, new_rights}
 use Rattle.yd_origins.proofs.NextLemmas.{next_there, next_place}
 use Rattle.yd_origins.proofs.ListLemmas.{list_follows, kept_same, rights_alike, all_in}

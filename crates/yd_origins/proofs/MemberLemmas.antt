@@ -1,58 +1,18 @@
--- Members of lists, neighbours that are there, and lists whose places rise.
+-- Neighbours that are there, a list up to an id and behind it, and lists whose places rise.
 use Rattle.std.proofs.Common.{◌≡◌, ℕ, ◌<◌, ◌≤◌, List, [], ◌∷◌, ◌++◌, ◌⊎◌, Option, Some, None, inl, inr, refl, sym, ap, subst, arith}
 use Rattle.std.specs.Prelude.{IfSome, if◌then◌else◌}
+use Rattle.yd_words.specs.Member.{IsIn}
+use Rattle.yd_words.proofs.MemberLemmas.{in_left_part, in_right_part, in_parts}
 use Rattle.yd_ids.specs.declared.id.Id.{Id}
-use Rattle.yd_origins.specs.Ids.{has_id, IsIn, first_of, up_to, behind}
-use Rattle.yd_origins.proofs.TestLemmas.{Says}
-use Rattle.yd_origins.proofs.IdLemmas.{same_says}
+use Rattle.yd_ids.proofs.IdLemmas.{same_says}
+use Rattle.yd_origins.specs.Parts.{first_of, up_to, behind}
 
 -- ---- neighbours that are there
-
-pub if_some_map : (P Q : Id → Type 0) (z : Option Id) → ((y : Id) → P y → Q y) → IfSome z P → IfSome z Q
-if_some_map P Q None f p = tt
-if_some_map P Q (Some y) f p = f y p
-
-pub if_some_both : (P Q R : Id → Type 0) (z : Option Id) → ((y : Id) → P y → Q y → R y) → IfSome z P → IfSome z Q → IfSome z R
-if_some_both P Q R None f p q = tt
-if_some_both P Q R (Some y) f p q = f y p q
 
 -- the place of a neighbour, and the given one where it is absent
 abbrev pub place : (Id → ℕ) → ℕ → Option Id → ℕ
 place pos default None = default
 place pos default (Some y) = pos y
-
--- ---- members
-
-pub in_left_part : (y : Id) (xs ys : List Id) → IsIn y xs → IsIn y (xs ++ ys)
-in_left_part y [] ys i = absurd i
-in_left_part y (x ∷ xs) ys (inl e) = inl e
-in_left_part y (x ∷ xs) ys (inr i) = inr (in_left_part y xs ys i)
-
-pub in_right_part : (y : Id) (xs ys : List Id) → IsIn y ys → IsIn y (xs ++ ys)
-in_right_part y [] ys i = i
-in_right_part y (x ∷ xs) ys i = inr (in_right_part y xs ys i)
-
-pub in_parts : (y : Id) (xs ys : List Id) → IsIn y (xs ++ ys) → IsIn y xs ⊎ IsIn y ys
-in_parts y [] ys i = inr i
-in_parts y (x ∷ xs) ys (inl e) = inl (inl e)
-in_parts y (x ∷ xs) ys (inr i) = elim (in_parts y xs ys i) [ inl j ↦ inl (inr j) | inr j ↦ inr j ]
-
-pub in_with_last : (xs : List Id) (x y : Id) → IsIn y (xs ++ x ∷ []) → IsIn y xs ⊎ (y ≡ x)
-in_with_last xs x y i = elim (in_parts y xs (x ∷ []) i) [
-  | inl j ↦ inl j
-  | inr (inl e) ↦ inr e
-  | inr (inr j) ↦ absurd j
-]
-
-pub has_says : (l : List Id) (y : Id) → Says (has_id l y) (IsIn y l) (IsIn y l → ⊥)
-has_says [] y = inr (refl, λ i. i)
-has_says (x ∷ xs) y = elim (same_says x y) [
-  | inl e ↦ inl (rw e.0 refl, inl (sym e.1))
-  | inr e ↦ rw e.0 (elim (has_says xs y) [
-    | inl f ↦ inl (f.0, inr f.1)
-    | inr f ↦ inr (f.0, elim [ inl g ↦ e.1 (sym g) | inr g ↦ f.1 g ])
-  ])
-]
 
 -- ---- a list up to an id and behind it
 

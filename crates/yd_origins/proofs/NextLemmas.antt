@@ -1,12 +1,16 @@
 -- A new row between two neighbours of the order: the table still fits, and the row stands between them.
 use Rattle.std.proofs.Common.{◌≡◌, ◌≢◌, ◌<◌, true, List, [], ◌∷◌, ◌++◌, inl, inr, Some, None, Option, refl, sym, ap, ◌∙◌, subst, arith}
 use Rattle.std.specs.Prelude.{IfSome}
+use Rattle.yd_words.specs.Member.{IsIn}
+use Rattle.yd_words.proofs.OptionLemmas.{if_some_map}
+use Rattle.yd_words.proofs.MemberLemmas.{in_left_part, in_right_part, in_parts}
 use Rattle.yd_ids.specs.declared.id.Id.{Id}
-use Rattle.yd_origins.specs.Ids.{HasSmallerClock, IsIn, first_of, up_to, behind}
+use Rattle.yd_ids.specs.Ids.{HasSmallerClock}
 use Rattle.yd_origins.specs.Table.{Row, OriginTable, ids_of, left_of, right_of, IsTable}
 use Rattle.yd_origins.specs.Before.{is_before, IsLeftFirst, IsBetween, Reaches, by_left, by_right, onward, Fits}
 use Rattle.yd_origins.specs.Sorted.{origin_order, IsNext}
-use Rattle.yd_origins.proofs.MemberLemmas.{place, if_some_map, in_left_part, in_right_part, in_parts, parts_of, in_up_to, in_behind, up_to_or_behind, first_in, first_low, up_to_low, behind_low, Rising, rising_tail, rising_insert}
+use Rattle.yd_origins.specs.Parts.{first_of, up_to, behind}
+use Rattle.yd_origins.proofs.MemberLemmas.{place, parts_of, in_up_to, in_behind, up_to_or_behind, first_in, first_low, up_to_low, behind_low, Rising, rising_tail, rising_insert}
 use Rattle.yd_origins.proofs.LineLemmas.{in_order_alike, Line, first_before, in_order_from_rising, rising_from_in_order}
 use Rattle.yd_origins.proofs.FittingLemmas.{line, after_left, before_right}
 use Rattle.yd_origins.proofs.SharingLemmas.{Share, share_order, share_between_back, share_left_first}

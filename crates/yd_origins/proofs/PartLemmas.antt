@@ -1,38 +1,42 @@
 -- A part that has the lefts and the rights of its rows is a table with the same order, and fits where the table does.
 use Rattle.std.proofs.Common.{◌≡◌, ◌<◌, [], ◌∷◌, inl, inr, refl, sym, ap, ◌∙◌, subst}
 use Rattle.std.specs.Prelude.{IfSome}
+use Rattle.yd_words.specs.Member.{IsIn, AreDistinct}
 use Rattle.yd_ids.specs.declared.id.Id.{Id}
-use Rattle.yd_origins.specs.Ids.{IsIn, AreDistinct}
-use Rattle.yd_origins.specs.Table.{Row, OriginTable, ids_of, left_of, right_of, IsTable, IsRowOf, IsPart}
+use Rattle.yd_ids.proofs.IdLemmas.{same_itself, other_id}
+use Rattle.yd_origins.specs.Table.{Row, OriginTable, ids_of, left_of, right_of, IsTable, IsPart}
 use Rattle.yd_origins.specs.Before.{is_before, IsLeftFirst, IsBetween, Reaches, by_left, by_right, onward, Fits}
-use Rattle.yd_origins.proofs.IdLemmas.{same_itself, other_id}
 use Rattle.yd_origins.proofs.SharingLemmas.{Share, share_order, share_between, share_left_first_back}
 
 -- ---- the rows of a table
 
-pub row_id_in : (row : Row) (table : OriginTable) → IsRowOf row table → IsIn row.id (ids_of table)
+pub row_id_in : (row : Row) (table : OriginTable) → IsIn row table → IsIn row.id (ids_of table)
 row_id_in row [] i = absurd i
 row_id_in row (r ∷ rs) (inl e) = inl (ap (λ v. v.id) e)
 row_id_in row (r ∷ rs) (inr i) = inr (row_id_in row rs i)
 
 -- the left that is found for a row's id is the row's, and so is the right
-pub found_left : (row : Row) (table : OriginTable) → AreDistinct (ids_of table) → IsRowOf row table → left_of table row.id ≡ row.left
+pub found_left : (row : Row) (table : OriginTable) → AreDistinct (ids_of table) → IsIn row table → left_of table row.id ≡ row.left
 found_left row [] d i = absurd i
 found_left row (r ∷ rs) d (inl e) = rw (e, same_itself r.id) refl
 found_left row (r ∷ rs) d (inr i) = rw (other_id r.id row.id (λ e. d.0 (subst (λ v. IsIn v (ids_of rs)) (sym e) (row_id_in row rs i)))) (found_left row rs d.1 i)
 
-pub found_right : (row : Row) (table : OriginTable) → AreDistinct (ids_of table) → IsRowOf row table → right_of table row.id ≡ row.right
+pub found_right : (row : Row) (table : OriginTable) → AreDistinct (ids_of table) → IsIn row table → right_of table row.id ≡ row.right
 found_right row [] d i = absurd i
 found_right row (r ∷ rs) d (inl e) = rw (e, same_itself r.id) refl
 found_right row (r ∷ rs) d (inr i) = rw (other_id r.id row.id (λ e. d.0 (subst (λ v. IsIn v (ids_of rs)) (sym e) (row_id_in row rs i)))) (found_right row rs d.1 i)
 
 -- an id of a table is that of a row
-pub row_of_id : (table : OriginTable) (x : Id) → IsIn x (ids_of table) → (row : Row) × IsRowOf row table × (row.id ≡ x)
+pub row_of_id : (table : OriginTable) (x : Id) → IsIn x (ids_of table) → (row : Row) × IsIn row table × (row.id ≡ x)
 row_of_id [] x i = absurd i
 row_of_id (r ∷ rs) x (inl e) = (r, inl refl, sym e)
 row_of_id (r ∷ rs) x (inr i) = let (row, j, e) = row_of_id rs x i in (row, inr j, e)
 
 -- ---- a part
+
+-- rows of a table that are a table themselves are a part
+pub table_is_part : (part table : OriginTable) → IsTable part → ((row : Row) → IsIn row part → IsIn row table) → IsPart part table
+table_is_part part table t within = record { within = within; distinct = t.distinct; has_left = t.has_left; has_right = t.has_right }
 
 module _ (part table : OriginTable) (t : IsTable table) (p : IsPart part table) where
   abbrev P : Id → Type 0

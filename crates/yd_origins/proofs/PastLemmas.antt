@@ -1,8 +1,8 @@
 -- A closed part of an honest set is honest with the same order, and two operations with their pasts decide their order.
 use Rattle.std.proofs.Common.{◌≡◌, inl, inr, Some, None, Option, refl, sym, ap, ◌∙◌, subst}
 use Rattle.std.specs.Prelude.{IfSome}
+use Rattle.yd_words.specs.Member.{IsIn}
 use Rattle.yd_ids.specs.declared.id.Id.{Id}
-use Rattle.yd_origins.specs.Ids.{IsIn}
 use Rattle.yd_origins.specs.Table.{ids_of, left_of, right_of, IsTable}
 use Rattle.yd_origins.specs.Before.{is_before, IsLeftFirst, IsBetween}
 use Rattle.yd_origins.specs.Operations.{ListNames, OperationSet, list_of_operation, table_of_all, past_of, of_left, of_right, of_parent, of_clock, of_past, MeetsRules, IsHonest, IsClosedPart, AgreeOnPasts, IsOfPasts}

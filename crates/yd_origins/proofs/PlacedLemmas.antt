@@ -1,13 +1,15 @@
 -- A list of rows, each with its left and right behind it, stands in a line, each row after its left and before its right.
 use Rattle.std.proofs.Common.{◌≡◌, ◌≢◌, ℕ, suc, ◌*◌, ◌<◌, ◌≤◌, Bool, true, false, cond, List, [], ◌∷◌, inl, inr, Some, None, Option, refl, sym, ◌∙◌, subst, arith, zero-le}
 use Rattle.std.specs.Prelude.{IfSome}
+use Rattle.yd_words.specs.Member.{IsIn}
+use Rattle.yd_words.specs.Test.{one_if}
+use Rattle.yd_words.proofs.TestLemmas.{split, one_if-one, one_if-zero}
+use Rattle.yd_words.proofs.OptionLemmas.{if_some_map}
 use Rattle.yd_ids.specs.declared.id.Id.{Id}
-use Rattle.yd_origins.specs.Ids.{is_same, IsIn}
+use Rattle.yd_ids.specs.Ids.{is_same}
+use Rattle.yd_ids.proofs.IdLemmas.{same_says, same_itself}
 use Rattle.yd_origins.specs.Before.{by_lines, IsLeftFirst}
-use Rattle.yd_origins.specs.Sorted.{one_if}
-use Rattle.yd_origins.proofs.TestLemmas.{split, one_if-one, one_if-zero}
-use Rattle.yd_origins.proofs.IdLemmas.{same_says, same_itself}
-use Rattle.yd_origins.proofs.MemberLemmas.{place, if_some_map}
+use Rattle.yd_origins.proofs.MemberLemmas.{place}
 use Rattle.yd_origins.proofs.LineLemmas.{Line}
 use Rattle.yd_origins.proofs.StepLemmas.{Step, front, back, one_way, cut_place, cut_high, cut_low, cut_end}
 

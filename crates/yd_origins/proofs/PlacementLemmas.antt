@@ -1,13 +1,15 @@
 -- The scan moves no row, and in a table that fits it puts the new row where the order has it.
 use Rattle.std.proofs.Common.{◌≡◌, ℕ, ◌<◌, ◌≤◌, Bool, List, [], ◌∷◌, ◌++◌, inl, inr, Some, None, Option, refl, sym, ap, ◌∙◌, subst, arith, append_assoc, append-nil}
 use Rattle.std.specs.Prelude.{IfSome}
+use Rattle.yd_words.specs.Member.{IsIn}
+use Rattle.yd_words.proofs.MemberLemmas.{in_left_part, in_right_part, in_parts}
 use Rattle.yd_ids.specs.declared.id.Id.{Id}
-use Rattle.yd_origins.specs.Ids.{IsIn, up_to, behind}
+use Rattle.yd_ids.proofs.IdLemmas.{same_client}
 use Rattle.yd_origins.specs.Table.{OriginTable, ids_of, left_of, right_of, IsTable}
 use Rattle.yd_origins.specs.Before.{is_before, IsInOrder, by_left, by_right, onward, Fits}
 use Rattle.yd_origins.specs.Scan.{Verdict, stops, moves, stays, verdict, walk, scan_place, after_scan}
-use Rattle.yd_origins.proofs.IdLemmas.{same_client}
-use Rattle.yd_origins.proofs.MemberLemmas.{place, in_left_part, in_right_part, in_parts, parts_of, in_behind, up_to_or_behind, up_to_low, behind_low, Rising, rising_tail, rising_insert}
+use Rattle.yd_origins.specs.Parts.{up_to, behind}
+use Rattle.yd_origins.proofs.MemberLemmas.{place, parts_of, in_behind, up_to_or_behind, up_to_low, behind_low, Rising, rising_tail, rising_insert}
 use Rattle.yd_origins.proofs.LineLemmas.{Line, in_order_from_rising, rising_from_in_order}
 use Rattle.yd_origins.proofs.TableLemmas.{height, lines_decide, low_left, low_right}
 use Rattle.yd_origins.proofs.FittingLemmas.{line, after_left, before_right, between_places}

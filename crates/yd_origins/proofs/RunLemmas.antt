@@ -1,11 +1,16 @@
 -- A scanned run goes as its first unit goes, and a new run stands as one where its first unit goes.
 use Rattle.std.proofs.Common.{◌≡◌, ◌≢◌, Bool, true, false, cond, List, [], ◌∷◌, ◌++◌, inl, inr, Some, None, Option, refl, sym, ap, ap₂, ◌∙◌, subst, append_assoc, append-nil}
+use Rattle.yd_words.specs.Test.{is_some_and}
+use Rattle.yd_words.specs.Member.{IsIn, AreDistinct}
+use Rattle.yd_words.proofs.MemberLemmas.{in_left_part, in_right_part, in_parts, in_with_last}
+use Rattle.yd_words.proofs.OptionLemmas.{some_is}
 use Rattle.yd_ids.specs.declared.id.Id.{Id}
-use Rattle.yd_origins.specs.Ids.{is_same, is_same_neighbour, is_some_and, has_id, IsIn, AreDistinct, up_to, behind}
+use Rattle.yd_ids.specs.Ids.{is_same, is_same_neighbour, has_id}
+use Rattle.yd_ids.proofs.IdLemmas.{same_says, same_itself, other_id, has_says}
 use Rattle.yd_origins.specs.Scan.{Verdict, stops, moves, stays, verdict, walk, scan_place, after_scan, after_scans}
 use Rattle.yd_origins.specs.Growing.{IsRun, IsNotAmong, run_walk}
-use Rattle.yd_origins.proofs.IdLemmas.{same_says, same_itself, other_id}
-use Rattle.yd_origins.proofs.MemberLemmas.{in_left_part, in_right_part, in_parts, in_with_last, has_says, in_behind}
+use Rattle.yd_origins.specs.Parts.{up_to, behind}
+use Rattle.yd_origins.proofs.MemberLemmas.{in_behind}
 use Rattle.yd_origins.proofs.WalkLemmas.{walk-stops, walk-moves, walk-stays}
 use Rattle.yd_origins.proofs.PlacementLemmas.{scan_moves_none}
 use Rattle.yd_origins.proofs.GrowingLemmas.{scan_has}
@@ -108,10 +113,7 @@ behind_middle (y ∷ ys) back x once = rw (other_id y x (λ e. once (inl (sym e)
 
 not_among_tail : (z : Option Id) (x : Id) (xs : List Id) → (IsIn x xs → ⊥) → z ≡ Some x → IsNotAmong z xs
 not_among_tail z x [] n e = tt
-not_among_tail z x (y ∷ ys) n e = ((λ g. n (inl (some_is (sym e ∙ g)))), not_among_tail z x ys (λ i. n (inr i)) e)
-  where
-    some_is : ◌≡◌ {A = Option Id} (Some x) (Some y) → x ≡ y
-    some_is g = cc
+not_among_tail z x (y ∷ ys) n e = ((λ g. n (inl (some_is x y (sym e ∙ g)))), not_among_tail z x ys (λ i. n (inr i)) e)
 
 module _ (left right : Id → Option Id) where
   -- the units behind one that was put in come to stand behind it, in turn

@@ -1,12 +1,16 @@
 -- The walk puts each scanned row on the side of the new row where the line has it.
 use Rattle.std.proofs.Common.{◌≡◌, ◌≢◌, ℕ, zero, suc, ◌<◌, ◌≤◌, Bool, List, [], ◌∷◌, ◌++◌, ◌⊎◌, inl, inr, Some, None, Option, refl, sym, ap, ◌∙◌, subst, arith}
 use Rattle.std.specs.Prelude.{IfSome}
+use Rattle.yd_words.specs.Test.{is_some_and}
+use Rattle.yd_words.specs.Member.{IsIn}
+use Rattle.yd_words.proofs.TestLemmas.{Says, split, nat_lt_says}
+use Rattle.yd_words.proofs.MemberLemmas.{in_left_part, in_right_part, in_parts, in_with_last}
+use Rattle.yd_words.proofs.OptionLemmas.{some_is}
 use Rattle.yd_ids.specs.declared.id.Id.{Id}
-use Rattle.yd_origins.specs.Ids.{is_same, is_same_neighbour, is_some_and, has_id, IsIn}
+use Rattle.yd_ids.specs.Ids.{is_same, is_same_neighbour, has_id}
+use Rattle.yd_ids.proofs.IdLemmas.{same_says, greater_client_zero, has_says}
 use Rattle.yd_origins.specs.Scan.{Verdict, stops, moves, stays, verdict, walk}
-use Rattle.yd_origins.proofs.TestLemmas.{Says, split, nat_lt_says}
-use Rattle.yd_origins.proofs.IdLemmas.{same_says, greater_client_zero}
-use Rattle.yd_origins.proofs.MemberLemmas.{place, in_left_part, in_right_part, in_parts, in_with_last, has_says, Rising}
+use Rattle.yd_origins.proofs.MemberLemmas.{place, Rising}
 use Rattle.yd_origins.proofs.LineLemmas.{Line, same_left_says, which_first}
 use Rattle.yd_origins.proofs.SideLemmas.{Sides, sides}
 use Rattle.yd_origins.proofs.WalkLemmas.{Setting, walk-stops, walk-moves, walk-stays}
@@ -120,9 +124,6 @@ module _ (left right : Id → Option Id) (before : Id → Id → Bool) (height :
     | inl e ↦ inl (e.0, (x, refl, e.1))
     | inr e ↦ inr (e.0, λ y f i. e.1 (subst (λ v. IsIn v list) (sym (some_is x y f)) i))
   ]
-    where
-      some_is : (x y : Id) → ◌≡◌ {A = Option Id} (Some x) (Some y) → x ≡ y
-      some_is x y f = cc
 
   -- a scanned row that is not o's right stands before it
   inside : (passed conflicting xs : List Id) (x : Id) → State passed conflicting (x ∷ xs) → l.pos x ≢ right_pos o → l.pos x < right_pos o

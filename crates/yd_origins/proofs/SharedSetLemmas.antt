@@ -1,11 +1,11 @@
 -- Two sets that share some operations, with all that their origins reach, have the same lists and one order of these.
 use Rattle.std.proofs.Common.{◌≡◌, ℕ, zero, suc, ◌<◌, Bool, true, false, Some, None, Option, refl, sym, ap, ◌∙◌, subst, arith}
 use Rattle.std.specs.Prelude.{IfSome, if◌then◌else◌}
+use Rattle.yd_words.proofs.OptionLemmas.{if_some_both}
 use Rattle.yd_ids.specs.declared.id.Id.{Id}
 use Rattle.yd_origins.specs.Table.{left_of, right_of, IsTable}
 use Rattle.yd_origins.specs.Before.{is_before}
 use Rattle.yd_origins.specs.Operations.{ListNames, OperationSet, list_by_origins, list_of_operation, kept_right, table_of_all}
-use Rattle.yd_origins.proofs.MemberLemmas.{if_some_both}
 use Rattle.yd_origins.proofs.TableLemmas.{height, low_left, low_right}
 use Rattle.yd_origins.proofs.SharingLemmas.{Share, share_order}
 use Rattle.yd_origins.proofs.ListLemmas.{list_follows, in_all, all_left, all_right, all_is_table}

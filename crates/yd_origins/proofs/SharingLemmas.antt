@@ -1,12 +1,12 @@
 -- Two tables that share some rows, with all that is reached from them, have one order of these.
 use Rattle.std.proofs.Common.{◌≡◌, Bool, ◌≢◌, ℕ, suc, ◌*◌, true, inl, inr, Some, None, Option, length, sym, ◌∙◌, arith}
 use Rattle.std.specs.Prelude.{IfSome}
+use Rattle.yd_words.specs.Member.{IsIn}
+use Rattle.yd_words.proofs.TestLemmas.{split}
+use Rattle.yd_words.proofs.OptionLemmas.{if_some_both}
 use Rattle.yd_ids.specs.declared.id.Id.{Id}
-use Rattle.yd_origins.specs.Ids.{IsIn}
 use Rattle.yd_origins.specs.Table.{OriginTable, ids_of, left_of, right_of, IsTable}
 use Rattle.yd_origins.specs.Before.{is_before_within, is_before, IsLeftFirst, IsBetween}
-use Rattle.yd_origins.proofs.TestLemmas.{split}
-use Rattle.yd_origins.proofs.MemberLemmas.{if_some_both}
 use Rattle.yd_origins.proofs.BeforeLemmas.{more_uses, uses_agree}
 use Rattle.yd_origins.proofs.TableLemmas.{height, height_small, low_left, low_right}
 

@@ -1,11 +1,12 @@
 -- On which side of the new row a scanned row stands: four facts.
 use Rattle.std.proofs.Common.{◌≡◌, ◌≢◌, ℕ, zero, suc, ◌<◌, ◌≤◌, Bool, List, ◌⊎◌, inl, inr, Some, None, Option, refl, ap, subst, arith}
 use Rattle.std.specs.Prelude.{IfSome}
+use Rattle.yd_words.specs.Member.{IsIn}
+use Rattle.yd_words.specs.Test.{one_if}
+use Rattle.yd_words.proofs.TestLemmas.{split}
 use Rattle.yd_ids.specs.declared.id.Id.{Id}
-use Rattle.yd_origins.specs.Ids.{is_smaller, IsIn}
-use Rattle.yd_origins.specs.Sorted.{one_if}
-use Rattle.yd_origins.proofs.TestLemmas.{split}
-use Rattle.yd_origins.proofs.IdLemmas.{greater_client_zero}
+use Rattle.yd_ids.specs.Ids.{is_smaller}
+use Rattle.yd_ids.proofs.IdLemmas.{greater_client_zero}
 use Rattle.yd_origins.proofs.MemberLemmas.{place}
 use Rattle.yd_origins.proofs.LineLemmas.{Line, which_first, why_first, Reasons}
 use Rattle.yd_origins.proofs.WalkLemmas.{Setting}

@@ -1,12 +1,14 @@
 -- The rows sorted by how many are before each are in order, and no other list of them is.
 use Rattle.std.proofs.Common.{◌≡◌, ◌≢◌, ℕ, ◌+◌, ◌<◌, ◌≤◌, Bool, true, false, ◌||◌, ◌&&◌, List, [], ◌∷◌, ◌⊎◌, inl, inr, nat_lt, nat_eq, refl, sym, ap, ap₂, ◌∙◌, subst, arith, tests, true≢false}
 use Rattle.std.specs.Prelude.{if◌then◌else◌}
+use Rattle.yd_words.specs.Member.{IsIn, AreDistinct}
+use Rattle.yd_words.specs.Test.{one_if}
+use Rattle.yd_words.proofs.TestLemmas.{Says}
 use Rattle.yd_ids.specs.declared.id.Id.{Id}
-use Rattle.yd_origins.specs.Ids.{is_smaller, IsIn, AreDistinct}
+use Rattle.yd_ids.specs.Ids.{is_smaller}
 use Rattle.yd_origins.specs.Table.{OriginTable, ids_of, IsTable}
 use Rattle.yd_origins.specs.Before.{is_before, IsInOrder, Fits}
-use Rattle.yd_origins.specs.Sorted.{one_if, count_before, goes_first, with_id, sorted, origin_order}
-use Rattle.yd_origins.proofs.TestLemmas.{Says}
+use Rattle.yd_origins.specs.Sorted.{count_before, goes_first, with_id, sorted, origin_order}
 use Rattle.yd_origins.proofs.MemberLemmas.{Rising}
 use Rattle.yd_origins.proofs.LineLemmas.{Line, before_says, first_before, in_order_from_rising, rising_from_in_order}
 use Rattle.yd_origins.proofs.TableLemmas.{not_itself}
@@ -49,7 +51,7 @@ origin_order_in table = sorted_has (goes_first table) (ids_of table)
 -- ---- counts
 
 -- where what is before a is before b, no more are before a
-count_at_most : (f : Id → Id → Bool) (zs : List Id) (a b : Id) → ((z : Id) → IsIn z zs → f z a ≡ true → f z b ≡ true) →
+pub count_at_most : (f : Id → Id → Bool) (zs : List Id) (a b : Id) → ((z : Id) → IsIn z zs → f z a ≡ true → f z b ≡ true) →
     count_before f zs a ≤ count_before f zs b
 count_at_most f [] a b both = omega arith
 count_at_most f (z ∷ zs) a b both = go (f z a) (f z b) refl refl (count_at_most f zs a b (λ y i. both y (inr i)))
@@ -60,7 +62,7 @@ count_at_most f (z ∷ zs) a b both = go (f z a) (f z b) refl refl (count_at_mos
     go false u e k le = omega arith
 
 -- and fewer where one of them is before b alone
-count_less : (f : Id → Id → Bool) (zs : List Id) (a b : Id) → ((z : Id) → IsIn z zs → f z a ≡ true → f z b ≡ true) →
+pub count_less : (f : Id → Id → Bool) (zs : List Id) (a b : Id) → ((z : Id) → IsIn z zs → f z a ≡ true → f z b ≡ true) →
     (w : Id) → IsIn w zs → f w a ≡ false → f w b ≡ true → count_before f zs a < count_before f zs b
 count_less f [] a b both w i p q = absurd i
 count_less f (z ∷ zs) a b both w (inl i) p q =

@@ -2,12 +2,13 @@
 -- before the new row is a front of the line.
 use Rattle.std.proofs.Common.{◌≡◌, ◌≢◌, ℕ, zero, suc, ◌+◌, ◌*◌, ◌<◌, ◌≤◌, Bool, true, false, List, [], ◌∷◌, ◌⊎◌, inl, inr, Some, None, Option, refl, sym, ap, subst, arith, le_of_eq, zero-le, max}
 use Rattle.std.specs.Prelude.{IfSome}
+use Rattle.yd_words.specs.Test.{is_some_and, one_if}
+use Rattle.yd_words.specs.Member.{IsIn}
+use Rattle.yd_words.proofs.TestLemmas.{Says, split, one_if_at_most}
 use Rattle.yd_ids.specs.declared.id.Id.{Id}
-use Rattle.yd_origins.specs.Ids.{is_same, is_smaller, is_some_and, IsIn}
+use Rattle.yd_ids.specs.Ids.{is_same, is_smaller}
+use Rattle.yd_ids.proofs.IdLemmas.{other_id, tie_flip, tie_sum}
 use Rattle.yd_origins.specs.Before.{is_up_to, by_lines}
-use Rattle.yd_origins.specs.Sorted.{one_if}
-use Rattle.yd_origins.proofs.TestLemmas.{Says, split, one_if_at_most}
-use Rattle.yd_origins.proofs.IdLemmas.{other_id, tie_flip, tie_sum}
 use Rattle.yd_origins.proofs.MemberLemmas.{place}
 use Rattle.yd_origins.proofs.LineLemmas.{Line, up_to_left_says, from_right_says, same_left_says, later_left_says, which_first, Decided, decided, why_first}
 

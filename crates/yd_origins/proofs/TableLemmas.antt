@@ -1,12 +1,14 @@
 -- In every table the six lines decide, and of two rows one is before the other.
 use Rattle.std.proofs.Common.{◌≡◌, ◌≢◌, ℕ, zero, suc, ◌+◌, ◌*◌, ◌<◌, Bool, true, false, List, ◌⊎◌, inl, inr, Some, None, Option, length, refl, sym, ◌∙◌, subst, arith, true≢false}
 use Rattle.std.specs.Prelude.{IfSome}
+use Rattle.yd_words.specs.Test.{is_some_and}
+use Rattle.yd_words.specs.Member.{IsIn}
+use Rattle.yd_words.proofs.OptionLemmas.{if_some_map, if_some_both}
 use Rattle.yd_ids.specs.declared.id.Id.{Id}
-use Rattle.yd_origins.specs.Ids.{is_same, is_smaller, is_same_neighbour, is_some_and, IsIn}
+use Rattle.yd_ids.specs.Ids.{is_same, is_smaller, is_same_neighbour}
+use Rattle.yd_ids.proofs.IdLemmas.{other_id, same_itself, same_neighbour_flip, smaller_total}
 use Rattle.yd_origins.specs.Table.{OriginTable, ids_of, left_of, right_of, IsTable}
 use Rattle.yd_origins.specs.Before.{is_up_to, is_later_left, by_lines, is_before_within, is_before, IsBefore}
-use Rattle.yd_origins.proofs.IdLemmas.{other_id, same_itself, same_neighbour_flip, smaller_total}
-use Rattle.yd_origins.proofs.MemberLemmas.{if_some_map, if_some_both}
 use Rattle.yd_origins.proofs.LineLemmas.{first_of_lines}
 use Rattle.yd_origins.proofs.PlacedLemmas.{IsListed}
 use Rattle.yd_origins.proofs.BeforeLemmas.{AgreeAt, lines_alike, more_uses}

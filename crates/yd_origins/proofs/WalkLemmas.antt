@@ -1,8 +1,8 @@
 -- The steps of the walk, and what is known where a part of a table is scanned for a new row.
 use Rattle.std.proofs.Common.{◌≡◌, ◌≢◌, ℕ, ◌<◌, Bool, List, [], ◌∷◌, ◌++◌, Some, Option, refl}
 use Rattle.std.specs.Prelude.{IfSome}
+use Rattle.yd_words.specs.Member.{IsIn}
 use Rattle.yd_ids.specs.declared.id.Id.{Id}
-use Rattle.yd_origins.specs.Ids.{IsIn}
 use Rattle.yd_origins.specs.Before.{by_lines}
 use Rattle.yd_origins.specs.Scan.{stops, moves, stays, verdict, walk}
 use Rattle.yd_origins.proofs.MemberLemmas.{place}

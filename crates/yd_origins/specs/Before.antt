@@ -12,8 +12,10 @@
 --
 -- Each use goes from a row to its left or right, so it ends. No scan and no history of arrivals occurs in it.
 use Rattle.std.specs.Prelude.{◌≡◌, ◌≢◌, ℕ, zero, suc, ◌*◌, Bool, true, false, List, [], ◌∷◌, Option, Some, None, IfSome, length}
+use Rattle.yd_words.specs.Test.{is_some_and}
+use Rattle.yd_words.specs.Member.{IsIn}
 use Rattle.yd_ids.specs.declared.id.Id.{Id}
-use Rattle.yd_origins.specs.Ids.{is_same, is_smaller, HasSmallerClock, is_same_neighbour, is_some_and, IsIn}
+use Rattle.yd_ids.specs.Ids.{is_same, is_smaller, HasSmallerClock, is_same_neighbour}
 use Rattle.yd_origins.specs.Table.{OriginTable, ids_of, left_of, right_of}
 
 -- whether two rows are one, or the first is before the second

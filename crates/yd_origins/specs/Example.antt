@@ -1,7 +1,8 @@
 -- Small tables, and what is computed of them (own; the lists that scans give in `TwoClients`, `RightOrigin` and `BrokenRules` are those of Yjs 13).
 use Rattle.std.specs.Prelude.{◌≡◌, true, false, ℕ, List, [], ◌∷◌, ◌++◌, Option, Some, None, refl, nat_lt, if◌then◌else◌}
+use Rattle.yd_words.specs.Test.{is_some_and}
 use Rattle.yd_ids.specs.declared.id.Id.{Id}
-use Rattle.yd_origins.specs.Ids.{is_same_neighbour, is_some_and, has_id}
+use Rattle.yd_ids.specs.Ids.{is_same_neighbour, has_id}
 use Rattle.yd_origins.specs.Table.{Row, OriginTable, left_of, right_of}
 use Rattle.yd_origins.specs.Before.{is_before, IsBetween, Reaches}
 use Rattle.yd_origins.specs.Sorted.{origin_order}

@@ -1,7 +1,8 @@
 -- Growing by scans: a list takes rows one by one, each after all that its maker had (own).
 use Rattle.std.specs.Prelude.{◌≡◌, ◌≢◌, ◌<◌, List, [], ◌∷◌, ◌++◌, Option, Some, IfSome}
+use Rattle.yd_words.specs.Member.{IsIn}
 use Rattle.yd_ids.specs.declared.id.Id.{Id}
-use Rattle.yd_origins.specs.Ids.{HasSmallerClock, IsIn}
+use Rattle.yd_ids.specs.Ids.{HasSmallerClock}
 use Rattle.yd_origins.specs.Table.{OriginTable, ids_of, left_of, right_of}
 use Rattle.yd_origins.specs.Scan.{Verdict, stops, moves, stays, walk, after_scans}
 

@@ -1,12 +1,13 @@
 -- The laws of the order from origins and of the integration scan, over tables: what is said first, and then of which tables.
 use Rattle.std.specs.Prelude.{◌≡◌, ◌≢◌, ◌<◌, ◌↔◌, ◌⊎◌, false, List, ◌∷◌, ◌++◌, Option, Some, IfSome}
+use Rattle.yd_words.specs.Member.{IsIn, AreDistinct}
 use Rattle.yd_ids.specs.declared.id.Id.{Id}
-use Rattle.yd_origins.specs.Ids.{IsIn, AreDistinct, up_to, behind}
-use Rattle.yd_origins.specs.Table.{Row, OriginTable, ids_of, left_of, right_of, IsTable, IsRowOf, IsPart}
+use Rattle.yd_origins.specs.Table.{Row, OriginTable, ids_of, left_of, right_of, IsTable, IsPart}
 use Rattle.yd_origins.specs.Before.{by_lines, is_before, IsBefore, IsInOrder, Fits}
 use Rattle.yd_origins.specs.Sorted.{origin_order, IsNext}
 use Rattle.yd_origins.specs.Scan.{verdict, walk, scan_place, after_scan, after_scans}
 use Rattle.yd_origins.specs.Growing.{IsReadyFor, GrowsByScan, IsClosed, IsRun, IsNotAmong, run_walk}
+use Rattle.yd_origins.specs.Parts.{up_to, behind}
 
 -- ---- the order
 
@@ -48,7 +49,7 @@ PartKeepsOrder = (part table : OriginTable) → IsTable table → IsPart part ta
 pub record IsSortedOneWay (table : OriginTable) : Type 0 where
   pub in_order : IsInOrder (is_before table) (origin_order table)
   pub alone : (list : List Id) → IsInOrder (is_before table) list → ((x : Id) → IsIn x list ↔ IsIn x (ids_of table)) → list ≡ origin_order table
-  pub any_arrangement : (other : OriginTable) → IsTable other → ((row : Row) → IsRowOf row table ↔ IsRowOf row other) → origin_order other ≡ origin_order table
+  pub any_arrangement : (other : OriginTable) → IsTable other → ((row : Row) → IsIn row table ↔ IsIn row other) → origin_order other ≡ origin_order table
 
 -- the sorted rows are the rows, and where the table fits they are the one list of them in order
 pub record SortingGivesOrder : Type 0 where

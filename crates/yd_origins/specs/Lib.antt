@@ -2,9 +2,9 @@ pub mod Before
 pub mod Deleted
 pub mod Example
 pub mod Growing
-pub mod Ids
 pub mod Law
 pub mod Operations
+pub mod Parts
 pub mod Scan
 pub mod SetLaw
 pub mod Sorted

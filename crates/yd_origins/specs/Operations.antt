@@ -1,10 +1,12 @@
 -- Sets of operations of any lists: the list of each, the table of each list, and the edit rules (own).
 use Rattle.std.specs.Prelude.{◌≡◌, ◌<◌, ◌⊎◌, ℕ, zero, suc, Bool, Decides, [], ◌∷◌, Option, Some, None, IfSome, filter, length, if◌then◌else◌}
+use Rattle.yd_words.specs.Member.{IsIn}
 use Rattle.yd_ids.specs.declared.id.Id.{Id}
-use Rattle.yd_origins.specs.Ids.{is_same, HasSmallerClock, IsIn, first_of, behind}
+use Rattle.yd_ids.specs.Ids.{is_same, HasSmallerClock}
 use Rattle.yd_origins.specs.Table.{Row, OriginTable, ids_of, left_of, right_of, IsPart}
 use Rattle.yd_origins.specs.Before.{is_before, IsLeftFirst, IsBetween}
 use Rattle.yd_origins.specs.Sorted.{origin_order}
+use Rattle.yd_origins.specs.Parts.{first_of, behind}
 
 -- ---- lists of operations
 

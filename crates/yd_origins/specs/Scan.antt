@@ -19,8 +19,10 @@
 --   its left is passed                                         the place moves behind it
 --   otherwise                                                  the scan stops
 use Rattle.std.specs.Prelude.{List, [], ◌∷◌, ◌++◌, Option, nat_lt, if◌then◌else◌}
+use Rattle.yd_words.specs.Test.{is_some_and}
 use Rattle.yd_ids.specs.declared.id.Id.{Id}
-use Rattle.yd_origins.specs.Ids.{is_same, is_same_neighbour, is_some_and, has_id, up_to, behind}
+use Rattle.yd_ids.specs.Ids.{is_same, is_same_neighbour, has_id}
+use Rattle.yd_origins.specs.Parts.{up_to, behind}
 
 -- what a scanned row does: the scan stops in front of it, the place moves behind it, or the scan goes on and the place stays
 pub data Verdict : Type 0 where

@@ -1,7 +1,7 @@
 -- The laws of the order from origins over sets of operations, for every type of the names of lists.
 use Rattle.std.specs.Prelude.{◌≡◌, ◌≢◌, ◌↔◌, ◌⊎◌, Bool, true, false, List, ◌∷◌, ◌++◌, Some}
+use Rattle.yd_words.specs.Member.{IsIn}
 use Rattle.yd_ids.specs.declared.id.Id.{Id}
-use Rattle.yd_origins.specs.Ids.{IsIn, up_to, behind}
 use Rattle.yd_origins.specs.Table.{Row, ids_of, left_of, right_of, IsTable}
 use Rattle.yd_origins.specs.Before.{is_before, IsBefore, IsInOrder, Fits}
 use Rattle.yd_origins.specs.Sorted.{origin_order}
@@ -9,6 +9,7 @@ use Rattle.yd_origins.specs.Growing.{GrowsByScan, IsClosed}
 use Rattle.yd_origins.specs.Law.{IsFrontOfOrder}
 use Rattle.yd_origins.specs.Deleted.{IsDeleted}
 use Rattle.yd_origins.specs.Operations.{ListNames, OperationSet, list_by_origins, list_of_operation, table_of_all, table_of_list, IsHonest, IsClosedPart, AgreeOnPasts, with_operation, HasParents, IsMade}
+use Rattle.yd_origins.specs.Parts.{up_to, behind}
 
 -- ---- lists
 

@@ -1,14 +1,12 @@
 -- The origin order: the rows of a table, sorted by how many are before each (own).
-use Rattle.std.specs.Prelude.{◌≡◌, ◌<◌, ℕ, ◌+◌, Bool, true, false, ◌||◌, ◌&&◌, List, [], ◌∷◌, IfSome, nat_lt, nat_eq, if◌then◌else◌}
+use Rattle.std.specs.Prelude.{◌≡◌, ◌<◌, ℕ, ◌+◌, Bool, ◌||◌, ◌&&◌, List, [], ◌∷◌, IfSome, nat_lt, nat_eq, if◌then◌else◌}
+use Rattle.yd_words.specs.Member.{IsIn}
+use Rattle.yd_words.specs.Test.{one_if}
 use Rattle.yd_ids.specs.declared.id.Id.{Id}
-use Rattle.yd_origins.specs.Ids.{is_smaller, IsIn, first_of, behind}
+use Rattle.yd_ids.specs.Ids.{is_smaller}
 use Rattle.yd_origins.specs.Table.{Row, OriginTable, ids_of}
 use Rattle.yd_origins.specs.Before.{is_before}
-
--- one where the test holds
-abbrev pub one_if : Bool → ℕ
-one_if true = 1
-one_if false = 0
+use Rattle.yd_origins.specs.Parts.{first_of, behind}
 
 -- how many of the ids are before one
 abbrev pub count_before : (Id → Id → Bool) → List Id → Id → ℕ

@@ -1,7 +1,8 @@
 -- Tables of origins: rows with a left and a right each, where the laws of the order are stated (own).
-use Rattle.std.specs.Prelude.{◌≡◌, ◌<◌, ◌⊎◌, ℕ, List, [], ◌∷◌, Option, None, IfSome, if◌then◌else◌}
+use Rattle.std.specs.Prelude.{◌<◌, ℕ, List, [], ◌∷◌, Option, None, IfSome, if◌then◌else◌}
+use Rattle.yd_words.specs.Member.{IsIn, AreDistinct}
 use Rattle.yd_ids.specs.declared.id.Id.{Id}
-use Rattle.yd_origins.specs.Ids.{is_same, IsIn, AreDistinct}
+use Rattle.yd_ids.specs.Ids.{is_same}
 
 -- a row: an id, and what stood on its left and on its right when it was made, where something did
 pub record Row : Type 0 where
@@ -41,14 +42,9 @@ pub record IsTable (table : OriginTable) : Type 0 where
   pub has_right : (x : Id) → IsIn x (ids_of table) → IfSome (right_of table x) (λ y. IsIn y (ids_of table))
   pub ends : Ends table
 
--- the row is one of the table's
-abbrev pub IsRowOf : Row → OriginTable → Type 0
-IsRowOf row [] = ⊥
-IsRowOf row (r ∷ rs) = (row ≡ r) ⊎ IsRowOf row rs
-
 -- some rows of a table, each once, with the lefts and the rights that they have
 pub record IsPart (part table : OriginTable) : Type 0 where
-  pub within : (row : Row) → IsRowOf row part → IsRowOf row table
+  pub within : (row : Row) → IsIn row part → IsIn row table
   pub distinct : AreDistinct (ids_of part)
   pub has_left : (x : Id) → IsIn x (ids_of part) → IfSome (left_of part x) (λ y. IsIn y (ids_of part))
   pub has_right : (x : Id) → IsIn x (ids_of part) → IfSome (right_of part x) (λ y. IsIn y (ids_of part))

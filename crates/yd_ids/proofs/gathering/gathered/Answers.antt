@@ -1,9 +1,9 @@
 use Rattle.std.proofs.Common.{sym, subst}
-use Rattle.yd_ids.specs.Each.{Each}
+use Rattle.yd_words.specs.Each.{Each}
+use Rattle.yd_words.proofs.EachLemmas.{each_permuted}
 use Rattle.yd_ids.specs.Gathering.{AreOrdered}
 use Rattle.yd_ids.specs.Id.{IsSpan}
 use Rattle.yd_ids.specs.Set.{HaveSameIds}
-use Rattle.yd_ids.proofs.EachLemmas.{each_permuted}
 use Rattle.yd_ids.proofs.GatheringLemmas.{sorted_ordered}
 use Rattle.yd_ids.proofs.SetLemmas.{same_back, same_through, permuted_same}
 use Rattle.yd_ids.proofs.gathering.gathered.Goals as goal

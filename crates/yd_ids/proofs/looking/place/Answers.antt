@@ -1,8 +1,8 @@
 use Rattle.std.proofs.Common.{rules, of_calls}
 use Rattle.std.proofs.lemmas.Fn.{always_returns_same}
+use Rattle.yd_words.proofs.EachLemmas.{each_take, each_drop}
 use Rattle.yd_ids.specs.declared.id.Span.{Span}
 use Rattle.yd_ids.specs.Span.{EndsBelow, Reaches, ends_below}
-use Rattle.yd_ids.proofs.EachLemmas.{each_take, each_drop}
 use Rattle.yd_ids.proofs.SetLemmas.{spans_parted}
 use Rattle.yd_ids.proofs.SpanLemmas.{below_true, below_false}
 use Rattle.yd_ids.proofs.looking.place.Goals as goal

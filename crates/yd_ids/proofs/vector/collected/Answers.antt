@@ -1,7 +1,7 @@
 use Rattle.std.proofs.Common.{sym, ◌∙◌, subst}
-use Rattle.yd_ids.specs.Each.{Each}
+use Rattle.yd_words.specs.Each.{Each}
+use Rattle.yd_words.proofs.EachLemmas.{each_permuted}
 use Rattle.yd_ids.specs.Vector.{IsEntry, HasGreatest}
-use Rattle.yd_ids.proofs.EachLemmas.{each_permuted}
 use Rattle.yd_ids.proofs.EntriesLemmas.{greatest_permuted}
 use Rattle.yd_ids.proofs.vector.collected.Goals as goal
 

@@ -1,7 +1,7 @@
 use Rattle.std.proofs.Common.{◌≡◌, ℕ, true, false, nat_lt, rules, of_calls}
 use Rattle.std.proofs.lemmas.Fn.{always_returns_same}
+use Rattle.yd_words.proofs.EachLemmas.{each_take, each_drop}
 use Rattle.yd_ids.specs.declared.id.Client.{Client}
-use Rattle.yd_ids.proofs.EachLemmas.{each_take, each_drop}
 use Rattle.yd_ids.proofs.VectorLemmas.{clients_parted}
 use Rattle.yd_ids.proofs.vector.place.Goals as goal
 

@@ -1,5 +1,5 @@
+use Rattle.yd_words.proofs.EachLemmas.{each_at}
 use Rattle.yd_ids.specs.Vector.{IsEntry}
-use Rattle.yd_ids.proofs.EachLemmas.{each_at}
 use Rattle.yd_ids.proofs.EntriesLemmas.{raising_raises}
 use Rattle.yd_ids.proofs.vector.raised_by.Goals as goal
 

@@ -1,9 +1,10 @@
 use Rattle.std.proofs.Common.{◌≡◌, List, map, ap, ◌∙◌}
+use Rattle.yd_words.specs.Member.{IsIn}
 use Rattle.yd_ops.specs.declared.lists.List.{List as DocList}
 use Rattle.yd_ops.specs.Operation.{Operation}
 use Rattle.yd_origins.specs.Table.{IsTable}
 use Rattle.yd_meaning.specs.Names.{item_of_list}
-use Rattle.yd_meaning.specs.Received.{IsOneOf, IsWritten}
+use Rattle.yd_meaning.specs.Received.{IsWritten}
 use Rattle.yd_meaning.specs.Held.{held_set}
 use Rattle.yd_meaning.specs.Order.{rows_of, order_of}
 use Rattle.yd_meaning.specs.Document.{operations_at}
@@ -34,5 +35,5 @@ returns c = whole
         table = held_is_table received written
 
         shown : (list : DocList) → (map (λ (o : Operation). o.id) (operations_at held (order_of held list)) ≡ order_of held list)
-            × ((o : Operation) → IsOneOf o (operations_at held (order_of held list)) → IsOneOf o held)
+            × ((o : Operation) → IsIn o (operations_at held (order_of held list)) → IsIn o held)
         shown list = operations_held held table.distinct (order_of held list) (λ x i. ((in_order_of held table list x).0 i).0)

@@ -1,5 +1,5 @@
 use Rattle.std.proofs.Common.{◌≡◌, sym, ap, ◌∙◌, arith}
-use Rattle.yd_origins.specs.Sorted.{one_if}
+use Rattle.yd_words.specs.Test.{one_if}
 use Rattle.yd_order.specs.Filling.{is_before_at}
 use Rattle.yd_order.proofs.CountingLemmas.{count_from_start, count_more, count_done}
 use Rattle.yd_order.proofs.counting.count_before.Goals as goal

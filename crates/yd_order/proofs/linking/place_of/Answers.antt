@@ -1,6 +1,6 @@
 use Rattle.std.proofs.Common.{rules, of_calls, sym, ◌∙◌, arith}
 use Rattle.std.proofs.lemmas.Fn.{always_returns_same}
-use Rattle.yd_origins.specs.Ids.{is_smaller}
+use Rattle.yd_ids.specs.Ids.{is_smaller}
 use Rattle.yd_order.specs.declared.rows.OriginRow.{OriginRow}
 use Rattle.yd_order.proofs.AscendingLemmas.{rows_parted, place_found, other_there, none_found}
 use Rattle.yd_order.proofs.linking.place_of.Goals as goal

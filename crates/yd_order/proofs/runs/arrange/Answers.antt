@@ -1,5 +1,5 @@
 use Rattle.std.proofs.Common.{map, subst, sym, ap, ◌∙◌}
-use Rattle.yd_ids.specs.Each.{Each}
+use Rattle.yd_words.specs.Each.{Each}
 use Rattle.yd_ops.specs.View.{run_value}
 use Rattle.yd_origins.specs.Sorted.{origin_order}
 use Rattle.yd_origins.specs.Table.{IsTable}

@@ -1,6 +1,6 @@
 use Rattle.std.proofs.Common.{refl}
+use Rattle.yd_ids.proofs.IdLemmas.{differs}
 use Rattle.yd_origins.specs.Before.{by_left, by_right, onward}
-use Rattle.yd_origins.proofs.IdLemmas.{differs}
 use Rattle.yd_origins.proofs.example.row_between.Goals as goal
 
 pub returns : goal.returns

@@ -3,7 +3,7 @@ use Rattle.std.proofs.Common.{ℕ, zero, suc, ◌<◌, List, [], ◌∷◌, ◌+
 use Rattle.std.specs.List.{AllWithin}
 use Rattle.std.specs.List.Sorted.{IsPermutation}
 use Rattle.std.proofs.lemmas.List.Sorted.{All-permutation}
-use Rattle.yd_ids.specs.Each.{Each}
+use Rattle.yd_words.specs.Each.{Each}
 
 pub each_weaker : {X : Type 0} (P Q : X → Type 0) → ((x : X) → P x → Q x) → (xs : List X) → Each P xs → Each Q xs
 each_weaker P Q f [] h = tt
@@ -22,6 +22,11 @@ pub each_at : {X : Type 0} (P : X → Type 0) (xs : List X) (n : ℕ) (d : X) �
 each_at P [] n d h lt = absurd (omega arith)
 each_at P (x ∷ xs) zero d h lt = h.0
 each_at P (x ∷ xs) (suc n) d h lt = each_at P xs n d h.1 (omega arith)
+
+pub each_front : {X : Type 0} (P : X → Type 0) (xs : List X) (n : ℕ) → Each P xs → Each P (take n xs)
+each_front P xs zero h = tt
+each_front P [] (suc n) h = tt
+each_front P (x ∷ xs) (suc n) h = (h.0, each_front P xs n h.1)
 
 pub each_take : {X : Type 0} (P : X → Type 0) (xs : List X) (n : ℕ) → AllWithin P xs 0 n → Each P (take n xs)
 each_take P xs zero h = tt

@@ -1,7 +1,7 @@
 -- Tests, what they say, and their answers as numbers.
-use Rattle.std.proofs.Common.{◌≡◌, ℕ, ◌<◌, ◌≤◌, Bool, true, false, ◌⊎◌, inl, inr, nat_lt, refl, sym, arith, tests}
+use Rattle.std.proofs.Common.{◌≡◌, ◌≢◌, ℕ, ◌<◌, ◌≤◌, Bool, true, false, ◌&&◌, ◌⊎◌, inl, inr, nat_lt, refl, sym, arith, tests, true≢false}
 use Rattle.std.specs.Prelude.{Decides}
-use Rattle.yd_origins.specs.Sorted.{one_if}
+use Rattle.yd_words.specs.Test.{one_if}
 
 -- a test came out one way or the other, with what each says
 abbrev pub Says : Bool → Type 0 → Type 0 → Type 0
@@ -10,6 +10,10 @@ Says test holds fails = (test ≡ true) × holds ⊎ (test ≡ false) × fails
 -- one of two numbers is at most the other, or greater
 pub split : (m n : ℕ) → (m ≤ n) ⊎ (n < m)
 split m n = grind arith
+
+-- two numbers are one or two
+pub same_or_other : (m n : ℕ) → (m ≡ n) ⊎ (m ≢ n)
+same_or_other m n = grind arith
 
 pub nat_lt_says : (m n : ℕ) → Says (nat_lt m n) (m < n) (n ≤ m)
 nat_lt_says m n = go (nat_lt m n) refl
@@ -27,6 +31,16 @@ pub one_answer : {P : Type 0} (t u : Bool) → Decides t P → Decides u P → t
 one_answer true u first second = sym (second.1 (first.0 refl))
 one_answer false true first second = first.1 (second.0 refl)
 one_answer false false first second = refl
+
+-- two tests that hold together hold each
+pub both_hold : (s t : Bool) → s && t ≡ true → (s ≡ true) × (t ≡ true)
+both_hold true t e = (refl, e)
+both_hold false t e = absurd (true≢false (sym e))
+
+-- and two that hold each hold together
+pub hold_both : (s t : Bool) → s ≡ true → t ≡ true → s && t ≡ true
+hold_both true t e f = f
+hold_both false t e f = absurd (true≢false (sym e))
 
 -- ---- answers as numbers
 

@@ -1,9 +1,10 @@
--- Ids: when two are one, and that of two the smaller is told.
-use Rattle.std.proofs.Common.{◌≡◌, ◌≢◌, ◌+◌, ◌≤◌, ◌<◌, Bool, true, false, Option, Some, None, inl, inr, refl, sym, ◌∙◌, subst, arith, tests, true≢false}
+-- Ids: when two are one, and that of two the smaller and the one that is written first are told.
+use Rattle.std.proofs.Common.{◌≡◌, ◌≢◌, ◌+◌, ◌≤◌, ◌<◌, Bool, true, false, List, [], ◌∷◌, Option, Some, None, inl, inr, refl, sym, ◌∙◌, subst, arith, tests, true≢false}
+use Rattle.yd_words.specs.Member.{IsIn}
+use Rattle.yd_words.specs.Test.{one_if}
+use Rattle.yd_words.proofs.TestLemmas.{Says, one_if_at_most}
 use Rattle.yd_ids.specs.declared.id.Id.{Id}
-use Rattle.yd_origins.specs.Ids.{is_same, is_smaller, is_same_neighbour}
-use Rattle.yd_origins.specs.Sorted.{one_if}
-use Rattle.yd_origins.proofs.TestLemmas.{Says, one_if_at_most}
+use Rattle.yd_ids.specs.Ids.{is_same, is_smaller, is_written_before, is_same_neighbour, has_id}
 
 -- ---- one id
 
@@ -81,3 +82,36 @@ tie_sum a b c = go (is_smaller a b) (is_smaller b c) refl refl
     go true true e f = rw (smaller_through a b c e f) (omega arith)
     go true false e f = omega arith
     go false u e f = omega (arith, one_if_at_most u)
+
+-- ---- the id that is written first
+
+pub written_itself : (a : Id) → is_written_before a a ≡ false
+written_itself a = grind (arith, tests)
+
+pub written_through : (a b c : Id) → is_written_before a b ≡ true → is_written_before b c ≡ true → is_written_before a c ≡ true
+written_through a b c p q = grind (arith, tests)
+
+pub written_other : (a b : Id) → is_same a b ≡ false → is_written_before a b ≡ false → is_written_before b a ≡ true
+written_other a b p q = grind (arith, tests)
+
+-- an id that is written before another is not that one
+pub written_differs : (a b : Id) → is_written_before a b ≡ true → a ≢ b
+written_differs a b p e = true≢false (sym (subst (λ x. is_written_before a x ≡ true) (sym e) p) ∙ written_itself a)
+
+pub written_one_way : (a b : Id) → is_written_before a b ≡ true → is_written_before b a ≡ true → ⊥
+written_one_way a b p q = written_differs a a (written_through a b a p q) refl
+
+-- ---- ids in a list
+
+pub has_says : (l : List Id) (y : Id) → Says (has_id l y) (IsIn y l) (IsIn y l → ⊥)
+has_says [] y = inr (refl, λ i. i)
+has_says (x ∷ xs) y = elim (same_says x y) [
+  | inl e ↦ inl (rw e.0 refl, inl (sym e.1))
+  | inr e ↦ rw e.0 (elim (has_says xs y) [
+    | inl f ↦ inl (f.0, inr f.1)
+    | inr f ↦ inr (f.0, elim [ inl g ↦ e.1 (sym g) | inr g ↦ f.1 g ])
+  ])
+]
+
+pub has_is : (l : List Id) (y : Id) → has_id l y ≡ true → IsIn y l
+has_is l y e = elim (has_says l y) [ inl f ↦ f.1 | inr f ↦ absurd (true≢false (sym e ∙ f.0)) ]

@@ -1,0 +1,5 @@
+pub mod EachLemmas
+pub mod FilterLemmas
+pub mod MemberLemmas
+pub mod OptionLemmas
+pub mod TestLemmas
