@@ -1,6 +1,6 @@
 -- What words ask for, as the code finds it.
 use Rattle.std.proofs.Common.{◌≡◌, ◌≢◌, ℕ, zero, suc, ◌<◌, List, [], ◌∷◌, length, map, get_or, take, sym, subst, ap, ◌∙◌, arith}
-use Rattle.yd_ids.specs.Each.{Each}
+use Rattle.yd_words.specs.Each.{Each}
 use Rattle.yd_app.specs.Asking.{NameNoFiles}
 use Rattle.yd_app.specs.Seen.{file_of}
 use Rattle.yd_app.specs.Words.{AreOfNoForm, File, Format, IsNamed, convert, file_word, show_text, words_of}

@@ -1,8 +1,8 @@
 -- What a file is: one thing, and there always is one; and so of lists of files.
 use Rattle.std.proofs.Common.{◌≡◌, ◌⊎◌, ◌^◌, ◌<◌, ◌≤◌, ℕ, List, [], ◌∷◌, ◌++◌, length, arith, Option, Some, None, Result, Ok, Err, inl, inr, refl, sym, subst, ap, ◌∙◌}
 use Rattle.std.proofs.lemmas.Bool.{cases_lt}
+use Rattle.yd_words.specs.Each.{Each}
 use Rattle.yd_parts.specs.Fault.{Fault}
-use Rattle.yd_ids.specs.Each.{Each}
 use Rattle.yd_ops.specs.Valid.{IsValidUpdate}
 use Rattle.yd_ops.specs.Value.{UpdateValue}
 use Rattle.yd_world.specs.Shelf.{Shelf}

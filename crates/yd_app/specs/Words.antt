@@ -1,6 +1,6 @@
 -- What the words ask for (own).
 use Rattle.std.specs.Prelude.{◌≡◌, ℕ, ◌<◌, List, ◌∷◌, ◌++◌, length, map, codes}
-use Rattle.yd_ids.specs.Each.{Each}
+use Rattle.yd_words.specs.Each.{Each}
 
 -- how a file spells an update
 pub data Format : Type 0 where

@@ -1,7 +1,7 @@
 //! What the words ask for.
 
 ghost use Rattle.std.specs.Prelude.{◌≡◌, ◌≢◌, ◌<◌, ◌∷◌, [], length, map, IfSome, IfNone, IfOk, IfErr, ℕ, List};
-ghost use Rattle.yd_ids.specs.Each.{Each};
+ghost use Rattle.yd_words.specs.Each.{Each};
 ghost use Rattle.yd_app.specs.Asking.{StopsAsking, StopsNaming};
 ghost use Rattle.yd_app.specs.Seen.{command_of, file_of as seen, files_of, format_of};
 ghost use Rattle.yd_app.specs.Words.{Asks, Format as AskedFormat, IsNamed, convert, file_word, show_text, word_of, words_of};

@@ -2,14 +2,14 @@
 use Rattle.std.proofs.Common.{◌≡◌, ℕ, ◌+◌, ◌<◌, List, [], ◌∷◌, ◌++◌, ◌⊎◌, inl, inr, length, get_or, take, refl, sym, ◌∙◌, subst, arith}
 use Rattle.std.specs.Prelude.{◌↔◌}
 use Rattle.std.proofs.lemmas.List.{take_more}
+use Rattle.yd_words.specs.Member.{IsIn}
+use Rattle.yd_words.proofs.TestLemmas.{split}
 use Rattle.yd_ids.specs.declared.id.Id.{Id}
 use Rattle.yd_ids.specs.declared.id.Span.{Span}
 use Rattle.yd_ids.specs.Id.{IsSpan}
 use Rattle.yd_ids.specs.Span.{InSpan}
 use Rattle.yd_ids.specs.Set.{HasId, AddsSpan}
-use Rattle.yd_origins.specs.Ids.{IsIn}
-use Rattle.yd_origins.proofs.IdLemmas.{same_numbers}
-use Rattle.yd_origins.proofs.TestLemmas.{split}
+use Rattle.yd_ids.proofs.IdLemmas.{same_numbers}
 use Rattle.yd_doc.specs.Deleting.{span_of_id, AddsIds}
 
 -- the new spans and one that is still to be added have the ids of the old ones and these

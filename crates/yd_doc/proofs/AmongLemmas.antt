@@ -1,13 +1,13 @@
 -- The table of a list: the rows of that list, where a right that is not the id of one of them counts as absent.
 use Rattle.std.proofs.Common.{◌≡◌, Bool, true, false, [], ◌∷◌, Option, Some, None, inl, inr, refl, sym, ap, ◌∙◌, subst, true≢false}
 use Rattle.std.specs.Prelude.{IfSome, filter, if◌then◌else◌}
+use Rattle.yd_words.specs.Member.{IsIn}
+use Rattle.yd_words.proofs.TestLemmas.{test_fails}
 use Rattle.yd_ids.specs.declared.id.Id.{Id}
-use Rattle.yd_origins.specs.Ids.{is_same, has_id, IsIn}
+use Rattle.yd_ids.specs.Ids.{is_same, has_id}
+use Rattle.yd_ids.proofs.IdLemmas.{other_id, has_says}
 use Rattle.yd_origins.specs.Table.{Row, OriginTable, ids_of, right_of, IsTable}
 use Rattle.yd_origins.specs.Operations.{ListNames, OperationSet, list_of_operation, kept_right, with_rights, table_of_list}
-use Rattle.yd_origins.proofs.TestLemmas.{test_fails}
-use Rattle.yd_origins.proofs.IdLemmas.{other_id}
-use Rattle.yd_origins.proofs.MemberLemmas.{has_says}
 use Rattle.yd_origins.proofs.ListLemmas.{rights_alike}
 use Rattle.yd_origins.proofs.ListTableLemmas.{where_in, in_where, own_is_table}
 use Rattle.yd_order.specs.Stretch.{right_among, among_rows}

@@ -2,16 +2,16 @@
 use Rattle.std.proofs.Common.{◌≡◌, ℕ, zero, suc, ◌+◌, min, ◌<◌, Bool, true, false, ◌&&◌, ◌||◌, List, [], ◌∷◌, nat_eq, nat_lt, refl, sym, ap, ap₂, ◌∙◌, arith, tests, true≢false}
 use Rattle.std.specs.Prelude.{if◌then◌else◌}
 use Rattle.std.proofs.lemmas.Bool.{false_from_ne_true}
+use Rattle.yd_words.specs.Test.{one_if}
 use Rattle.yd_ids.specs.declared.id.Client.{Client}
 use Rattle.yd_ids.specs.declared.id.Id.{Id}
 use Rattle.yd_ids.specs.declared.id.Span.{Span}
 use Rattle.yd_ids.specs.Set.{AreMaximal}
+use Rattle.yd_ids.specs.Ids.{is_same, is_written_before}
 use Rattle.yd_ids.proofs.SetLemmas.{once}
-use Rattle.yd_origins.specs.Ids.{is_same}
-use Rattle.yd_origins.specs.Sorted.{one_if}
-use Rattle.yd_origins.proofs.IdLemmas.{same_is}
+use Rattle.yd_ids.proofs.IdLemmas.{same_is}
 use Rattle.yd_ops.specs.Operation.{Operation}
-use Rattle.yd_meaning.specs.Received.{has_operation, is_written_before, IsWritten}
+use Rattle.yd_meaning.specs.Received.{has_operation, IsWritten}
 use Rattle.yd_meaning.specs.Held.{held_set, held_clock, is_in_span, is_named, named_count}
 use Rattle.yd_meaning.proofs.OneOfLemmas.{operation_with}
 use Rattle.yd_meaning.proofs.VectorLemmas.{held_below, held_written}

@@ -1,7 +1,7 @@
 -- All but the last of a list of ids: where no id stands twice, those that do not stand last.
 use Rattle.std.proofs.Common.{◌≡◌, ◌≢◌, suc, ◌-◌, List, [], ◌∷◌, Some, inl, inr, length, take, sym, ap, ◌∙◌, subst, arith}
+use Rattle.yd_words.specs.Member.{IsIn, AreDistinct}
 use Rattle.yd_ids.specs.declared.id.Id.{Id}
-use Rattle.yd_origins.specs.Ids.{IsIn, AreDistinct}
 use Rattle.yd_origins.specs.Deleted.{last_of}
 use Rattle.yd_doc.specs.Deleting.{all_but_last}
 

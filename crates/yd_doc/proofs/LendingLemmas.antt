@@ -3,6 +3,8 @@ use Rattle.std.proofs.Common.{◌≡◌, ℕ, zero, suc, ◌+◌, ◌-◌, ◌<�
 use Rattle.std.specs.Prelude.{◌↔◌, slice_get, Decides}
 use Rattle.std.proofs.lemmas.Option.{slice_get-get_or}
 use Rattle.std.proofs.lemmas.Bool.{or_right}
+use Rattle.yd_words.specs.Member.{AreDistinct, IsIn as IsOneOf}
+use Rattle.yd_words.proofs.TestLemmas.{one_answer}
 use Rattle.yd_ids.specs.declared.id.Id.{Id}
 use Rattle.yd_ids.specs.declared.id.Span.{Span}
 use Rattle.yd_ids.specs.Id.{IsClock}
@@ -12,10 +14,8 @@ use Rattle.yd_ops.specs.Operation.{UnitContent, Operation, later_id, units_of_co
 use Rattle.yd_ops.specs.Value.{len_of}
 use Rattle.yd_ops.specs.View.{content_value}
 use Rattle.yd_ops.proofs.OperationLemmas.{length-units_of_content}
-use Rattle.yd_origins.specs.Ids.{AreDistinct}
 use Rattle.yd_origins.specs.Table.{ids_of}
-use Rattle.yd_origins.proofs.TestLemmas.{one_answer}
-use Rattle.yd_meaning.specs.Received.{IsOneOf, has_operation}
+use Rattle.yd_meaning.specs.Received.{has_operation}
 use Rattle.yd_meaning.specs.Held.{is_named}
 use Rattle.yd_meaning.specs.Order.{rows_of}
 use Rattle.yd_meaning.specs.Document.{operation_before, operations_at}

@@ -1,19 +1,18 @@
 -- The order of a list is that of the stretches with its number.
 use Rattle.std.proofs.Common.{◌≡◌, ℕ, Bool, List, Option, Some, None, take, drop, map, sym, ap, ◌∙◌, subst, arith, tests}
 use Rattle.std.specs.Prelude.{Decides, IfSome, filter, nat_eq, slice_get}
+use Rattle.yd_words.specs.Each.{Each}
+use Rattle.yd_words.specs.Member.{IsIn, IsIn as IsOneOf}
+use Rattle.yd_words.proofs.EachLemmas.{each_both}
+use Rattle.yd_words.proofs.TestLemmas.{one_answer}
 use Rattle.yd_ids.specs.declared.id.Id.{Id}
-use Rattle.yd_ids.specs.Each.{Each}
-use Rattle.yd_ids.proofs.EachLemmas.{each_both}
 use Rattle.yd_ops.specs.declared.lists.List.{List as DocList}
 use Rattle.yd_ops.specs.declared.runs.Run.{Run}
 use Rattle.yd_ops.specs.Operation.{Operation}
-use Rattle.yd_origins.specs.Ids.{IsIn}
 use Rattle.yd_origins.specs.Table.{ids_of, IsTable}
 use Rattle.yd_origins.specs.Sorted.{origin_order}
-use Rattle.yd_origins.proofs.TestLemmas.{one_answer}
 use Rattle.yd_meaning.specs.Names.{same_list}
 use Rattle.yd_meaning.specs.ListNames.{same_list_decides}
-use Rattle.yd_meaning.specs.Received.{IsOneOf}
 use Rattle.yd_meaning.specs.Held.{held_set}
 use Rattle.yd_meaning.specs.Order.{rows_of, list_of, operation_set, order_of}
 use Rattle.yd_meaning.proofs.RowLemmas.{row_one}

@@ -3,18 +3,18 @@ use Rattle.std.proofs.Common.{◌≡◌, ℕ, zero, suc, ◌-◌, Bool, true, fa
 use Rattle.std.specs.Prelude.{slice_get, if◌then◌else◌}
 use Rattle.std.specs.Global.{Vec}
 use Rattle.std.proofs.lemmas.List.{length-map}
+use Rattle.yd_words.specs.Each.{Each}
+use Rattle.yd_words.specs.Member.{IsIn, AreDistinct, IsIn as IsOneOf}
+use Rattle.yd_words.proofs.TestLemmas.{one_answer, both_hold, hold_both}
 use Rattle.yd_ids.specs.declared.id.Id.{Id}
-use Rattle.yd_ids.specs.Each.{Each}
 use Rattle.yd_ops.specs.declared.lists.List.{List as DocList}
 use Rattle.yd_ops.specs.declared.runs.Run.{Run}
 use Rattle.yd_ops.specs.Operation.{Operation}
-use Rattle.yd_origins.specs.Ids.{IsIn, AreDistinct}
 use Rattle.yd_origins.specs.Table.{ids_of, IsTable}
 use Rattle.yd_origins.specs.Deleted.{last_of}
-use Rattle.yd_origins.proofs.TestLemmas.{one_answer}
 use Rattle.yd_meaning.specs.Names.{same_list}
-use Rattle.yd_meaning.specs.ListNames.{both_hold, hold_both, same_list_decides}
-use Rattle.yd_meaning.specs.Received.{IsOneOf, has_operation}
+use Rattle.yd_meaning.specs.ListNames.{same_list_decides}
+use Rattle.yd_meaning.specs.Received.{has_operation}
 use Rattle.yd_meaning.specs.Held.{held_set, is_named}
 use Rattle.yd_meaning.specs.Order.{rows_of, order_of}
 use Rattle.yd_meaning.specs.Deleted.{is_deleted}

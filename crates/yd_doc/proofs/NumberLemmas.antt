@@ -1,21 +1,23 @@
 -- The lists of held units by their numbers: each held id is in a list with a number, whose name is the id's own list.
 use Rattle.std.proofs.Common.{◌≡◌, ℕ, ◌+◌, ◌^◌, ◌<◌, ◌≤◌, Bool, true, false, List, [], ◌∷◌, ◌++◌, Option, Some, None, inl, inr, length, take, drop, refl, sym, ap, ◌∙◌, subst, arith, tests, true≢false}
 use Rattle.std.specs.Prelude.{IfSome, filter, is_some, if◌then◌else◌, slice_get}
+use Rattle.yd_words.specs.Each.{Each}
+use Rattle.yd_words.specs.Member.{IsIn as IsOneOf}
+use Rattle.yd_words.proofs.EachLemmas.{each_weaker, each_both}
+use Rattle.yd_words.proofs.TestLemmas.{split}
+use Rattle.yd_words.proofs.MemberLemmas.{in_left_part as one_of_front, in_right_part as one_of_back}
 use Rattle.yd_ids.specs.declared.id.Id.{Id}
-use Rattle.yd_ids.specs.Each.{Each}
 use Rattle.yd_ids.specs.Id.{IsId, IsSpan}
-use Rattle.yd_ids.proofs.EachLemmas.{each_weaker, each_both}
+use Rattle.yd_ids.proofs.IdLemmas.{same_numbers}
 use Rattle.yd_ops.specs.declared.lists.List.{List as DocList}
 use Rattle.yd_ops.specs.declared.runs.Run.{Run}
 use Rattle.yd_ops.specs.Operation.{UnitContent, Operation, later_id, operations_from}
 use Rattle.yd_origins.specs.Table.{IsTable}
-use Rattle.yd_origins.proofs.IdLemmas.{same_numbers}
-use Rattle.yd_origins.proofs.TestLemmas.{split}
-use Rattle.yd_meaning.specs.Received.{IsOneOf, has_operation}
+use Rattle.yd_meaning.specs.Received.{has_operation}
 use Rattle.yd_meaning.specs.Held.{held_set}
 use Rattle.yd_meaning.specs.Names.{item_of_list}
 use Rattle.yd_meaning.specs.Order.{rows_of, list_of}
-use Rattle.yd_meaning.proofs.OneOfLemmas.{operation_with, one_of_front, one_of_back}
+use Rattle.yd_meaning.proofs.OneOfLemmas.{operation_with}
 use Rattle.yd_meaning.proofs.HeldTableLemmas.{held_is_table}
 use Rattle.yd_meaning.proofs.HeldListLemmas.{list_of-left}
 use Rattle.yd_received.specs.declared.taken.Taken.{Taken}

@@ -2,15 +2,15 @@
 use Rattle.std.proofs.Common.{◌≡◌, ℕ, Bool, true, false, List, [], ◌∷◌, ◌++◌, Option, Some, None, inl, inr, map, refl, ap, ap₂, ◌∙◌}
 use Rattle.std.specs.Prelude.{IfSome, filter, if◌then◌else◌, nat_eq}
 use Rattle.std.proofs.lemmas.List.Elements.{filter-append}
+use Rattle.yd_words.specs.Each.{Each}
+use Rattle.yd_words.specs.Member.{IsIn, IsIn as IsOneOf}
+use Rattle.yd_words.proofs.EachLemmas.{each_weaker}
+use Rattle.yd_words.proofs.MemberLemmas.{in_left_part as one_of_front, in_right_part as one_of_back}
 use Rattle.yd_ids.specs.declared.id.Id.{Id}
-use Rattle.yd_ids.specs.Each.{Each}
-use Rattle.yd_ids.proofs.EachLemmas.{each_weaker}
 use Rattle.yd_ops.specs.declared.lists.List.{List as DocList}
 use Rattle.yd_ops.specs.declared.runs.Run.{Run}
 use Rattle.yd_ops.specs.Operation.{UnitContent, Operation, later_id, operations_from}
-use Rattle.yd_origins.specs.Ids.{IsIn}
 use Rattle.yd_origins.specs.Table.{Row, OriginTable, ids_of, IsTable}
-use Rattle.yd_meaning.specs.Received.{IsOneOf}
 use Rattle.yd_meaning.specs.Order.{rows_of, list_of}
 use Rattle.yd_meaning.proofs.HeldListLemmas.{list_of-left}
 use Rattle.yd_order.specs.Stretch.{rows_of_stretch, rows_of_stretches}
@@ -18,7 +18,6 @@ use Rattle.yd_received.specs.declared.taken.Taken.{Taken}
 use Rattle.yd_received.specs.Taken.{operations_of_taken, operations_in, is_held}
 use Rattle.yd_held.specs.Numbered.{is_in_list}
 use Rattle.yd_doc.specs.Stretches.{stretch_of, stretches_in}
-use Rattle.yd_meaning.proofs.OneOfLemmas.{one_of_front, one_of_back}
 use Rattle.yd_doc.proofs.AmongLemmas.{rows_where}
 
 -- ---- one list

@@ -3,21 +3,21 @@ use Rattle.std.proofs.Common.{◌≡◌, ℕ, zero, suc, ◌+◌, ◌<◌, List,
 use Rattle.std.specs.Prelude.{IfSome, slice_get}
 use Rattle.std.specs.Global.{Vec}
 use Rattle.std.proofs.lemmas.List.{length-map}
+use Rattle.yd_words.specs.Each.{Each}
+use Rattle.yd_words.specs.Member.{IsIn}
+use Rattle.yd_words.proofs.OptionLemmas.{if_some_each}
 use Rattle.yd_ids.specs.declared.id.Client.{Client}
 use Rattle.yd_ids.specs.declared.id.Id.{Id}
 use Rattle.yd_ids.specs.declared.id.Span.{Span}
-use Rattle.yd_ids.specs.Each.{Each}
 use Rattle.yd_ids.specs.Id.{IsId, IsSpan}
 use Rattle.yd_ops.specs.declared.lists.List.{List as DocList}
 use Rattle.yd_ops.specs.declared.runs.Run.{Run}
 use Rattle.yd_ops.specs.Operation.{Operation}
-use Rattle.yd_origins.specs.Ids.{IsIn}
 use Rattle.yd_meaning.specs.Names.{item_of_list}
 use Rattle.yd_meaning.specs.Received.{IsWritten}
 use Rattle.yd_meaning.specs.Held.{held_set, held_clock, is_named}
 use Rattle.yd_meaning.specs.Order.{order_of}
 use Rattle.yd_meaning.specs.Deleted.{AreDeleteSet}
-use Rattle.yd_meaning.proofs.HeldTableLemmas.{if_some_each}
 use Rattle.yd_meaning.proofs.HeldListLemmas.{in_order_of}
 use Rattle.yd_received.specs.declared.taken.Taken.{Taken}
 use Rattle.yd_received.specs.Taken.{AreTaken, operations_in, held_in}

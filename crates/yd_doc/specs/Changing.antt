@@ -1,6 +1,6 @@
 -- A state while it takes an update in and holds what it can.
 use Rattle.std.specs.Prelude.{◌≡◌, Bool, false, List, map, filter, length}
-use Rattle.yd_ids.specs.Each.{Each}
+use Rattle.yd_words.specs.Each.{Each}
 use Rattle.yd_ids.specs.Set.{AreMaximal}
 use Rattle.yd_ops.specs.Value.{UpdateValue}
 use Rattle.yd_meaning.specs.Received.{received_after}

@@ -1,12 +1,13 @@
 -- What deletions do, list by list: which ids go with the item of a list or under its key, and which part of a span is held (own).
 use Rattle.std.specs.Prelude.{◌↔◌, ◌⊎◌, ◌<◌, ℕ, ◌-◌, min, Bool, List, [], if◌then◌else◌, length, take}
+use Rattle.yd_words.specs.Member.{IsIn}
+use Rattle.yd_words.specs.Test.{is_some_and}
 use Rattle.yd_ids.specs.declared.id.Client.{Client}
 use Rattle.yd_ids.specs.declared.id.Id.{Id}
 use Rattle.yd_ids.specs.declared.id.Span.{Span}
 use Rattle.yd_ids.specs.Set.{HasId}
 use Rattle.yd_ids.specs.Vector.{clock_of}
 use Rattle.yd_ops.specs.declared.lists.List.{List as DocList}
-use Rattle.yd_origins.specs.Ids.{IsIn, is_some_and}
 use Rattle.yd_meaning.specs.Names.{item_of_list, has_key}
 
 -- the span of one id

@@ -1,8 +1,8 @@
 -- What is lent of a list while its units are read.
 use Rattle.std.specs.Prelude.{◌≡◌, true, List}
+use Rattle.yd_words.specs.Each.{Each}
 use Rattle.yd_ids.specs.declared.id.Id.{Id}
 use Rattle.yd_ids.specs.declared.id.Span.{Span}
-use Rattle.yd_ids.specs.Each.{Each}
 use Rattle.yd_ops.specs.declared.runs.Run.{Run}
 use Rattle.yd_meaning.specs.Received.{has_operation}
 use Rattle.yd_received.specs.declared.taken.Taken.{Taken}

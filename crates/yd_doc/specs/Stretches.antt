@@ -1,8 +1,8 @@
 -- The units of a list as the order sees them: stretches of one client, in the order of writing (own).
 use Rattle.std.specs.Prelude.{◌≡◌, ◌<◌, ◌≤◌, ℕ, zero, suc, false, true, Bool, List, [], ◌∷◌, ◌++◌, Some, filter, map, slice_get, length}
 use Rattle.std.specs.Global.{Vec}
+use Rattle.yd_words.specs.Each.{Each}
 use Rattle.yd_ids.specs.declared.id.Id.{Id}
-use Rattle.yd_ids.specs.Each.{Each}
 use Rattle.yd_ops.specs.declared.lists.List.{List as DocList}
 use Rattle.yd_origins.specs.Sorted.{origin_order}
 use Rattle.yd_origins.specs.Table.{IsTable}

@@ -1,10 +1,10 @@
 //! The delete set of what is held.
 
 ghost use Rattle.std.specs.Prelude.{◌≡◌, IfOk, IfSome, OnOk};
-ghost use Rattle.yd_ids.specs.Each.{Each};
+ghost use Rattle.yd_words.specs.Each.{Each};
+ghost use Rattle.yd_words.specs.Test.{is_some_and};
 ghost use Rattle.yd_ids.specs.Id.{IsId, IsSpan};
 ghost use Rattle.yd_ids.specs.Set.{AreMaximal};
-ghost use Rattle.yd_origins.specs.Ids.{is_some_and};
 ghost use Rattle.yd_meaning.specs.Held.{held_set, is_named};
 ghost use Rattle.yd_meaning.specs.Names.{item_of_list};
 ghost use Rattle.yd_meaning.specs.Deleted.{AreDeleteSet};

@@ -1,7 +1,7 @@
 //! Putting a state back to what it was.
 
 ghost use Rattle.std.specs.Prelude.{◌≡◌, map, filter, IfOk};
-ghost use Rattle.yd_ids.specs.Each.{Each};
+ghost use Rattle.yd_words.specs.Each.{Each};
 ghost use Rattle.yd_ids.specs.Id.{IsId};
 ghost use Rattle.yd_received.specs.Taken.{is_of_first};
 ghost use Rattle.yd_held.specs.Holding.{undone};

@@ -1,7 +1,7 @@
 -- The fields of blocks are what their plans want.
 use Rattle.std.proofs.Common.{◌≡◌, ◌+◌, ◌-◌, ◌++◌, [], ◌∷◌, ℕ, true, List, Option, Some, None, length, refl, sym, ap, arith, append_assoc, append-nil}
 use Rattle.std.proofs.lemmas.Bool.{le-leb}
-use Rattle.yd_ids.specs.Each.{Each}
+use Rattle.yd_words.specs.Each.{Each}
 use Rattle.yd_ids.specs.declared.id.Client.{Client}
 use Rattle.yd_ops.specs.Value as ops
 use Rattle.yd_ops.specs.Valid.{AreStructsFrom, IsStructAt, IsValidBlock}

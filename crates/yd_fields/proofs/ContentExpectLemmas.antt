@@ -4,12 +4,12 @@ use Rattle.std.specs.Prelude.{IsTrue, codes}
 use Rattle.std.specs.Str.{bytes_eq}
 use Rattle.std.proofs.lemmas.Bool.Decides.{nat_tests}
 use Rattle.std.proofs.lemmas.Slice.Eq.{bytes_eq-Decides}
+use Rattle.yd_words.specs.Each.{Each}
 use Rattle.yd_any.specs.Outcome.{value_of_text}
 use Rattle.yd_any.specs.Printed.{printed}
 use Rattle.yd_any.specs.Tree.{AnyTree, AnyTrees, no_trees, tree, with_last}
 use Rattle.yd_any.specs.Valid.{is_valid_json}
 use Rattle.yd_any.proofs.TextLemmas.{read_back, undefined_is_no_text}
-use Rattle.yd_ids.specs.Each.{Each}
 use Rattle.yd_units.specs.Text.{text_of, units_of}
 use Rattle.yd_units.proofs.TextLemmas.{units_back, units_of-nil}
 use Rattle.yd_ops.specs.Value as ops

@@ -4,10 +4,10 @@ use Rattle.std.specs.List.Sorted.{IsPermutation}
 use Rattle.std.proofs.lemmas.Bool.{eqb-true}
 use Rattle.std.proofs.lemmas.List.{length-reverse, reverse-append}
 use Rattle.std.proofs.lemmas.List.Sorted.{IsPermutation-append_comm, IsPermutation-append_left, IsPermutation-refl, IsPermutation-reverse, IsPermutation-trans}
-use Rattle.yd_ids.specs.Each.{Each}
+use Rattle.yd_words.specs.Each.{Each}
+use Rattle.yd_words.proofs.EachLemmas.{each_permuted, each_weaker}
 use Rattle.yd_ids.specs.Set.{AreMaximal, set_of}
 use Rattle.yd_ids.specs.declared.id.Span.{Span}
-use Rattle.yd_ids.proofs.EachLemmas.{each_permuted, each_weaker}
 use Rattle.yd_ids.proofs.SetOfLemmas.{maximal_spans, set_of_permuted, set_of_set}
 use Rattle.yd_fields.specs.Field as field
 use Rattle.yd_parts.specs.Plan.{give, Expects, repeated}

@@ -2,9 +2,9 @@
 use Rattle.std.proofs.Common.{◌≡◌, ◌∙◌, ◌++◌, [], ◌∷◌, ℕ, suc, List, length, reverse, append_assoc, refl, sym, subst}
 use Rattle.std.proofs.lemmas.List.{append-nil, length-reverse}
 use Rattle.std.proofs.lemmas.List.Sorted.{IsPermutation-reverse}
-use Rattle.yd_ids.proofs.EachLemmas.{each_permuted}
+use Rattle.yd_words.specs.Each.{Each}
+use Rattle.yd_words.proofs.EachLemmas.{each_permuted}
 use Rattle.yd_ids.proofs.EntriesLemmas.{entries_permuted, vector_entries, vector_of_vector}
-use Rattle.yd_ids.specs.Each.{Each}
 use Rattle.yd_ids.specs.Vector.{IsEntry, IsVector, vector_of_entries}
 use Rattle.yd_ids.specs.declared.id.Client.{Client}
 use Rattle.yd_parts.specs.Plan.{Expects, give, repeated}

@@ -1,10 +1,10 @@
 -- What the parts of a valid update are, when they are written.
 use Rattle.std.proofs.Common.{◌≡◌, ℕ, zero, suc, ◌+◌, ◌<◌, List, [], ◌∷◌, Option, Some, None, length, map, get_or, sym, subst, arith}
 use Rattle.std.specs.Prelude.{IsTrue}
+use Rattle.yd_words.specs.Each.{Each}
 use Rattle.yd_any.specs.AnyView.{any_tree, items_trees}
 use Rattle.yd_any.specs.Valid.{is_valid_any}
 use Rattle.yd_any.specs.declared.any_value.Any.{Any}
-use Rattle.yd_ids.specs.Each.{Each}
 use Rattle.yd_ids.specs.declared.id.Client.{Client}
 use Rattle.yd_ids.specs.declared.id.Id.{Id}
 use Rattle.yd_ops.specs.declared.lists.List.{List as DocList}

@@ -1,8 +1,8 @@
 //! Writing the contents of items.
 
 ghost use Rattle.std.specs.Prelude.{[], ◌∷◌, map, OnOk};
+ghost use Rattle.yd_words.specs.Each.{Each};
 ghost use Rattle.yd_any.specs.AnyView.{any_trees, items_trees};
-ghost use Rattle.yd_ids.specs.Each.{Each};
 ghost use Rattle.yd_ops.specs.Valid.{AreValidTrees, IsValidContent, IsValidUnit};
 ghost use Rattle.yd_ops.specs.Value.{any};
 ghost use Rattle.yd_ops.specs.View.{content_value, unit_value};

@@ -1,7 +1,7 @@
 //! Writing delete sets.
 
 ghost use Rattle.std.specs.Prelude.{◌≡◌, ◌<◌, length, reverse, IfOk, OnOk};
-ghost use Rattle.yd_ids.specs.Each.{Each};
+ghost use Rattle.yd_words.specs.Each.{Each};
 ghost use Rattle.yd_ids.specs.Id.{IsSpan};
 ghost use Rattle.yd_ids.specs.Set.{AreMaximal};
 ghost use Rattle.yd_fields.specs.UpdateFields.{fields_of_deletes, fields_of_group};

@@ -1,7 +1,7 @@
 //! Writing structs.
 
 ghost use Rattle.std.specs.Prelude.{◌≡◌, ◌<◌, ◌≤◌, ◌^◌, map, OnOk};
-ghost use Rattle.yd_ids.specs.Each.{Each};
+ghost use Rattle.yd_words.specs.Each.{Each};
 ghost use Rattle.yd_ops.specs.Value.{item, skip};
 ghost use Rattle.yd_ops.specs.View.{content_value, run_value, struct_value};
 ghost use Rattle.yd_fields.specs.UpdateFields.{fields_of_struct, fields_of_structs};

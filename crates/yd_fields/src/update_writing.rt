@@ -1,7 +1,7 @@
 //! Writing updates.
 
 ghost use Rattle.std.specs.Prelude.{◌≡◌, ◌<◌, ◌^◌, map, IfOk, OnOk};
-ghost use Rattle.yd_ids.specs.Each.{Each};
+ghost use Rattle.yd_words.specs.Each.{Each};
 ghost use Rattle.yd_ops.specs.Valid.{IsValidBlock, IsValidUpdate};
 ghost use Rattle.yd_ops.specs.View.{block_value, update_value};
 ghost use Rattle.yd_fields.specs.UpdateFields.{fields_of_block, fields_of_blocks, fields_of_update};

@@ -1,12 +1,14 @@
 -- The operations of entries: what is held of them is received, and an id is held where the entry that covers it is.
 use Rattle.std.proofs.Common.{◌≡◌, ℕ, ◌<◌, true, List, [], ◌∷◌, inl, inr, length, get_or, refl, sym, ◌∙◌, subst}
 use Rattle.std.specs.Prelude.{filter}
+use Rattle.yd_words.specs.Each.{Each}
+use Rattle.yd_words.specs.Member.{IsIn as IsOneOf}
+use Rattle.yd_words.proofs.MemberLemmas.{in_left_part as one_of_front, in_right_part as one_of_back, in_parts as one_of_parts}
 use Rattle.yd_ids.specs.declared.id.Id.{Id}
-use Rattle.yd_ids.specs.Each.{Each}
 use Rattle.yd_ops.specs.declared.runs.Run.{Run}
 use Rattle.yd_ops.specs.Operation.{Operation}
-use Rattle.yd_meaning.specs.Received.{IsOneOf, has_operation}
-use Rattle.yd_meaning.proofs.OneOfLemmas.{one_of_front, one_of_back, one_of_parts, operation_with, id_there, ids_stay}
+use Rattle.yd_meaning.specs.Received.{has_operation}
+use Rattle.yd_meaning.proofs.OneOfLemmas.{operation_with, id_there, ids_stay}
 use Rattle.yd_received.specs.declared.taken.Taken.{Taken}
 use Rattle.yd_received.specs.Taken.{operations_of_taken, operations_in, held_in, is_held, covers, IsTakenOf, AreInOrder}
 use Rattle.yd_received.specs.Taking.{is_covered}

@@ -1,14 +1,14 @@
 -- The operations of an entry: their ids are those that it covers, and each but the first has the one before it as its left origin.
 use Rattle.std.proofs.Common.{◌≡◌, ℕ, suc, ◌+◌, ◌<◌, ◌≤◌, true, List, [], ◌∷◌, ◌⊎◌, inl, inr, Option, Some, None, length, take, drop, refl, sym, ap, ◌∙◌, subst, arith, tests, length-take, length-drop}
 use Rattle.std.specs.Prelude.{slice_get}
+use Rattle.yd_words.specs.Member.{IsIn as IsOneOf}
+use Rattle.yd_words.proofs.TestLemmas.{split}
 use Rattle.yd_ids.specs.declared.id.Client.{Client}
 use Rattle.yd_ids.specs.declared.id.Id.{Id}
-use Rattle.yd_origins.proofs.IdLemmas.{same_numbers}
-use Rattle.yd_origins.proofs.TestLemmas.{split}
+use Rattle.yd_ids.proofs.IdLemmas.{same_numbers}
 use Rattle.yd_ops.specs.declared.lists.List.{List as DocList}
 use Rattle.yd_ops.specs.declared.runs.Run.{Run}
 use Rattle.yd_ops.specs.Operation.{UnitContent, Operation, later_id, operations_from}
-use Rattle.yd_meaning.specs.Received.{IsOneOf}
 use Rattle.yd_received.specs.declared.taken.Taken.{Taken}
 use Rattle.yd_received.specs.Taken.{units_of, operations_of_taken, covers, IsTakenOf}
 use Rattle.yd_held.specs.Readiness.{first_list}

@@ -1,16 +1,16 @@
 -- The lists of what is held: they stay when more is held, and the units of an entry are of one.
 use Rattle.std.proofs.Common.{◌≡◌, ℕ, zero, suc, ◌+◌, ◌<◌, ◌≤◌, true, List, inl, inr, Option, Some, None, refl, sym, ap, ◌∙◌, subst, arith, true≢false}
 use Rattle.std.specs.Prelude.{slice_get, is_some, IfSome}
+use Rattle.yd_words.specs.Member.{IsIn, IsIn as IsOneOf}
 use Rattle.yd_ids.specs.declared.id.Client.{Client}
 use Rattle.yd_ids.specs.declared.id.Id.{Id}
-use Rattle.yd_origins.specs.Ids.{IsIn}
+use Rattle.yd_ids.proofs.IdLemmas.{same_numbers}
 use Rattle.yd_origins.specs.Table.{IsTable}
 use Rattle.yd_origins.specs.Operations.{list_by_origins}
-use Rattle.yd_origins.proofs.IdLemmas.{same_numbers}
 use Rattle.yd_ops.specs.declared.lists.List.{List as DocList}
 use Rattle.yd_ops.specs.declared.runs.Run.{Run}
 use Rattle.yd_ops.specs.Operation.{Operation}
-use Rattle.yd_meaning.specs.Received.{IsOneOf, has_operation}
+use Rattle.yd_meaning.specs.Received.{has_operation}
 use Rattle.yd_meaning.specs.Held.{needs, held_set}
 use Rattle.yd_meaning.specs.Order.{rows_of, list_or_root, list_of}
 use Rattle.yd_meaning.proofs.OneOfLemmas.{operation_with}

@@ -1,16 +1,16 @@
 -- One entry more is held: what is held is its own held set again, and the raised vector counts it.
 use Rattle.std.proofs.Common.{◌≡◌, ◌≢◌, ℕ, ◌+◌, ◌<◌, true, List, ◌⊎◌, inl, inr, Some, set, refl, sym, ap, ◌∙◌, subst, arith}
 use Rattle.std.specs.Prelude.{◌↔◌, slice_get}
+use Rattle.yd_words.specs.Each.{Each}
+use Rattle.yd_words.specs.Member.{IsIn, IsIn as IsOneOf}
+use Rattle.yd_words.proofs.TestLemmas.{split}
 use Rattle.yd_ids.specs.declared.id.Client.{Client}
 use Rattle.yd_ids.specs.declared.id.Id.{Id}
-use Rattle.yd_ids.specs.Each.{Each}
 use Rattle.yd_ids.specs.Vector.{clock_of, RaisesOnly}
-use Rattle.yd_origins.specs.Ids.{IsIn}
-use Rattle.yd_origins.proofs.TestLemmas.{split}
 use Rattle.yd_ops.specs.declared.lists.List.{List as DocList}
 use Rattle.yd_ops.specs.declared.runs.Run.{Run}
 use Rattle.yd_ops.specs.Operation.{Operation}
-use Rattle.yd_meaning.specs.Received.{IsOneOf, has_operation, IsWritten}
+use Rattle.yd_meaning.specs.Received.{has_operation, IsWritten}
 use Rattle.yd_meaning.specs.Held.{needs, held_set, held_clock}
 use Rattle.yd_meaning.proofs.OneOfLemmas.{operation_with, id_is_there, id_there, ids_stay}
 use Rattle.yd_meaning.proofs.HeldLemmas.{held_set-part}

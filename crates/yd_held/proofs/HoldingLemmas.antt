@@ -1,17 +1,18 @@
 -- While units are held: the vector tells which ids are, and which ids an entry needs.
 use Rattle.std.proofs.Common.{◌≡◌, ℕ, zero, suc, ◌<◌, Bool, true, false, List, ◌++◌, ◌⊎◌, inl, inr, Option, Some, None, refl, sym, ap, ◌∙◌, subst, arith, tests, nat_eq, true≢false}
 use Rattle.std.specs.Prelude.{◌↔◌, not, ◌&&◌}
+use Rattle.yd_words.specs.Member.{IsIn, IsIn as IsOneOf}
+use Rattle.yd_words.proofs.MemberLemmas.{in_parts}
+use Rattle.yd_words.proofs.TestLemmas.{both_hold}
 use Rattle.yd_ids.specs.declared.id.Client.{Client}
 use Rattle.yd_ids.specs.declared.id.Id.{Id}
 use Rattle.yd_ids.specs.Vector.{clock_of}
-use Rattle.yd_origins.specs.Ids.{IsIn, HasSmallerClock}
+use Rattle.yd_ids.specs.Ids.{HasSmallerClock}
 use Rattle.yd_origins.specs.Table.{IsTable}
-use Rattle.yd_origins.proofs.MemberLemmas.{in_parts}
 use Rattle.yd_ops.specs.declared.lists.List.{List as DocList}
 use Rattle.yd_ops.specs.declared.runs.Run.{Run}
 use Rattle.yd_ops.specs.Operation.{Operation}
-use Rattle.yd_meaning.specs.ListNames.{both_hold}
-use Rattle.yd_meaning.specs.Received.{IsOneOf, has_operation, IsWritten}
+use Rattle.yd_meaning.specs.Received.{has_operation, IsWritten}
 use Rattle.yd_meaning.specs.Held.{id_before, given, item_carried, needs, held_set, held_clock}
 use Rattle.yd_meaning.specs.Order.{rows_of}
 use Rattle.yd_meaning.proofs.OneOfLemmas.{ids_stay}

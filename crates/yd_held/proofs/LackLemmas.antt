@@ -1,10 +1,10 @@
 -- The order of lacks, one more at its place, and those that units meet, which stand in a row.
 use Rattle.std.proofs.Common.{◌≡◌, ℕ, zero, suc, ◌+◌, ◌-◌, ◌<◌, ◌≤◌, Bool, true, false, cond, not, List, [], ◌∷◌, ◌++◌, inl, inr, length, get_or, take, drop, filter, refl, sym, ap, ◌∙◌, arith, tests, true≢false}
 use Rattle.std.specs.List.Sorted.{IsPartitionedBy}
+use Rattle.yd_words.specs.Each.{Each}
+use Rattle.yd_words.proofs.EachLemmas.{each_weaker}
 use Rattle.yd_ids.specs.declared.id.Id.{Id}
-use Rattle.yd_ids.specs.Each.{Each}
-use Rattle.yd_ids.proofs.EachLemmas.{each_weaker}
-use Rattle.yd_origins.proofs.IdLemmas.{same_numbers}
+use Rattle.yd_ids.proofs.IdLemmas.{same_numbers}
 use Rattle.yd_received.specs.declared.taken.Taken.{Taken}
 use Rattle.yd_received.specs.Taken.{covers}
 use Rattle.yd_held.specs.declared.noting.Lack.{Lack}

@@ -1,17 +1,16 @@
 -- What is noted of units that wait: it stays right when a client is found to have none, when a lack is noted, and when units are held.
 use Rattle.std.proofs.Common.{◌≡◌, ◌≢◌, ℕ, ◌+◌, ◌<◌, ◌≤◌, Bool, true, false, cond, not, nat_eq, List, [], ◌∷◌, ◌++◌, ◌⊎◌, inl, inr, Option, Some, None, map, filter, refl, sym, ap, ◌∙◌, subst, arith, tests, true≢false}
 use Rattle.std.proofs.lemmas.Bool.{cases_Bool}
+use Rattle.yd_words.specs.Each.{Each}
+use Rattle.yd_words.proofs.TestLemmas.{split, hold_both}
 use Rattle.yd_ids.specs.declared.id.Client.{Client}
 use Rattle.yd_ids.specs.declared.id.Id.{Id}
-use Rattle.yd_ids.specs.Each.{Each}
 use Rattle.yd_ids.specs.Vector.{clock_of}
-use Rattle.yd_origins.proofs.IdLemmas.{same_numbers}
-use Rattle.yd_origins.proofs.TestLemmas.{split}
+use Rattle.yd_ids.proofs.IdLemmas.{same_numbers}
 use Rattle.yd_ops.specs.declared.runs.Run.{Run}
 use Rattle.yd_received.specs.declared.taken.Taken.{Taken}
 use Rattle.yd_received.specs.Taken.{covers, is_held, IsTakenOf, AreInOrder}
 use Rattle.yd_received.proofs.EntriesLemmas.{IsEntry, each_entry, entry_each, one_entry}
-use Rattle.yd_meaning.specs.ListNames.{hold_both}
 use Rattle.yd_meaning.specs.Held.{item_carried}
 use Rattle.yd_held.specs.declared.noting.Lack.{Lack}
 use Rattle.yd_held.specs.Readiness.{IsOriginOf, is_below, is_none_or_below, missing_of, first_of, lack_of, first_list, is_ready}

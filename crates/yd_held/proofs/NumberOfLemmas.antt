@@ -1,8 +1,8 @@
 -- The number of an id is that of its entry.
 use Rattle.std.proofs.Common.{◌≡◌, ℕ, zero, suc, ◌<◌, Bool, true, false, cond, ◌||◌, List, [], ◌∷◌, inl, inr, length, get_or, refl, subst, arith}
 use Rattle.std.specs.Prelude.{is_some}
+use Rattle.yd_words.proofs.EachLemmas.{each_at}
 use Rattle.yd_ids.specs.declared.id.Id.{Id}
-use Rattle.yd_ids.proofs.EachLemmas.{each_at}
 use Rattle.yd_received.specs.declared.taken.Taken.{Taken}
 use Rattle.yd_received.specs.Taken.{covers, StandsBefore, AreInOrder}
 use Rattle.yd_received.specs.Taking.{is_covered}

@@ -2,9 +2,9 @@
 use Rattle.std.proofs.Common.{◌≡◌, ◌≢◌, ℕ, zero, suc, ◌+◌, ◌<◌, true, false, List, [], ◌∷◌, ◌++◌, ◌⊎◌, inl, inr, Option, Some, None, length, refl, sym, ap, ◌∙◌, subst}
 use Rattle.std.specs.Prelude.{slice_get, is_some, IfSome}
 use Rattle.std.proofs.lemmas.Option.{slice_get_within}
+use Rattle.yd_words.specs.Each.{Each}
 use Rattle.yd_ids.specs.declared.id.Client.{Client}
 use Rattle.yd_ids.specs.declared.id.Id.{Id}
-use Rattle.yd_ids.specs.Each.{Each}
 use Rattle.yd_ids.specs.Vector.{RaisesOnly}
 use Rattle.yd_origins.specs.Table.{IsTable}
 use Rattle.yd_origins.specs.Operations.{list_by_origins}

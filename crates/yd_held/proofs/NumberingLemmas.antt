@@ -1,9 +1,9 @@
 -- An entry that gets the number of a list: what stays of the entries, and what is held more.
 use Rattle.std.proofs.Common.{◌≡◌, ℕ, zero, suc, ◌<◌, Bool, true, false, cond, List, [], ◌∷◌, ◌++◌, ◌⊎◌, inl, inr, Option, Some, None, length, set, refl, sym, ap, ◌∙◌, subst, arith}
 use Rattle.std.specs.Prelude.{filter, slice_get}
+use Rattle.yd_words.specs.Each.{Each}
+use Rattle.yd_words.proofs.EachLemmas.{each_set}
 use Rattle.yd_ids.specs.declared.id.Id.{Id}
-use Rattle.yd_ids.specs.Each.{Each}
-use Rattle.yd_ids.proofs.EachLemmas.{each_set}
 use Rattle.yd_ops.specs.declared.runs.Run.{Run}
 use Rattle.yd_received.specs.declared.taken.Taken.{Taken}
 use Rattle.yd_received.specs.Taken.{operations_of_taken, operations_in, is_held, covers, IsTakenOf, StandsBefore, AreInOrder}

@@ -1,15 +1,15 @@
 -- Where no entry is ready, all is held that can be.
 use Rattle.std.proofs.Common.{◌≡◌, ℕ, ◌<◌, Bool, true, false, List, inl, inr, nat_eq, refl, sym, ap, ◌∙◌, subst, arith, tests, true≢false}
 use Rattle.std.specs.Prelude.{not}
+use Rattle.yd_words.specs.Member.{IsIn, IsIn as IsOneOf}
+use Rattle.yd_words.proofs.TestLemmas.{hold_both}
 use Rattle.yd_ids.specs.declared.id.Client.{Client}
 use Rattle.yd_ids.specs.declared.id.Id.{Id}
 use Rattle.yd_ids.specs.Vector.{clock_of}
-use Rattle.yd_origins.specs.Ids.{IsIn}
 use Rattle.yd_ops.specs.declared.lists.List.{List as DocList}
 use Rattle.yd_ops.specs.declared.runs.Run.{Run}
 use Rattle.yd_ops.specs.Operation.{Operation}
-use Rattle.yd_meaning.specs.ListNames.{hold_both}
-use Rattle.yd_meaning.specs.Received.{IsOneOf, has_operation, IsWritten}
+use Rattle.yd_meaning.specs.Received.{has_operation, IsWritten}
 use Rattle.yd_meaning.specs.Held.{item_carried, needs, held_set}
 use Rattle.yd_meaning.proofs.OneOfLemmas.{operation_with, id_is_there}
 use Rattle.yd_meaning.proofs.RowLemmas.{written_distinct, one_operation}

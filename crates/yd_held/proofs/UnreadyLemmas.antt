@@ -2,8 +2,8 @@
 use Rattle.std.proofs.Common.{◌≡◌, ℕ, zero, suc, ◌<◌, ◌≤◌, true, false, List, [], ◌∷◌, inl, inr, Option, Some, None, length, drop, filter, refl, subst, arith, tests}
 use Rattle.std.specs.Prelude.{slice_get, IfSome}
 use Rattle.std.proofs.lemmas.Bool.{cases_Bool, false_from_ne_true}
+use Rattle.yd_words.specs.Each.{Each}
 use Rattle.yd_ids.specs.declared.id.Client.{Client}
-use Rattle.yd_ids.specs.Each.{Each}
 use Rattle.yd_ids.specs.Vector.{clock_of}
 use Rattle.yd_ops.specs.declared.lists.List.{List as DocList}
 use Rattle.yd_ops.specs.declared.runs.Run.{Run}

@@ -1,7 +1,7 @@
 -- Which lists a change left as they were, and what stays true while units are held (own).
 use Rattle.std.specs.Prelude.{◌≡◌, ◌≢◌, ◌≤◌, ◌<◌, ◌+◌, ◌⊎◌, ℕ, suc, max, Bool, true, false, List, [], ◌∷◌, Some, None, filter, set, slice_get, length, if◌then◌else◌}
+use Rattle.yd_words.specs.Each.{Each}
 use Rattle.yd_ids.specs.declared.id.Client.{Client}
-use Rattle.yd_ids.specs.Each.{Each}
 use Rattle.yd_ids.specs.Vector.{RaisesOnly}
 use Rattle.yd_ops.specs.declared.lists.List.{List as DocList}
 use Rattle.yd_ops.specs.declared.runs.Run.{Run}

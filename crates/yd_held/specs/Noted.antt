@@ -1,10 +1,10 @@
 -- What waits, noted by what it lacks: of each client its next units alone, since the later ones lack these first (own).
 use Rattle.std.specs.Prelude.{◌≡◌, ◌⊎◌, ◌<◌, ℕ, Bool, true, false, not, ◌&&◌, ◌||◌, List, [], ◌∷◌, ◌++◌, Option, Some, None, map, filter, length, nat_eq, nat_lt, if◌then◌else◌, HoldsAt}
+use Rattle.yd_words.specs.Each.{Each}
 use Rattle.yd_ids.specs.declared.id.Client.{Client}
 use Rattle.yd_ids.specs.declared.id.Id.{Id}
-use Rattle.yd_ids.specs.Each.{Each}
 use Rattle.yd_ids.specs.Vector.{clock_of}
-use Rattle.yd_origins.specs.Ids.{is_same, is_smaller}
+use Rattle.yd_ids.specs.Ids.{is_same, is_smaller}
 use Rattle.yd_ops.specs.declared.runs.Run.{Run}
 use Rattle.yd_received.specs.declared.taken.Taken.{Taken}
 use Rattle.yd_received.specs.Taken.{covers}

@@ -1,7 +1,7 @@
 -- The next units of clients: those at the clock up to which the client's units are held (own).
 use Rattle.std.specs.Prelude.{◌≡◌, ◌-◌, ℕ, false, List, Some, length, slice_get}
+use Rattle.yd_words.specs.Each.{Each}
 use Rattle.yd_ids.specs.declared.id.Client.{Client}
-use Rattle.yd_ids.specs.Each.{Each}
 use Rattle.yd_ids.specs.Vector.{clock_of}
 use Rattle.yd_received.specs.declared.taken.Taken.{Taken}
 use Rattle.yd_received.specs.Taken.{is_held}

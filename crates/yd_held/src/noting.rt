@@ -1,9 +1,9 @@
 //! What waits, noted by what it lacks: of each client its next units, under an id not held.
 
 ghost use Rattle.std.specs.Prelude.{◌≡◌, ◌≤◌, ◌+◌, ◌++◌, true, false, length, take, drop, map, slice_range, OnOk};
-ghost use Rattle.yd_origins.specs.Ids.{is_same, is_smaller};
+ghost use Rattle.yd_words.specs.Each.{Each};
+ghost use Rattle.yd_ids.specs.Ids.{is_same, is_smaller};
 ghost use Rattle.yd_held.specs.declared.noting.Lack.{Lack};
-ghost use Rattle.yd_ids.specs.Each.{Each};
 ghost use Rattle.yd_ids.specs.Id.{IsClock};
 ghost use Rattle.yd_held.specs.Noted.{stands_before, same_lack, first_lack, with_lack, AreSorted, Wakes};
 

@@ -2,8 +2,8 @@
 
 ghost use Rattle.std.specs.Prelude.{◌≡◌, ◌≢◌, ◌<◌, ◌≤◌, ◌++◌, [], false, length, drop, HoldsAt};
 ghost use Rattle.std.specs.Prelude.{◌↔◌, IsTrue, OnOk, IfOk, MatchOption};
+ghost use Rattle.yd_words.specs.Each.{Each};
 ghost use Rattle.yd_ids.specs.declared.id.Client.{Client};
-ghost use Rattle.yd_ids.specs.Each.{Each};
 ghost use Rattle.yd_ids.specs.Vector.{clock_of};
 ghost use Rattle.yd_ops.specs.declared.runs.Run.{Run};
 ghost use Rattle.yd_ids.specs.Id.{IsId};

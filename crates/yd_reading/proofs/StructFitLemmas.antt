@@ -2,9 +2,9 @@
 use Rattle.std.proofs.Common.{◌≡◌, ◌∙◌, ◌+◌, ◌<◌, ◌^◌, ◌++◌, [], ◌∷◌, ℕ, zero, suc, Bool, true, false, List, length, Option, Some, None, Result, Ok, Err, IfSome, IsTrue, IsUtf8, nat_eq, nat_lt, if◌then◌else◌, refl, subst, ap, arith, length-append}
 use Rattle.std.proofs.lemmas.Bool.{ltb-true}
 use Rattle.std.proofs.lemmas.Bool.Decides.{nat_tests}
+use Rattle.yd_words.specs.Each.{Each}
 use Rattle.yd_any.specs.Tree.{AnyTree, AnyTrees, tree, no_trees, with_last}
 use Rattle.yd_any.specs.Valid.{is_valid_any}
-use Rattle.yd_ids.specs.Each.{Each}
 use Rattle.yd_ids.specs.Id.{IsClock, IsId}
 use Rattle.yd_ids.specs.declared.id.Client.{Client}
 use Rattle.yd_ids.specs.declared.id.Id.{Id}

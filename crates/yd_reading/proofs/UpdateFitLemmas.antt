@@ -1,6 +1,6 @@
 -- What reading an update gives is valid.
 use Rattle.std.proofs.Common.{◌≡◌, ◌+◌, ◌++◌, [], ◌∷◌, ℕ, Bool, true, false, List, Option, Result, Ok, if◌then◌else◌, subst, arith}
-use Rattle.yd_ids.specs.Each.{Each}
+use Rattle.yd_words.specs.Each.{Each}
 use Rattle.yd_ids.specs.Id.{IsSpan}
 use Rattle.yd_ids.specs.Set.{AreMaximal, set_of}
 use Rattle.yd_ids.specs.declared.id.Client.{Client}

@@ -1,6 +1,6 @@
 -- Reading state vectors by their plan, step by step; what is read is entries.
 use Rattle.std.proofs.Common.{◌≡◌, [], ℕ, List, Result, Ok}
-use Rattle.yd_ids.specs.Each.{Each}
+use Rattle.yd_words.specs.Each.{Each}
 use Rattle.yd_ids.specs.Vector.{IsEntry, vector_of_entries}
 use Rattle.yd_ids.specs.declared.id.Client.{Client}
 use Rattle.yd_parts.specs.Fault.{Fault}

@@ -4,17 +4,17 @@ use Rattle.std.specs.Prelude.{slice_get, filter, IfSome}
 use Rattle.std.proofs.lemmas.List.{take-append-drop}
 use Rattle.std.proofs.lemmas.List.Elements.{filter-append}
 use Rattle.std.proofs.lemmas.Option.{slice_get_within}
-use Rattle.yd_ids.specs.Each.{Each}
+use Rattle.yd_words.specs.Each.{Each}
+use Rattle.yd_words.specs.Member.{IsIn as IsOneOf}
+use Rattle.yd_words.proofs.EachLemmas.{each_append}
+use Rattle.yd_words.proofs.MemberLemmas.{in_left_part as one_of_front, in_right_part as one_of_back, in_parts as one_of_parts}
 use Rattle.yd_ids.specs.Id.{IsId}
-use Rattle.yd_ids.proofs.EachLemmas.{each_append}
 use Rattle.yd_ops.specs.declared.runs.Run.{Run}
 use Rattle.yd_ops.specs.Operation.{UnitContent, Operation, later_id, units_of_content, operations_from}
 use Rattle.yd_ops.specs.Value.{RunValue, len_of}
 use Rattle.yd_ops.specs.Valid.{CarriesList}
 use Rattle.yd_ops.specs.View.{run_value, content_value}
 use Rattle.yd_ops.proofs.OperationLemmas.{length-units_of_content}
-use Rattle.yd_meaning.specs.Received.{IsOneOf}
-use Rattle.yd_meaning.proofs.OneOfLemmas.{one_of_front, one_of_back, one_of_parts}
 use Rattle.yd_received.specs.declared.taken.Taken.{Taken}
 use Rattle.yd_received.specs.Taken.{units_of, list_at, operations_of_taken, operations_in, IsTakenOf, StandsBefore, AreInOrder}
 use Rattle.yd_received.specs.Taking.{left_at, list_from, half_at, entry_of, IsRun, IsKept, Adds, operations_of_piece, IsRoom}

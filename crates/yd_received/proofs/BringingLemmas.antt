@@ -3,6 +3,7 @@ use Rattle.std.proofs.Common.{◌≡◌, ℕ, zero, suc, ◌+◌, ◌<◌, ◌�
 use Rattle.std.specs.Prelude.{slice_get}
 use Rattle.std.proofs.lemmas.Bool.{true≢false}
 use Rattle.std.proofs.lemmas.List.{take_all}
+use Rattle.yd_words.specs.Member.{IsIn as IsOneOf}
 use Rattle.yd_ids.specs.declared.id.Id.{Id}
 use Rattle.yd_ops.specs.declared.lists.List.{List as DocList}
 use Rattle.yd_ops.specs.declared.runs.Run.{Run}
@@ -10,7 +11,7 @@ use Rattle.yd_ops.specs.Operation.{UnitContent, Operation, later_id, units_of_co
 use Rattle.yd_ops.specs.Value.{RunValue, len_of}
 use Rattle.yd_ops.specs.View.{run_value}
 use Rattle.yd_ops.proofs.OperationLemmas.{length-units_of_content, length-operations_of_run}
-use Rattle.yd_meaning.specs.Received.{IsOneOf, has_operation, with_runs}
+use Rattle.yd_meaning.specs.Received.{has_operation, with_runs}
 use Rattle.yd_meaning.specs.Law.{ArePaired}
 use Rattle.yd_received.specs.declared.taken.Taken.{Taken}
 use Rattle.yd_received.specs.Taken.{AreTaken, operations_in, GrowBy}

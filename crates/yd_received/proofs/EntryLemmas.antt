@@ -3,10 +3,10 @@ use Rattle.std.proofs.Common.{◌≡◌, ℕ, zero, suc, ◌+◌, ◌-◌, ◌<�
 use Rattle.std.specs.List.Sorted.{IsPartitionedBy}
 use Rattle.std.proofs.lemmas.Bool.{cases_lt, or_left, or_right}
 use Rattle.std.proofs.lemmas.List.{take-append-drop}
+use Rattle.yd_words.specs.Each.{Each}
+use Rattle.yd_words.proofs.EachLemmas.{each_weaker, each_append, each_at}
 use Rattle.yd_ids.specs.declared.id.Id.{Id}
-use Rattle.yd_ids.specs.Each.{Each}
-use Rattle.yd_ids.proofs.EachLemmas.{each_weaker, each_append, each_at}
-use Rattle.yd_origins.proofs.IdLemmas.{same_client}
+use Rattle.yd_ids.proofs.IdLemmas.{same_client}
 use Rattle.yd_ops.specs.Operation.{later_id}
 use Rattle.yd_received.specs.declared.taken.Taken.{Taken}
 use Rattle.yd_received.specs.Taken.{StandsBefore, AreInOrder, covers}

@@ -2,6 +2,7 @@
 use Rattle.std.proofs.Common.{◌≡◌, ◌↔◌, ℕ, zero, suc, ◌+◌, ◌-◌, ◌<◌, Bool, true, false, List, [], ◌∷◌, length, take, drop, Option, Some, ◌⊎◌, inl, inr, refl, sym, ap, ◌∙◌, subst, arith, length-drop, length-take}
 use Rattle.std.specs.Prelude.{slice_get}
 use Rattle.std.proofs.lemmas.Bool.{cases_lt, cases_Bool, true≢false}
+use Rattle.yd_words.specs.Member.{IsIn as IsOneOf}
 use Rattle.yd_ids.specs.declared.id.Id.{Id}
 use Rattle.yd_ops.specs.declared.lists.List.{List as DocList}
 use Rattle.yd_ops.specs.Operation.{UnitContent, Operation, later_id, units_of_content, operations_from, operations_of_run, IsHighUnit, IsLowUnit}
@@ -9,7 +10,7 @@ use Rattle.yd_ops.specs.Value.{RunValue, len_of}
 use Rattle.yd_ops.specs.Valid.{IsValidContent}
 use Rattle.yd_ops.proofs.OperationLemmas.{length-units_of_content}
 use Rattle.yd_meaning.specs.Pairs.{is_high, is_low, is_text_and}
-use Rattle.yd_meaning.specs.Received.{IsOneOf, has_operation, is_torn, as_taken}
+use Rattle.yd_meaning.specs.Received.{has_operation, is_torn, as_taken}
 use Rattle.yd_meaning.specs.Law.{ArePaired}
 use Rattle.yd_meaning.proofs.PartnerLemmas.{high_unit, low_unit}
 use Rattle.yd_meaning.proofs.PairingLemmas.{high_torn, low_torn, other_torn}
@@ -130,7 +131,7 @@ one_as_half id left right list (unit ∷ units) half some q (inl e) = (record { 
 one_as_half id left right list (unit ∷ units) half some q (inr i) = absurd i
 
 half_as_one : (id : Id) (left right : Option Id) (list : Option DocList) (units : List UnitContent) (half : UnitContent) (o : Operation) → IsOneOf o (operations_from id left right list (take 1 units)) →
-    IsOneOf (record { id = o.id; left_origin = o.left_origin; right_origin = o.right_origin; list = o.list; content = half }) (record { id = id; left_origin = left; right_origin = right; list = list; content = half } ∷ [])
+    IsOneOf {X = Operation} (record { id = o.id; left_origin = o.left_origin; right_origin = o.right_origin; list = o.list; content = half }) (record { id = id; left_origin = left; right_origin = right; list = list; content = half } ∷ [])
 half_as_one id left right list [] half o i = absurd i
 half_as_one id left right list (unit ∷ units) half o (inl e) = inl (ap (λ (p : Operation). record { id = p.id; left_origin = p.left_origin; right_origin = p.right_origin; list = p.list; content = half }) e)
 half_as_one id left right list (unit ∷ units) half o (inr i) = absurd i

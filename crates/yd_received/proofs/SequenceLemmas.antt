@@ -4,9 +4,10 @@ use Rattle.std.specs.Prelude.{IsTrue}
 use Rattle.std.specs.Bool.{OnFalse}
 use Rattle.std.proofs.lemmas.Bool.{cases_Bool, or_parts, or_from, or_cases, or_left, or_right}
 use Rattle.std.proofs.lemmas.List.{map_more}
+use Rattle.yd_words.specs.Each.{Each}
+use Rattle.yd_words.proofs.MemberLemmas.{in_left_part as one_of_front, in_right_part as one_of_back, in_parts as one_of_parts}
 use Rattle.yd_ids.specs.declared.id.Client.{Client}
 use Rattle.yd_ids.specs.declared.id.Id.{Id}
-use Rattle.yd_ids.specs.Each.{Each}
 use Rattle.yd_ids.specs.Id.{IsClient, IsClock}
 use Rattle.yd_ops.specs.declared.runs.Run.{Run}
 use Rattle.yd_ops.specs.Operation.{Operation, operations_of_run, operations_of_structs, operations_of_blocks}
@@ -16,7 +17,7 @@ use Rattle.yd_ops.specs.View.{struct_value, block_value}
 use Rattle.yd_ops.specs.declared.updates.Block.{Block}
 use Rattle.yd_ops.specs.declared.updates.Struct.{Struct}
 use Rattle.yd_meaning.specs.Received.{has_operation, with_runs, runs_of_structs, runs_of_blocks}
-use Rattle.yd_meaning.proofs.OneOfLemmas.{one_of_front, one_of_back, one_of_parts, operation_with}
+use Rattle.yd_meaning.proofs.OneOfLemmas.{operation_with}
 use Rattle.yd_meaning.proofs.RunsLemmas.{with_runs-append}
 use Rattle.yd_received.specs.declared.taken.Taken.{Taken}
 use Rattle.yd_received.specs.Taken.{operations_in, GrowBy}

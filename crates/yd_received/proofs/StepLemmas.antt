@@ -4,14 +4,15 @@ use Rattle.std.specs.Prelude.{filter}
 use Rattle.std.proofs.lemmas.Bool.{cases_Bool, true≢false, false_from_ne_true, or_left, or_right, or_from}
 use Rattle.std.proofs.lemmas.List.{take_all}
 use Rattle.std.proofs.lemmas.Option.{slice_get_within}
+use Rattle.yd_words.specs.Each.{Each}
+use Rattle.yd_words.specs.Member.{IsIn as IsOneOf}
+use Rattle.yd_words.proofs.EachLemmas.{each_weaker}
 use Rattle.yd_ids.specs.declared.id.Id.{Id}
-use Rattle.yd_ids.specs.Each.{Each}
-use Rattle.yd_ids.proofs.EachLemmas.{each_weaker}
 use Rattle.yd_ops.specs.declared.runs.Run.{Run}
 use Rattle.yd_ops.specs.Operation.{Operation, later_id, operations_of_run}
 use Rattle.yd_ops.specs.Value.{RunValue, len_of}
 use Rattle.yd_ops.proofs.OperationLemmas.{length-units_of_content, length-operations_of_run}
-use Rattle.yd_meaning.specs.Received.{IsOneOf, has_operation, IsWritten, is_torn, as_taken, with_run}
+use Rattle.yd_meaning.specs.Received.{has_operation, IsWritten, is_torn, as_taken, with_run}
 use Rattle.yd_meaning.specs.Law.{ArePaired}
 use Rattle.yd_meaning.proofs.OneOfLemmas.{operation_with, id_there, ids_stay}
 use Rattle.yd_meaning.proofs.TakingLemmas.{IsTakenFrom, as_taken-id, with_run_is, with_run_alone, with_run_ids, with_run_stays}

@@ -1,15 +1,17 @@
 -- What was taken of kept runs: its ids, its order, and that more runs behind the others change nothing.
 use Rattle.std.proofs.Common.{◌≡◌, ℕ, zero, suc, ◌+◌, ◌<◌, ◌≤◌, true, ◌||◌, ◌&&◌, nat_eq, nat_le, nat_lt, List, [], ◌∷◌, ◌++◌, length, take, drop, min, Option, Some, None, inl, inr, refl, sym, ap, ◌∙◌, subst, arith, tests, append_assoc, append-nil, length-append, length-drop, length-take}
 use Rattle.std.specs.Prelude.{slice_get, IfSome}
+use Rattle.yd_words.specs.Each.{Each}
+use Rattle.yd_words.specs.Member.{IsIn as IsOneOf}
+use Rattle.yd_words.proofs.EachLemmas.{each_weaker}
+use Rattle.yd_words.proofs.MemberLemmas.{in_parts as one_of_parts}
 use Rattle.yd_ids.specs.declared.id.Id.{Id}
-use Rattle.yd_ids.specs.Each.{Each}
-use Rattle.yd_ids.proofs.EachLemmas.{each_weaker}
+use Rattle.yd_ids.specs.Ids.{is_written_before}
 use Rattle.yd_ops.specs.declared.lists.List.{List as DocList}
 use Rattle.yd_ops.specs.declared.runs.Run.{Run}
 use Rattle.yd_ops.specs.Valid.{CarriesList}
 use Rattle.yd_ops.specs.Operation.{UnitContent, Operation, later_id, operations_from}
-use Rattle.yd_meaning.specs.Received.{IsOneOf, has_operation, is_written_before, IsWritten}
-use Rattle.yd_meaning.proofs.OneOfLemmas.{one_of_parts}
+use Rattle.yd_meaning.specs.Received.{has_operation, IsWritten}
 use Rattle.yd_received.specs.declared.taken.Taken.{Taken}
 use Rattle.yd_received.specs.Taken.{units_of, list_at, operations_of_taken, operations_in, IsTakenOf, StandsBefore, AreInOrder, covers, GrowBy}
 use Rattle.yd_received.specs.Taking.{is_covered, HasUnits}

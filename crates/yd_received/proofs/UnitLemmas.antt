@@ -1,11 +1,12 @@
 -- The operations of units in a row: a part of them, and their ids.
 use Rattle.std.proofs.Common.{◌≡◌, ℕ, zero, suc, ◌+◌, ◌<◌, Bool, true, false, ◌||◌, ◌&&◌, nat_eq, nat_le, nat_lt, List, [], ◌∷◌, ◌++◌, length, take, drop, Option, Some, None, inl, inr, refl, sym, ap, ◌∙◌, arith, tests}
 use Rattle.std.specs.Prelude.{slice_get}
+use Rattle.yd_words.specs.Member.{IsIn as IsOneOf}
 use Rattle.yd_ids.specs.declared.id.Id.{Id}
-use Rattle.yd_origins.specs.Ids.{is_same}
+use Rattle.yd_ids.specs.Ids.{is_same}
 use Rattle.yd_ops.specs.declared.lists.List.{List as DocList}
 use Rattle.yd_ops.specs.Operation.{UnitContent, Operation, later_id, operations_from}
-use Rattle.yd_meaning.specs.Received.{IsOneOf, has_operation}
+use Rattle.yd_meaning.specs.Received.{has_operation}
 use Rattle.yd_received.specs.Taking.{left_at, list_from}
 
 -- ---- ids in a row

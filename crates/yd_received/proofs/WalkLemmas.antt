@@ -3,13 +3,15 @@ use Rattle.std.proofs.Common.{◌≡◌, ◌↔◌, ℕ, ◌+◌, ◌-◌, ◌<�
 use Rattle.std.specs.Prelude.{filter}
 use Rattle.std.proofs.Math.Seq.{take-add}
 use Rattle.std.proofs.lemmas.Bool.{true≢false, false_from_ne_true}
+use Rattle.yd_words.specs.Each.{Each}
+use Rattle.yd_words.specs.Member.{IsIn as IsOneOf}
+use Rattle.yd_words.proofs.MemberLemmas.{in_left_part as one_of_front, in_right_part as one_of_back, in_parts as one_of_parts}
 use Rattle.yd_ids.specs.declared.id.Id.{Id}
-use Rattle.yd_ids.specs.Each.{Each}
 use Rattle.yd_ops.specs.declared.runs.Run.{Run}
 use Rattle.yd_ops.specs.Operation.{Operation, later_id, operations_of_run}
 use Rattle.yd_ops.specs.Value.{RunValue, len_of}
-use Rattle.yd_meaning.specs.Received.{IsOneOf, has_operation, is_torn}
-use Rattle.yd_meaning.proofs.OneOfLemmas.{one_of_front, one_of_back, one_of_parts, operation_with, id_there, ids_stay}
+use Rattle.yd_meaning.specs.Received.{has_operation, is_torn}
+use Rattle.yd_meaning.proofs.OneOfLemmas.{operation_with, id_there, ids_stay}
 use Rattle.yd_meaning.proofs.TakingLemmas.{IsTakenFrom, as_taken-id}
 use Rattle.yd_received.specs.declared.taken.Taken.{Taken}
 use Rattle.yd_received.specs.Taken.{IsTakenOf, AreInOrder, operations_in, is_held, GrowBy}

@@ -1,13 +1,14 @@
 -- What was taken, as operations: which ids they have, and that they are in the order of writing.
 use Rattle.std.proofs.Common.{◌≡◌, ℕ, ◌+◌, ◌<◌, ◌≤◌, List, [], ◌∷◌, Option, Some, None, inl, inr, take, drop, length, ap, subst, arith}
 use Rattle.std.specs.Prelude.{filter, slice_get}
+use Rattle.yd_words.specs.Each.{Each}
+use Rattle.yd_words.specs.Member.{IsIn as IsOneOf}
+use Rattle.yd_words.proofs.MemberLemmas.{in_parts as one_of_parts}
 use Rattle.yd_ids.specs.declared.id.Id.{Id}
-use Rattle.yd_ids.specs.Each.{Each}
 use Rattle.yd_ops.specs.declared.lists.List.{List as DocList}
 use Rattle.yd_ops.specs.declared.runs.Run.{Run}
 use Rattle.yd_ops.specs.Operation.{UnitContent, Operation, later_id, operations_from}
-use Rattle.yd_meaning.specs.Received.{IsOneOf, IsWritten}
-use Rattle.yd_meaning.proofs.OneOfLemmas.{one_of_parts}
+use Rattle.yd_meaning.specs.Received.{IsWritten}
 use Rattle.yd_received.specs.declared.taken.Taken.{Taken}
 use Rattle.yd_received.specs.Taken.{units_of, list_at, operations_of_taken, operations_in, IsTakenOf, AreTaken, is_held, held_in}
 use Rattle.yd_received.proofs.EntriesLemmas.{each_kept, order_kept}

@@ -1,7 +1,7 @@
 -- What a replica keeps of the operations that it received: runs, and of each the units that were taken (own).
 use Rattle.std.specs.Prelude.{◌≡◌, ℕ, ◌+◌, ◌<◌, ◌≤◌, ◌⊎◌, Bool, zero, suc, List, [], ◌∷◌, ◌++◌, Option, Some, None, take, drop, filter, length, slice_get, is_some, nat_eq, nat_le, nat_lt, ◌&&◌, IfSome}
+use Rattle.yd_words.specs.Each.{Each}
 use Rattle.yd_ids.specs.declared.id.Id.{Id}
-use Rattle.yd_ids.specs.Each.{Each}
 use Rattle.yd_ids.specs.Id.{IsId, IsClock}
 use Rattle.yd_ops.specs.declared.lists.List.{List as DocList}
 use Rattle.yd_ops.specs.declared.runs.Run.{Run}

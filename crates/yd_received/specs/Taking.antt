@@ -1,7 +1,8 @@
 -- What an update brings that was not received before, and how its runs are taken in, unit after unit (own).
 use Rattle.std.specs.Prelude.{◌≡◌, ℕ, zero, suc, ◌+◌, ◌-◌, ◌<◌, ◌≤◌, ◌⊎◌, Bool, true, false, ◌&&◌, ◌||◌, nat_eq, nat_le, nat_lt, List, [], ◌∷◌, ◌++◌, Option, Some, None, length, take, drop, filter, slice_get}
+use Rattle.yd_words.specs.Each.{Each}
+use Rattle.yd_words.specs.Member.{IsIn as IsOneOf}
 use Rattle.yd_ids.specs.declared.id.Id.{Id}
-use Rattle.yd_ids.specs.Each.{Each}
 use Rattle.yd_ids.specs.Id.{IsClient, IsClock}
 use Rattle.yd_units.specs.Half.{IsCut}
 use Rattle.yd_ops.specs.declared.lists.List.{List as DocList}
@@ -10,7 +11,7 @@ use Rattle.yd_ops.specs.Operation.{Operation, later_id, operations_of_run, opera
 use Rattle.yd_ops.specs.Value.{ContentValue, json, binary, string, embed, format, nested, any, len_of, RunValue, StructValue, item, skip, UpdateValue}
 use Rattle.yd_ops.specs.Valid.{IsRunAt}
 use Rattle.yd_ops.specs.View.{run_value}
-use Rattle.yd_meaning.specs.Received.{IsOneOf, has_operation, with_runs}
+use Rattle.yd_meaning.specs.Received.{has_operation, with_runs}
 use Rattle.yd_received.specs.declared.taken.Taken.{Taken}
 use Rattle.yd_received.specs.Taken.{AreTaken, IsTakenOf, operations_of_taken, operations_in, is_held, covers, GrowBy}
 

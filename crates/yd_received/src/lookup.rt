@@ -2,7 +2,7 @@
 
 ghost use Rattle.std.specs.Prelude.{◌≡◌, ◌≢◌, ◌<◌, ◌≤◌, true, false, length, take, drop};
 ghost use Rattle.std.specs.Prelude.{HoldsAt, IfSome, IfNone};
-ghost use Rattle.yd_ids.specs.Each.{Each};
+ghost use Rattle.yd_words.specs.Each.{Each};
 ghost use Rattle.yd_received.specs.Taken.{AreInOrder, covers};
 ghost use Rattle.yd_received.specs.Lookup.{begins_by};
 ghost use Rattle.yd_received.specs.Taking.{is_covered, HasUnits};

@@ -2,7 +2,7 @@
 
 ghost use Rattle.std.specs.Prelude.{◌≡◌, ◌↔◌, ◌<◌, ◌≤◌, ◌-◌, ◌⊎◌, [], ◌∷◌, length, filter, map, IsTrue, OnOk, IfOk};
 ghost use Rattle.std.specs.Bool.{OnFalse};
-ghost use Rattle.yd_ids.specs.Each.{Each};
+ghost use Rattle.yd_words.specs.Each.{Each};
 ghost use Rattle.yd_ops.specs.Operation.{operations_of_run, operations_of_structs, operations_of_blocks};
 ghost use Rattle.yd_ops.specs.Valid.{IsValidBlock, IsValidUpdate};
 ghost use Rattle.yd_ops.specs.Value.{len_of};

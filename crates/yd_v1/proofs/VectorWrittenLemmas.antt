@@ -1,7 +1,7 @@
 -- What is written of a state vector.
 use Rattle.std.proofs.Common.{◌≡◌, ◌∙◌, ◌++◌, [], ◌∷◌, ℕ, List, length, reverse, refl, ap, subst}
 use Rattle.std.proofs.lemmas.List.{length-reverse}
-use Rattle.yd_ids.specs.Each.{Each}
+use Rattle.yd_words.specs.Each.{Each}
 use Rattle.yd_ids.specs.declared.id.Client.{Client}
 use Rattle.yd_fields.specs.Field.{Field}
 use Rattle.yd_fields.specs.Field as field

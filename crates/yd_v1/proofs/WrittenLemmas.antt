@@ -1,6 +1,6 @@
 -- What is written is read: a plan that expects fields reads them from their bytes.
 use Rattle.std.proofs.Common.{◌≡◌, ◌∙◌, ◌++◌, ℕ, List, [], ◌∷◌, Result, Ok, Err, IsOkAnd, append_assoc, refl, ap, subst, sym}
-use Rattle.yd_ids.specs.Each.{Each}
+use Rattle.yd_words.specs.Each.{Each}
 use Rattle.yd_parts.specs.Fault.{Fault}
 use Rattle.yd_fields.specs.Field.{Field, FieldValue, FieldPlan}
 use Rattle.yd_parts.specs.Plan.{Expects, give, refuse, want, read_by}

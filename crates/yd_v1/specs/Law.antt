@@ -1,6 +1,6 @@
 -- The laws of fields in V1.
 use Rattle.std.specs.Prelude.{List}
-use Rattle.yd_ids.specs.Each.{Each}
+use Rattle.yd_words.specs.Each.{Each}
 use Rattle.yd_fields.specs.Field.{Field, FieldPlan}
 use Rattle.yd_parts.specs.Exact.{ReadsExactly}
 use Rattle.yd_parts.specs.Plan.{Expects}

@@ -1,7 +1,7 @@
 //! State vectors, written.
 
 ghost use Rattle.std.specs.Prelude.{◌≡◌, ◌++◌, ◌∷◌, [], reverse, IfOk, OnOk};
-ghost use Rattle.yd_ids.specs.Each.{Each};
+ghost use Rattle.yd_words.specs.Each.{Each};
 ghost use Rattle.yd_ids.specs.Vector.{IsEntry, IsVector};
 ghost use Rattle.yd_fields.specs.UpdatePlan.{vector_plan};
 ghost use Rattle.yd_v1.specs.Bytes.{V1Spells, v1_bytes, v1_bytes_of_all};

@@ -1,6 +1,7 @@
 -- What a reader that files lead to gives fits its type, and what is left is so again.
 use Rattle.std.proofs.Common.{◌≡◌, ◌∙◌, ◌+◌, ◌^◌, ◌<◌, ◌++◌, ℕ, zero, suc, List, [], ◌∷◌, Bool, true, false, Option, Some, None, Result, Ok, Err, IsTrue, IsUtf8, nat_lt, if◌then◌else◌, refl, ap, sym, subst, inl, inr, arith}
 use Rattle.std.proofs.lemmas.Bool.Decides.{nat_tests}
+use Rattle.yd_words.specs.Each.{Each}
 use Rattle.yd_any.proofs.CarriedLemmas.{valid-settled}
 use Rattle.yd_any.specs.Carried.{is_carried, settled}
 use Rattle.yd_any.specs.Outcome.{carried}
@@ -18,7 +19,6 @@ use Rattle.yd_fields.specs.Field as field
 use Rattle.yd_reading.specs.Judged.{flag_at, range_at}
 use Rattle.yd_fields.specs.JsonPlan.{made_at}
 use Rattle.yd_any.specs.declared.fault.JsonFault.TheVariants.{NumberNotCarried}
-use Rattle.yd_ids.specs.Each.{Each}
 use Rattle.yd_ids.specs.Id.{IsId}
 use Rattle.yd_ids.specs.declared.id.Id.{Id}
 use Rattle.yd_num.proofs.ReadingLemmas.{ok_value}

@@ -1,6 +1,7 @@
 -- What is written in V2 is read again: a plan that expects fields reads them from their file.
 use Rattle.std.proofs.Common.{◌≡◌, ◌∙◌, ◌++◌, ◌^◌, ◌<◌, ◌≤◌, [], ◌∷◌, ℕ, List, Ok, IsUtf8, append-nil, append_assoc, arith, length, refl, sym, ap, subst}
 use Rattle.std.specs.List.{AllByRecursion, concat}
+use Rattle.yd_words.specs.Each.{Each}
 use Rattle.yd_cols.proofs.BackLemmas.{bytes_back, diffs_back, strings_back, uints_back}
 use Rattle.yd_cols.proofs.StartLemmas.{bytes_start, diffs_start, uints_start}
 use Rattle.yd_cols.proofs.StringColumnLemmas.{strings_start}
@@ -11,7 +12,6 @@ use Rattle.yd_cols.specs.Writing.{DiffsWritten, RunsWritten, StringsWritten, byt
 use Rattle.yd_fields.specs.Field.{Field, FieldPlan, FieldType, FieldValue}
 use Rattle.yd_fields.specs.Field as field
 use Rattle.yd_fields.specs.Writes.{with_fields}
-use Rattle.yd_ids.specs.Each.{Each}
 use Rattle.yd_parts.specs.Plan.{Expects, give, read_by, refuse, want}
 use Rattle.yd_parts.specs.declared.fault.Spot.{Spot}
 use Rattle.yd_v2.proofs.FieldPartsLemmas.{FieldParts, IsField, WantsField, field_parts}

@@ -1,6 +1,6 @@
 -- The laws of fields in V2.
 use Rattle.std.specs.Prelude.{List}
-use Rattle.yd_ids.specs.Each.{Each}
+use Rattle.yd_words.specs.Each.{Each}
 use Rattle.yd_fields.specs.Field.{Field, FieldPlan}
 use Rattle.yd_fields.specs.Writes.{with_fields}
 use Rattle.yd_parts.specs.Exact.{ReadsExactly}

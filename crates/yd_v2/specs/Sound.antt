@@ -1,6 +1,6 @@
 -- Which readers files lead to: those whose values in hand are in range, and whose texts are UTF-8 (own).
 use Rattle.std.specs.Prelude.{◌^◌, ◌<◌, IsUtf8}
-use Rattle.yd_ids.specs.Each.{Each}
+use Rattle.yd_words.specs.Each.{Each}
 use Rattle.yd_v2.specs.Left.{V2Left}
 use Rattle.yd_v2.specs.Reading.{V2Now}
 

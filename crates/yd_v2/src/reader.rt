@@ -42,7 +42,7 @@ pub struct V2Reader<'a> {
 
 impl<'a> Model for V2Reader<'a> {
     ghost use Rattle.std.specs.Prelude.{IsUtf8};
-    ghost use Rattle.yd_ids.specs.Each.{Each};
+    ghost use Rattle.yd_words.specs.Each.{Each};
     ghost use Rattle.yd_v2.specs.KnownView.{keys_of};
     ghost use Rattle.yd_v2.specs.Reading.{V2Now};
 

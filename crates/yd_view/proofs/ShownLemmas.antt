@@ -1,13 +1,14 @@
 -- The text of a list, unit by unit: in a received set with whole pairs the ids alone tell which halves are partners.
 use Rattle.std.proofs.Common.{◌≡◌, ◌⊎◌, ◌+◌, ℕ, Bool, true, false, ◌&&◌, ◌||◌, not, List, [], ◌∷◌, Option, Some, None, inl, inr, map, refl, sym, ap, ◌∙◌, arith}
 use Rattle.std.specs.Prelude.{filter, if◌then◌else◌}
+use Rattle.yd_words.specs.Member.{IsIn as IsOneOf}
 use Rattle.yd_ids.specs.declared.id.Id.{Id}
+use Rattle.yd_ids.specs.Ids.{is_same, is_same_neighbour}
+use Rattle.yd_ids.proofs.IdLemmas.{same_numbers, same_is, same_itself}
 use Rattle.yd_ops.specs.declared.lists.List.{List as DocList}
 use Rattle.yd_ops.specs.Operation.{UnitContent, text_unit, any_unit, json_unit, bytes, embedded, mark, nested_type, Operation, later_id}
-use Rattle.yd_origins.specs.Ids.{is_same, is_same_neighbour}
-use Rattle.yd_origins.proofs.IdLemmas.{same_numbers, same_is, same_itself}
 use Rattle.yd_meaning.specs.Pairs.{is_high, is_low, is_text_and, are_partners}
-use Rattle.yd_meaning.specs.Received.{IsOneOf, Received}
+use Rattle.yd_meaning.specs.Received.{Received}
 use Rattle.yd_meaning.specs.Held.{held_set}
 use Rattle.yd_meaning.specs.Order.{order_of}
 use Rattle.yd_meaning.specs.Document.{operation_before, operations_at, document_of}

@@ -3,16 +3,16 @@ use Rattle.std.proofs.Common.{◌≡◌, ◌≢◌, ℕ, zero, suc, ◌+◌, ◌
 use Rattle.std.specs.Prelude.{slice_get, if◌then◌else◌}
 use Rattle.std.proofs.lemmas.List.{take_more, get_or-drop, length-take-le, take-map, drop-map}
 use Rattle.std.proofs.lemmas.Option.{slice_get-get_or}
+use Rattle.yd_words.specs.Each.{Each}
 use Rattle.yd_any.specs.Tree.{AnyTrees, no_trees, tree}
 use Rattle.yd_ids.specs.declared.id.Id.{Id}
-use Rattle.yd_ids.specs.Each.{Each}
+use Rattle.yd_ids.specs.Ids.{is_same}
 use Rattle.yd_ops.specs.declared.contents.Content.{Content}
 use Rattle.yd_ops.specs.declared.contents.Content.TheVariants.{Json, Binary, Str, Embed, Format, Nested, Any}
 use Rattle.yd_ops.specs.Operation.{UnitContent, text_unit, json_unit, units_of_trees, units_of_content, later_id}
 use Rattle.yd_ops.specs.View.{unit_value, content_value}
 use Rattle.yd_ops.proofs.OperationLemmas.{length-units_of_content}
 use Rattle.yd_any.specs.AnyView.{any_trees}
-use Rattle.yd_origins.specs.Ids.{is_same}
 use Rattle.yd_meaning.specs.Pairs.{is_high}
 use Rattle.yd_doc.specs.declared.listing.RunView.{RunView}
 use Rattle.yd_doc.specs.Lent.{Lent, lent_from, units_of_view, IsWithin}

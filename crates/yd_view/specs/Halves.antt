@@ -1,8 +1,8 @@
 -- Text units one after another, with U+FFFD for each half whose partner does not stand beside it (The Unicode Standard, section 3.9; that it is done by ids is own).
 use Rattle.std.specs.Prelude.{◌≡◌, ℕ, Bool, false, ◌&&◌, ◌||◌, not, List, [], ◌∷◌, ◌++◌, Option, Some, None, if◌then◌else◌}
 use Rattle.yd_ids.specs.declared.id.Id.{Id}
+use Rattle.yd_ids.specs.Ids.{is_same}
 use Rattle.yd_ops.specs.Operation.{UnitContent, text_unit, any_unit, json_unit, bytes, embedded, mark, nested_type, later_id}
-use Rattle.yd_origins.specs.Ids.{is_same}
 use Rattle.yd_meaning.specs.Pairs.{is_high, is_low}
 use Rattle.yd_doc.specs.Lent.{Lent}
 use Rattle.yd_view.specs.declared.halves.Seen.{Seen}

@@ -1,5 +1,5 @@
+use Rattle.yd_words.proofs.EachLemmas.{each_weaker}
 use Rattle.yd_ids.specs.Id.{IsId}
-use Rattle.yd_ids.proofs.EachLemmas.{each_weaker}
 use Rattle.yd_received.specs.Taken.{IsTakenOf}
 use Rattle.yd_doc.proofs.RestoringLemmas.{ids_back, received_back, sound_back}
 use Rattle.yd_doc.proofs.applying.apply_to.Goals as goal

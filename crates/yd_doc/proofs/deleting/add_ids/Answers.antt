@@ -1,7 +1,7 @@
 use Rattle.std.proofs.Common.{get_or}
+use Rattle.yd_words.proofs.EachLemmas.{each_at}
 use Rattle.yd_ids.specs.declared.id.Id.{Id}
 use Rattle.yd_ids.specs.Id.{IsSpan}
-use Rattle.yd_ids.proofs.EachLemmas.{each_at}
 use Rattle.yd_doc.specs.Deleting.{span_of_id}
 use Rattle.yd_doc.proofs.AddingIdLemmas.{no_id, adding_longer, adding_next}
 use Rattle.yd_doc.proofs.deleting.add_ids.Goals.{then-id-span+then-id-span-2, else-id-span+in_ok-insert}

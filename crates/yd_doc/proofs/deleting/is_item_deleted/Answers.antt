@@ -1,6 +1,6 @@
 use Rattle.std.proofs.Common.{sym, ap, ◌∙◌}
-use Rattle.yd_origins.specs.Ids.{is_some_and}
-use Rattle.yd_origins.proofs.TestLemmas.{one_answer}
+use Rattle.yd_words.specs.Test.{is_some_and}
+use Rattle.yd_words.proofs.TestLemmas.{one_answer}
 use Rattle.yd_meaning.specs.Held.{is_named}
 use Rattle.yd_meaning.specs.Names.{item_of_parent}
 use Rattle.yd_doc.proofs.NamedLemmas.{named_decides}

@@ -1,6 +1,6 @@
 use Rattle.std.proofs.Common.{◌∙◌, sym}
 use Rattle.std.specs.Cmp.{booleans_Decides}
-use Rattle.yd_origins.proofs.IdLemmas.{same_is}
+use Rattle.yd_ids.proofs.IdLemmas.{same_is}
 use Rattle.yd_doc.proofs.LendingLemmas.{asked_named}
 use Rattle.yd_doc.proofs.listing.goes_on.Goals as goal
 

@@ -1,6 +1,6 @@
 use Rattle.std.proofs.Common.{◌≡◌, ◌∙◌, ◌<◌, length, get_or, ap, sym, subst, arith}
+use Rattle.yd_words.proofs.EachLemmas.{each_at}
 use Rattle.yd_ids.specs.Id.{IsId}
-use Rattle.yd_ids.proofs.EachLemmas.{each_at}
 use Rattle.yd_received.specs.declared.taken.Taken.{Taken}
 use Rattle.yd_held.specs.Holding.{undone}
 use Rattle.yd_doc.proofs.RestoringLemmas.{walked, walked_all, walked_next, walked_more}

@@ -1,5 +1,5 @@
 use Rattle.std.proofs.Common.{◌≡◌, ◌<◌, length, drop}
-use Rattle.yd_ids.specs.Each.{Each}
+use Rattle.yd_words.specs.Each.{Each}
 use Rattle.yd_fields.proofs.delete_writing.last_group.Given as goal
 
 abbrev pub invariant-loop-start : goal.invariant-loop-start

@@ -1,5 +1,5 @@
 use Rattle.std.proofs.Common.{List, map, sym, subst}
-use Rattle.yd_ids.specs.Each.{Each}
+use Rattle.yd_words.specs.Each.{Each}
 use Rattle.yd_ops.specs.View.{struct_value}
 use Rattle.yd_ops.specs.declared.updates.Struct.{Struct}
 use Rattle.yd_fields.specs.Writes.{IsWritableStruct}

@@ -1,6 +1,6 @@
 use Rattle.std.proofs.Common.{◌≡◌, true, false, rules, of_calls}
 use Rattle.std.proofs.lemmas.Fn.{always_returns_same}
-use Rattle.yd_ids.proofs.EachLemmas.{each_take, each_drop}
+use Rattle.yd_words.proofs.EachLemmas.{each_take, each_drop}
 use Rattle.yd_held.specs.declared.noting.Lack.{Lack}
 use Rattle.yd_held.specs.Noted.{stands_before}
 use Rattle.yd_held.proofs.LackLemmas.{lacks_parted}

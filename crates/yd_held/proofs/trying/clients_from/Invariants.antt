@@ -1,5 +1,5 @@
 use Rattle.std.proofs.Common.{take}
-use Rattle.yd_ids.specs.Each.{Each}
+use Rattle.yd_words.specs.Each.{Each}
 use Rattle.yd_ops.specs.declared.runs.Run.{Run}
 use Rattle.yd_held.specs.Noted.{StandsIn}
 use Rattle.yd_held.proofs.trying.clients_from.Given as goal

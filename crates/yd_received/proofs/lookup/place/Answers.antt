@@ -1,6 +1,6 @@
 use Rattle.std.proofs.Common.{◌≡◌, true, false, rules, of_calls}
 use Rattle.std.proofs.lemmas.Fn.{always_returns_same}
-use Rattle.yd_ids.proofs.EachLemmas.{each_take, each_drop}
+use Rattle.yd_words.proofs.EachLemmas.{each_take, each_drop}
 use Rattle.yd_received.specs.declared.taken.Taken.{Taken}
 use Rattle.yd_received.specs.Lookup.{begins_by}
 use Rattle.yd_received.proofs.LookupLemmas.{taken_parted}

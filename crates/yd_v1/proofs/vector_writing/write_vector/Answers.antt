@@ -1,5 +1,5 @@
 use Rattle.std.proofs.Common.{◌≡◌, ◌∙◌, sym, subst}
-use Rattle.yd_ids.specs.Each.{Each}
+use Rattle.yd_words.specs.Each.{Each}
 use Rattle.yd_ids.specs.Vector.{IsEntry}
 use Rattle.yd_fields.specs.UpdatePlan.{vector_plan}
 use Rattle.yd_v1.specs.Bytes.{v1_bytes_of_all}
