@@ -17,6 +17,7 @@ use crate::writing::write_out;
 use std::alloc::Global;
 use yd_any::Text;
 use yd_doc::Replica;
+use yd_doc::law::own_document_is_defined;
 use yd_ops::{List, Parent};
 use yd_view::text;
 use yd_world::{Library, Sink};
@@ -49,6 +50,7 @@ pub fn show<'a, L: Library, S: Sink>(
 fn line_of_root(alloc: Global, replica: &Replica, root: &str) -> Result<Vec<u8>, NoMemory>
     ensures { IfOk result (λ line. line.items ≡ text_line root.now (received_of replica.now)) }
 {
+    own_document_is_defined(replica);
     let list = list_of_root(alloc, root)?;
     let units = text(alloc, replica, &list)?;
     let mut line = Vec::new(alloc);

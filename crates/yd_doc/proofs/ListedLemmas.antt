@@ -1,13 +1,15 @@
--- The units of a list as they are lent: its order is that of its name, its ids are held, and what is deleted is told.
+-- The document that a state has: each list has the order of its name, whose ids are held, and it is the one that is defined.
 use Rattle.std.proofs.Common.{◌≡◌, ℕ, zero, suc, ◌-◌, Bool, true, false, List, [], ◌∷◌, Some, inl, inr, length, map, refl, sym, ap, ◌∙◌, subst, arith}
+use Rattle.std.proofs.Math.Path.{fun_ext}
 use Rattle.std.specs.Prelude.{slice_get, if◌then◌else◌}
 use Rattle.std.specs.Global.{Vec}
 use Rattle.std.proofs.lemmas.List.{length-map}
 use Rattle.yd_words.specs.Each.{Each}
-use Rattle.yd_words.specs.Member.{IsIn, AreDistinct, IsIn as IsOneOf}
-use Rattle.yd_words.proofs.TestLemmas.{one_answer, both_hold, hold_both}
+use Rattle.yd_words.specs.Member.{IsIn, AreDistinct}
+use Rattle.yd_words.proofs.TestLemmas.{one_answer}
 use Rattle.yd_ids.specs.declared.id.Id.{Id}
 use Rattle.yd_ops.specs.declared.lists.List.{List as DocList}
+use Rattle.yd_ops.specs.declared.lists.Parent.{Parent}
 use Rattle.yd_ops.specs.declared.runs.Run.{Run}
 use Rattle.yd_ops.specs.Operation.{Operation}
 use Rattle.yd_origins.specs.Table.{ids_of, IsTable}
@@ -15,23 +17,23 @@ use Rattle.yd_origins.specs.Deleted.{last_of}
 use Rattle.yd_meaning.specs.Names.{same_list}
 use Rattle.yd_meaning.specs.ListNames.{same_list_decides}
 use Rattle.yd_meaning.specs.Received.{has_operation}
-use Rattle.yd_meaning.specs.Held.{held_set, is_named}
+use Rattle.yd_meaning.specs.Held.{is_named}
 use Rattle.yd_meaning.specs.Order.{rows_of, order_of}
-use Rattle.yd_meaning.specs.Deleted.{is_deleted}
-use Rattle.yd_meaning.specs.Document.{operations_at, document_of}
-use Rattle.yd_meaning.proofs.OneOfLemmas.{id_is_there}
+use Rattle.yd_meaning.specs.Deleted.{is_in_delete_set}
+use Rattle.yd_meaning.specs.Document.{Document, operations_at, keys_among, document_of, IsDocumentOf, AreDeletedIn}
 use Rattle.yd_meaning.proofs.RowLemmas.{written_distinct}
+use Rattle.yd_meaning.proofs.HeldLemmas.{held_in}
 use Rattle.yd_meaning.proofs.HeldListLemmas.{in_order_of}
 use Rattle.yd_meaning.proofs.DocumentLemmas.{operations_held}
 use Rattle.yd_received.specs.declared.taken.Taken.{Taken}
 use Rattle.yd_doc.specs.declared.state.State.{State}
 use Rattle.yd_doc.specs.Ordered.{AreOrders, order_lists, order_named}
-use Rattle.yd_doc.specs.State.{received_in, held_of, IsSound}
+use Rattle.yd_doc.specs.State.{received_in, held_of, document_in, IsSound}
 use Rattle.yd_doc.specs.Lending.{IsLending}
-use Rattle.yd_doc.specs.Lent.{Lent, lent, lent_units, lent_in}
+use Rattle.yd_doc.specs.Lent.{lent, lent_units, lent_in}
 use Rattle.yd_doc.specs.Replica.{last_unit}
 use Rattle.yd_received.proofs.WrittenLemmas.{held_written}
-use Rattle.yd_doc.proofs.NamedLemmas.{named_decides}
+use Rattle.yd_doc.proofs.NamedLemmas.{has_named, named_has, named_decides}
 use Rattle.yd_doc.proofs.NumberLemmas.{held_table, held_listed}
 
 -- ---- orders by names
@@ -73,13 +75,6 @@ is_each : (P : Id → Type 0) (xs : List Id) → ((x : Id) → IsIn x xs → P x
 is_each P [] f = tt
 is_each P (x ∷ xs) f = (f x (inl refl), is_each P xs (λ y i. f y (inr i)))
 
--- units are lent alike where the two tests of what is deleted agree
-lent_alike : (one other : Id → Bool) (os : List Operation) → ((o : Operation) → IsOneOf o os → one o.id ≡ other o.id) → map (lent one) os ≡ map (lent other) os
-lent_alike one other [] alike = refl
-lent_alike one other (o ∷ os) alike =
-    ap (λ (b : Bool). record { id = o.id; content = o.content; is_deleted = b } ∷ map (lent one) os) (alike o (inl refl))
-    ∙ ap (λ (us : List Lent). lent other o ∷ us) (lent_alike one other os (λ p i. alike p (inr i)))
-
 -- ---- lemmas for callers
 
 -- the id at the last place stands last
@@ -114,14 +109,6 @@ module _ (s : State) (sound : IsSound s) (name : DocList) where
   distinct : AreDistinct (ids_of (rows_of held))
   distinct = written_distinct held (held_written s.runs.items s.taken.items sound.taken)
 
-  -- what is held is deleted where the delete set names it
-  named_alike : (x : Id) → has_operation held x ≡ true → is_named s.deletes x ≡ is_deleted (held_set (received_in s).operations) (is_named s.named) x
-  named_alike x has = one_answer (is_named s.deletes x) (is_deleted (held_set (received_in s).operations) (is_named s.named) x) (named_decides s.deletes x) (
-    (λ e. (sound.deletes x).1 (hold_both (has_operation (held_set (received_in s).operations) x) (is_deleted (held_set (received_in s).operations) (is_named s.named) x)
-        (subst (λ os. has_operation os x ≡ true) sound.held has) e)),
-    (λ i. (both_hold (has_operation (held_set (received_in s).operations) x) (is_deleted (held_set (received_in s).operations) (is_named s.named) x) ((sound.deletes x).0 i)).1),
-  )
-
   -- the order that is found by its name is the list's
   pub order_is : (names : List DocList) (orders : List (Vec Id)) (order : List Id) → names ≡ s.names.items → orders ≡ s.orders.items →
       order ≡ order_named names (order_lists orders) name → order ≡ order_of held name
@@ -135,16 +122,50 @@ module _ (s : State) (sound : IsSound s) (name : DocList) where
       (subst (λ ts. IsLending (record { runs = s.runs.items; taken = ts; deletes = s.deletes; order = order })) (sym of_taken)
       (record { taken = sound.taken; held = subst (Each (λ id. has_operation held id ≡ true)) (sym e) (is_each (λ id. has_operation held id ≡ true) (order_of held name) in_list) }))
 
+  -- the units that the document has in the list are those with the ids of its order
+  units_are : (order : List Id) → order ≡ order_of held name → operations_at held order ≡ (document_in s).units name
+  units_are order e = ap (operations_at held) (e ∙ sym order_found)
+
   -- its units are lent as the document has them
   pub order_lent : (runs : List Run) (taken : List Taken) (order : List Id) → runs ≡ s.runs.items → taken ≡ s.taken.items → order ≡ order_of held name →
-      lent_in runs taken s.deletes order ≡ lent_units (document_of (received_in s)) name
+      lent_in runs taken s.deletes order ≡ lent_units (document_in s) name
   order_lent runs taken order of_runs of_taken e =
-      ap (λ rs. lent_in rs taken s.deletes order) of_runs ∙ ap (λ ts. lent_in s.runs.items ts s.deletes order) of_taken ∙ ap (λ xs. lent_in s.runs.items s.taken.items s.deletes xs) e
-      ∙ lent_alike (is_named s.deletes) (is_deleted (held_set (received_in s).operations) (is_named s.named)) (operations_at held (order_of held name))
-      (λ o i. named_alike o.id (id_is_there held o ((operations_held held distinct (order_of held name) in_list).1 o i)))
-      ∙ ap (λ os. map (lent (is_deleted (held_set (received_in s).operations) (is_named s.named))) (operations_at os (order_of os name))) sound.held
+      ap (λ rs. lent_in rs taken s.deletes order) of_runs ∙ ap (λ ts. lent_in s.runs.items ts s.deletes order) of_taken
+      ∙ ap (map (lent (is_named s.deletes))) (units_are order e)
+
+  -- they are received
+  pub units_received : (o : Operation) → IsIn o ((document_in s).units name) → IsIn o (received_in s).operations
+  units_received o i = held_in (received_in s).operations o (subst (IsIn o) sound.held ((operations_held held distinct (order_of held name) in_list).1 o
+      (subst (IsIn o) (sym (units_are (order_of held name) refl)) i)))
 
   -- the last id is that of the document's last unit
-  pub order_last : (order : List Id) → order ≡ order_of held name → last_of order ≡ last_unit (document_of (received_in s)) name
+  pub order_last : (order : List Id) → order ≡ order_of held name → last_of order ≡ last_unit (document_in s) name
   order_last order e = ap last_of (e ∙ sym (operations_held held distinct (order_of held name) in_list).0
-      ∙ ap (λ os. map (λ (o : Operation). o.id) (operations_at os (order_of os name))) sound.held)
+      ∙ ap (map (λ (o : Operation). o.id)) (units_are (order_of held name) refl))
+
+  -- they are the units of the document that is defined
+  units_defined : (document_in s).units name ≡ (document_of (received_in s)).units name
+  units_defined = ap (operations_at held) order_found ∙ ap (λ os. operations_at os (order_of os name)) sound.held
+
+-- the document with these parts
+abbrev of_parts : (DocList → List Operation) → (Id → Bool) → (Parent → List (List ℕ)) → Document
+of_parts units deleted keys = record { units = units; deleted = deleted; keys = keys }
+
+-- documents with the same parts are one
+same_parts : (one other : Document) → one.units ≡ other.units → one.deleted ≡ other.deleted → one.keys ≡ other.keys → one ≡ other
+same_parts one other units deleted keys =
+    ap (λ u. of_parts u one.deleted one.keys) units ∙ ap (λ d. of_parts other.units d one.keys) deleted ∙ ap (of_parts other.units other.deleted) keys
+
+-- the document is the one that what was received defines
+pub document_defined : (s : State) → IsSound s → IsDocumentOf (document_in s) (received_in s)
+document_defined s sound = same_parts (document_in s) (document_of (received_in s)) (fun_ext (units_defined s sound))
+    (fun_ext (λ x. one_answer (is_named s.deletes x) (is_in_delete_set (received_in s) x) (named_decides s.deletes x) ((sound.deletes x).1, (sound.deletes x).0)))
+    (ap keys_among sound.held)
+
+-- the ids of the delete set are those that are deleted in the document
+pub deletes_named : (s : State) → AreDeletedIn s.deletes (document_in s)
+deletes_named s x = (has_named s.deletes x, named_has s.deletes x)
+
+-- where the same was received, the document is the same
+pub one_document : (old new : State) → IsSound old → IsSound new → received_in new ≡ received_in old → document_in new ≡ document_in old
+one_document old new was is e = document_defined new is ∙ ap document_of e ∙ sym (document_defined old was)

@@ -3,8 +3,9 @@ use Rattle.std.specs.Prelude.{Bool}
 use Rattle.yd_ids.specs.declared.id.Client.{Client}
 use Rattle.yd_ids.specs.Id.{IsClient}
 use Rattle.yd_meaning.specs.Received.{Received}
+use Rattle.yd_meaning.specs.Document.{Document}
 use Rattle.yd_doc.specs.declared.state.State.{State}
-use Rattle.yd_doc.specs.State.{received_in, IsSound}
+use Rattle.yd_doc.specs.State.{received_in, document_in, IsSound}
 
 -- whose replica it is, whether it is behind, and what it keeps
 pub record Kept : Type 0 where
@@ -15,6 +16,10 @@ pub record Kept : Type 0 where
 -- what it received
 abbrev pub received_of : Kept → Received
 received_of r = received_in r.state
+
+-- the document that it has, in its own order and with its own delete set
+abbrev pub own_document : Kept → Document
+own_document r = document_in r.state
 
 -- all that it keeps is what it received defines
 pub record IsReplica (r : Kept) : Type 0 where

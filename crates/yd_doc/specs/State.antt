@@ -3,14 +3,15 @@ use Rattle.std.specs.Prelude.{◌≡◌, List, []}
 use Rattle.yd_ids.specs.Set.{AreMaximal}
 use Rattle.yd_ops.specs.Operation.{Operation}
 use Rattle.yd_meaning.specs.Received.{Received}
-use Rattle.yd_meaning.specs.Held.{held_set}
+use Rattle.yd_meaning.specs.Held.{held_set, is_named}
 use Rattle.yd_meaning.specs.Deleted.{AreDeleteSet}
+use Rattle.yd_meaning.specs.Document.{Document, operations_at, keys_among}
 use Rattle.yd_doc.specs.declared.state.State.{State}
 use Rattle.yd_received.specs.Taken.{AreTaken, operations_in, held_in}
 use Rattle.yd_held.specs.Numbered.{IsVectorOf, AreNumbered}
 use Rattle.yd_held.specs.Noted.{AreNoted, AreMissing}
 use Rattle.yd_held.specs.Holding.{HoldsAll}
-use Rattle.yd_doc.specs.Ordered.{AreOrders, order_lists}
+use Rattle.yd_doc.specs.Ordered.{AreOrders, order_lists, order_named}
 
 -- what is received: operations in the order of writing, and deletions
 abbrev pub received_in : State → Received
@@ -19,6 +20,15 @@ received_in s = record { operations = operations_in s.runs.items s.taken.items; 
 -- the held operations
 abbrev pub held_of : State → List Operation
 held_of s = held_in s.runs.items s.taken.items
+
+-- the document that it has: the held units of each list in the order that is kept for it, the ids of the delete set, and the keys
+-- under which units are held
+abbrev pub document_in : State → Document
+document_in s = record {
+  units = λ list. operations_at (held_of s) (order_named s.names.items (order_lists s.orders.items) list);
+  deleted = is_named s.deletes;
+  keys = keys_among (held_of s);
+}
 
 -- all is held that can be
 abbrev pub HoldsAllOf : State → Type 0

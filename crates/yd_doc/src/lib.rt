@@ -1,7 +1,8 @@
 //! A replica: what one client received, and the document that this defines.
 //!
-//! All that it tells is what the operations and deletions that it received define (`yd_meaning`),
-//! in whatever order and however often they came ([`Replica`]). An `apply` that finds no memory has
+//! What it tells is read of its own document ([`Replica`]). This is the document that the operations
+//! and deletions that it received define (`yd_meaning`), in whatever order and however often they
+//! came ([`law`]). An `apply` that finds no memory has
 //! received nothing: the replica tells what it told before, and that it is behind.
 //!
 //! ```rust
@@ -16,6 +17,7 @@ mod changing;
 mod deleting;
 mod fault;
 mod finding;
+pub mod law;
 mod listing;
 mod novelty;
 mod ordering;

@@ -1,16 +1,17 @@
 //! Replicas: what one client received, and what it holds of it.
 
 ghost use Rattle.std.specs.Prelude.{◌≡◌, ◌↔◌, ◌∷◌, [], ℕ, true, false, IsTrue, IfOk, OnOk, OnErr};
+ghost use Rattle.yd_words.specs.Member.{IsIn};
 ghost use Rattle.yd_ids.specs.Id.{IsClient};
 ghost use Rattle.yd_ids.specs.Vector.{clock_of};
 ghost use Rattle.yd_ops.specs.Valid.{IsValidUpdate};
 ghost use Rattle.yd_ops.specs.View.{update_value};
 ghost use Rattle.yd_meaning.specs.Received.{nothing_received, received_after};
 ghost use Rattle.yd_meaning.specs.Held.{held_set, held_clock, waiting_counts};
-ghost use Rattle.yd_meaning.specs.Deleted.{AreDeleteSet};
-ghost use Rattle.yd_meaning.specs.Document.{document_of};
+ghost use Rattle.yd_meaning.specs.Document.{AreDeletedIn};
 ghost use Rattle.yd_meaning.specs.Law.{ArePaired};
-ghost use Rattle.yd_doc.specs.Kept.{received_of};
+ghost use Rattle.yd_ops.specs.Operation.{Operation};
+ghost use Rattle.yd_doc.specs.Kept.{received_of, own_document};
 ghost use Rattle.yd_doc.specs.Lent.{lent_units, units_left};
 ghost use Rattle.yd_doc.specs.Replica.{BringsSomething, last_unit};
 ghost use Rattle.yd_doc.specs.Waiting.{counts_of};
@@ -27,13 +28,13 @@ use yd_ids::{Client, Id, IdSet, Vector};
 use yd_ops::{List, Update};
 
 /// What one client received, and what it holds of it. Contracts see what it received
-/// (`received_of`), and all that it tells is what these operations and deletions define, with no
-/// history of arrivals.
+/// (`received_of`) and the document that it has (`own_document`). This is the one that the received
+/// operations and deletions define, with no history of arrivals (`law::own_document_is_defined`).
 #[derive(Drop)]
 pub struct Replica {
     client: Client,
     is_behind: bool,
-    state: State,
+    pub(crate) state: State,
 }
 
 impl Model for Replica {
@@ -109,6 +110,7 @@ impl Replica {
         ensures caught_up { OnOk result (self.new.is_behind ≡ false) }
         ensures client { self.new.client ≡ self.old.client }
         ensures unchanged { OnErr result (received_of self.new ≡ received_of self.old) }
+        ensures shows { OnErr result (own_document self.new ≡ own_document self.old) }
         ensures behind { OnErr result (self.new.is_behind ≡ true) }
     {
         let applied = apply_to(&mut self.state, update);
@@ -133,7 +135,7 @@ impl Replica {
 
     /// The delete set: the held ids that are deleted.
     pub fn deletes(&self) -> &IdSet
-        ensures { AreDeleteSet result.now (received_of self.now) }
+        ensures { AreDeletedIn result.now (own_document self.now) }
     {
         &self.state.deletes
     }
@@ -147,12 +149,12 @@ impl Replica {
         count_waiting(&state.runs, &state.taken, &state.vector, &state.named)
     }
 
-    /// The held units of a list in the order that their origins give, deleted ones too. It takes
-    /// time with the number of lists, since it looks for the name from the front, and copies no
-    /// unit.
+    /// The units of a list in order, deleted ones too. It takes time with the number of lists, since
+    /// it looks for the name from the front, and copies no unit.
     pub fn list(&self, list: &List) -> ListView<'_>
-        ensures units { units_left result
-            ≡ lent_units (document_of (received_of self.now)) list.now }
+        ensures units { units_left result ≡ lent_units (own_document self.now) list.now }
+        ensures received { (o : Operation) → IsIn o ((own_document self.now).units list.now)
+            → IsIn o (received_of self.now).operations }
         ensures whole { ArePaired (received_of self.now).operations }
     {
         ListView {
@@ -163,10 +165,10 @@ impl Replica {
         }
     }
 
-    /// The id of the unit that stands last in a list, deleted or not, and none where no unit of the
-    /// list is held. It takes time with the number of lists, as `list` does.
+    /// The id of the unit that stands last in a list, deleted or not, and none where the list has no
+    /// unit. It takes time with the number of lists, as `list` does.
     pub fn last_of(&self, list: &List) -> Option<Id>
-        ensures { result ≡ last_unit (document_of (received_of self.now)) list.now }
+        ensures { result ≡ last_unit (own_document self.now) list.now }
     {
         order_in(&self.state.names, &self.state.orders, list)
             .last()

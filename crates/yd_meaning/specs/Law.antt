@@ -19,7 +19,7 @@ use Rattle.yd_meaning.specs.Received.{has_operation, Agree, IsWritten, Received,
 use Rattle.yd_meaning.specs.Held.{needs, held_set, held_clock}
 use Rattle.yd_meaning.specs.Order.{rows_of, list_or_root, list_of, order_of, operation_set}
 use Rattle.yd_meaning.specs.Deleted.{is_overwritten, is_deleted, is_in_delete_set}
-use Rattle.yd_meaning.specs.Document.{document_with, document_of}
+use Rattle.yd_meaning.specs.Document.{Document, document_with, IsDocumentOf}
 use Rattle.yd_meaning.specs.Text.{shown_text}
 
 -- ---- what is received
@@ -111,14 +111,15 @@ pub record DeletedFollowsItems : Type 0 where
 
 -- ---- convergence
 
--- what two received sets show is the same, and so are their state vectors and delete sets
+-- documents of two received sets are one, with one text in each list, and so are their state vectors and delete sets
 pub record ShowAlike (one other : Received) : Type 0 where
-  pub text : (list : DocList) → shown_text (document_of one) list ≡ shown_text (document_of other) list
+  pub document : (document another : Document) → IsDocumentOf document one → IsDocumentOf another other → document ≡ another
+  pub text : (document another : Document) → IsDocumentOf document one → IsDocumentOf another other → (list : DocList) → shown_text document list ≡ shown_text another list
   pub vector : (client : ℕ) → held_clock (held_set one.operations) client ≡ held_clock (held_set other.operations) client
   pub delete_set : (x : Id) → is_in_delete_set one x ≡ is_in_delete_set other x
 
--- under agreement updates with the same contents, in any order and repeated, show the same document, with the same state
--- vector and the same delete set
+-- under agreement updates with the same contents, in any order and repeated, have one document, with the same state vector and
+-- the same delete set
 abbrev pub DocumentsConverge : Type 0
 DocumentsConverge = (one other : List UpdateValue) → Each IsValidUpdate one → Each IsValidUpdate other → Agree (operations_of_all one) →
     HaveSameContents one other → ShowAlike (received_set one) (received_set other)

@@ -1,21 +1,17 @@
 -- The text of a list, unit by unit: in a received set with whole pairs the ids alone tell which halves are partners.
-use Rattle.std.proofs.Common.{◌≡◌, ◌⊎◌, ◌+◌, ℕ, Bool, true, false, ◌&&◌, ◌||◌, not, List, [], ◌∷◌, Option, Some, None, inl, inr, map, refl, sym, ap, ◌∙◌, arith}
+use Rattle.std.proofs.Common.{◌≡◌, ◌+◌, ℕ, Bool, true, false, ◌&&◌, ◌||◌, not, List, [], ◌∷◌, Option, Some, None, inl, inr, map, refl, sym, ap, ◌∙◌, arith}
 use Rattle.std.specs.Prelude.{filter, if◌then◌else◌}
-use Rattle.yd_words.specs.Member.{IsIn as IsOneOf}
+use Rattle.yd_words.specs.Member.{IsIn}
 use Rattle.yd_ids.specs.declared.id.Id.{Id}
 use Rattle.yd_ids.specs.Ids.{is_same, is_same_neighbour}
 use Rattle.yd_ids.proofs.IdLemmas.{same_numbers, same_is, same_itself}
 use Rattle.yd_ops.specs.declared.lists.List.{List as DocList}
 use Rattle.yd_ops.specs.Operation.{UnitContent, text_unit, any_unit, json_unit, bytes, embedded, mark, nested_type, Operation, later_id}
 use Rattle.yd_meaning.specs.Pairs.{is_high, is_low, is_text_and, are_partners}
-use Rattle.yd_meaning.specs.Received.{Received}
-use Rattle.yd_meaning.specs.Held.{held_set}
-use Rattle.yd_meaning.specs.Order.{order_of}
-use Rattle.yd_meaning.specs.Document.{operation_before, operations_at, document_of}
+use Rattle.yd_meaning.specs.Document.{Document}
 use Rattle.yd_meaning.specs.Text.{live_units, has_partner_before, has_partner_behind, shown_before, shown_units, shown_text}
 use Rattle.yd_meaning.specs.Law.{ArePaired}
 use Rattle.yd_meaning.proofs.PartnerLemmas.{partners_decide}
-use Rattle.yd_meaning.proofs.HeldLemmas.{held_in}
 use Rattle.yd_doc.specs.Lent.{lent, lent_units}
 use Rattle.yd_view.specs.declared.halves.Seen.{Seen}
 use Rattle.yd_view.specs.Halves.{is_unit_and, joins, joins_first, shown_seen, text_of_seen, text_unit_of, live_seen}
@@ -36,7 +32,7 @@ unit_test test (mark key value) = refl
 unit_test test (nested_type kind) = refl
 
 -- where pairs are whole, a low half with the next clock is a high half's partner
-partners_join : (received : List Operation) → ArePaired received → (o p : Operation) → IsOneOf p received → are_partners o p ≡ joins (seen o) (seen p)
+partners_join : (received : List Operation) → ArePaired received → (o p : Operation) → IsIn p received → are_partners o p ≡ joins (seen o) (seen p)
 partners_join received paired o p i =
     same_three (is_text_and is_high o.content) (is_text_and is_low p.content) (is_same p.id (later_id o.id 1)) (is_same_neighbour p.left_origin (Some o.id))
     (λ high low next. behind (paired.low p i low) (same_is p.id (later_id o.id 1) next))
@@ -49,7 +45,7 @@ partners_join received paired o p i =
     same_three true false c d f = refl
     same_three false b c d f = refl
 
-    behind : (q : Operation) × IsOneOf q received × (are_partners q p ≡ true) → p.id ≡ later_id o.id 1 → is_same_neighbour p.left_origin (Some o.id) ≡ true
+    behind : (q : Operation) × IsIn q received × (are_partners q p ≡ true) → p.id ≡ later_id o.id 1 → is_same_neighbour p.left_origin (Some o.id) ≡ true
     behind (q, j, e) next =
         let pair = (partners_decide q p).0 e in
         let clocks : q.id.clock + 1 ≡ o.id.clock + 1 = ap (λ (x : Id). x.clock) (sym pair.next_clock ∙ next) in
@@ -75,7 +71,7 @@ JoinsFirst before joined [] = Unit {0}
 JoinsFirst before joined (o ∷ os) = has_partner_before before o ≡ joined
 
 shown_seen-is : (received : List Operation) → ArePaired received → (before : Option Operation) (joined : Bool) (os : List Operation) →
-    ((o : Operation) → IsOneOf o os → IsOneOf o received) → JoinsFirst before joined os → shown_units before os ≡ text_of_seen joined (map seen os)
+    ((o : Operation) → IsIn o os → IsIn o received) → JoinsFirst before joined os → shown_units before os ≡ text_of_seen joined (map seen os)
 shown_seen-is received paired before joined [] within first = refl
 shown_seen-is received paired before joined (o ∷ os) within first =
     ap (λ j. shown_before ((is_text_and is_high o.content && not j) || (is_text_and is_low o.content && not (has_partner_before before o))) o.content (shown_units (Some o) os)) (behind os (λ p i. within p (inr i)))
@@ -84,11 +80,11 @@ shown_seen-is received paired before joined (o ∷ os) within first =
     ∙ ap (shown_seen joined (text_unit_of o.content) (joins_first (seen o) (map seen os)))
     (shown_seen-is received paired (Some o) (joins_first (seen o) (map seen os)) os (λ p i. within p (inr i)) (next os (λ p i. within p (inr i))))
   where
-    behind : (ps : List Operation) → ((p : Operation) → IsOneOf p ps → IsOneOf p received) → has_partner_behind o ps ≡ joins_first (seen o) (map seen ps)
+    behind : (ps : List Operation) → ((p : Operation) → IsIn p ps → IsIn p received) → has_partner_behind o ps ≡ joins_first (seen o) (map seen ps)
     behind [] inside = refl
     behind (p ∷ ps) inside = partners_join received paired o p (inside p (inl refl))
 
-    next : (ps : List Operation) → ((p : Operation) → IsOneOf p ps → IsOneOf p received) → JoinsFirst (Some o) (joins_first (seen o) (map seen ps)) ps
+    next : (ps : List Operation) → ((p : Operation) → IsIn p ps → IsIn p received) → JoinsFirst (Some o) (joins_first (seen o) (map seen ps)) ps
     next [] inside = tt
     next (p ∷ ps) inside = partners_join received paired o p (inside p (inl refl))
 
@@ -104,40 +100,25 @@ live_lent deleted (o ∷ os) = go (deleted o.id) (live_lent deleted os)
     go true e = e
     go false e = ap (λ (us : List Seen). seen o ∷ us) e
 
-one_kept : (test : Operation → Bool) (os : List Operation) (o : Operation) → IsOneOf o (filter test os) → IsOneOf o os
+one_kept : (test : Operation → Bool) (os : List Operation) (o : Operation) → IsIn o (filter test os) → IsIn o os
 one_kept test [] o i = i
 one_kept test (p ∷ ps) o i = go (test p) i (one_kept test ps o)
   where
-    go : (t : Bool) → IsOneOf o (if t then p ∷ filter test ps else filter test ps) → (IsOneOf o (filter test ps) → IsOneOf o ps) → IsOneOf o (p ∷ ps)
+    go : (t : Bool) → IsIn o (if t then p ∷ filter test ps else filter test ps) → (IsIn o (filter test ps) → IsIn o ps) → IsIn o (p ∷ ps)
     go true (inl e) rest = inl e
     go true (inr j) rest = inr (rest j)
     go false j rest = inr (rest j)
 
-one_before : (os : List Operation) (x : Id) (rest : List Operation) (o : Operation) → IsOneOf o (operation_before os x rest) → IsOneOf o os ⊎ IsOneOf o rest
-one_before [] x rest o i = inr i
-one_before (p ∷ ps) x rest o i = go (is_same p.id x) i (one_before ps x rest o)
-  where
-    go : (t : Bool) → IsOneOf o (if t then p ∷ rest else operation_before ps x rest) →
-        (IsOneOf o (operation_before ps x rest) → IsOneOf o ps ⊎ IsOneOf o rest) → IsOneOf o (p ∷ ps) ⊎ IsOneOf o rest
-    go true (inl e) further = inl (inl e)
-    go true (inr j) further = inr j
-    go false j further = elim (further j) [ inl k ↦ inl (inr k) | inr k ↦ inr k ]
-
-one_at : (os : List Operation) (xs : List Id) (o : Operation) → IsOneOf o (operations_at os xs) → IsOneOf o os
-one_at os [] o i = absurd i
-one_at os (x ∷ xs) o i = elim (one_before os x (operations_at os xs) o i) [ inl j ↦ j | inr j ↦ one_at os xs o j ]
-
 -- ---- lemmas for callers
 
--- the text of what is lent of a list is the text of the list
-pub lent_shown : (r : Received) (list : DocList) → ArePaired r.operations →
-    text_of_seen false (live_seen (lent_units (document_of r) list)) ≡ shown_text (document_of r) list
-lent_shown r list paired =
-    ap (text_of_seen false) (live_lent (document_of r).deleted ((document_of r).units list))
-    ∙ sym (shown_seen-is r.operations paired None false (live_units (document_of r) list)
-    (λ o i. held_in r.operations o (one_at (held_set r.operations) (order_of (held_set r.operations) list) o
-    (one_kept (λ p. not ((document_of r).deleted p.id)) ((document_of r).units list) o i)))
-    (first (live_units (document_of r) list)))
+-- the text of what is lent of a list is the text of the list, where its units are of a received set with whole pairs
+pub lent_shown : (received : List Operation) (document : Document) (list : DocList) → ArePaired received →
+    ((o : Operation) → IsIn o (document.units list) → IsIn o received) → text_of_seen false (live_seen (lent_units document list)) ≡ shown_text document list
+lent_shown received document list paired within =
+    ap (text_of_seen false) (live_lent document.deleted (document.units list))
+    ∙ sym (shown_seen-is received paired None false (live_units document list)
+    (λ o i. within o (one_kept (λ p. not (document.deleted p.id)) (document.units list) o i))
+    (first (live_units document list)))
   where
     first : (os : List Operation) → JoinsFirst None false os
     first [] = tt

@@ -1,8 +1,8 @@
 //! What a reader of a document sees.
 //!
-//! [`text`] gives the text of a list: its live text units in the order in which the replica lends
-//! them. Its contract says that this is the text that the received operations and deletions define,
-//! with no history of arrivals.
+//! [`text`] gives the text of a list: its live text units in order. Its contract speaks of the
+//! replica's own document, which is the one that the received operations and deletions define
+//! (`yd_doc::law`).
 //!
 //! ```rust
 //! let units = text(alloc, &replica, &list)?;

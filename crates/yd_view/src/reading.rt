@@ -2,9 +2,8 @@
 
 ghost use Rattle.std.specs.Prelude.{◌≡◌, ◌+◌, ◌<◌, ◌≤◌, length, take, drop, IfOk, OnOk};
 ghost use Rattle.yd_ids.specs.Id.{IsClock};
-ghost use Rattle.yd_meaning.specs.Document.{document_of};
 ghost use Rattle.yd_meaning.specs.Text.{shown_text};
-ghost use Rattle.yd_doc.specs.Kept.{received_of};
+ghost use Rattle.yd_doc.specs.Kept.{own_document};
 ghost use Rattle.yd_doc.specs.Lent.{units_of_view, IsWithin};
 ghost use Rattle.yd_view.specs.Halves.{live_seen, seen_from, TakesIn};
 
@@ -20,8 +19,7 @@ use yd_units::Units;
 /// that does not stand beside its partner (Yjs 13, toString of a text; that lone halves are replaced
 /// is own). It takes time with the units of the list, and memory with those that it shows.
 pub fn text(alloc: Global, replica: &Replica, list: &List) -> Result<Units, NoMemory>
-    ensures { IfOk result (λ units. units
-        ≡ shown_text (document_of (received_of replica.now)) list.now) }
+    ensures { IfOk result (λ units. units ≡ shown_text (own_document replica.now) list.now) }
 {
     let mut view = replica.list(list);
     let mut halves = Halves::new(alloc);

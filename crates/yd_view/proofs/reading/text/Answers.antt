@@ -1,5 +1,5 @@
 use Rattle.std.proofs.Common.{false, ap, sym, ◌∙◌}
-use Rattle.yd_doc.specs.Kept.{received_of}
+use Rattle.yd_doc.specs.Kept.{received_of, own_document}
 use Rattle.yd_doc.specs.Lent.{units_left}
 use Rattle.yd_view.specs.Halves.{text_of_seen, text_left, live_seen}
 use Rattle.yd_view.proofs.ShownLemmas.{lent_shown}
@@ -17,4 +17,4 @@ pub returns : goal.returns
 returns c = c.of_units.ensures ∙ c.in_ok-units.ensures
     ∙ ap (λ us. text_left c.loop-piece.halves (live_seen us)) (sym c.in_default.ensures.lends) ∙ c.loop-piece.invariant
     ∙ ap (λ us. text_of_seen false (live_seen us)) c.list-view.ensures.units
-    ∙ lent_shown (received_of c.args.replica.now) c.args.list.now c.list-view.ensures.whole
+    ∙ lent_shown (received_of c.args.replica.now).operations (own_document c.args.replica.now) c.args.list.now c.list-view.ensures.whole c.list-view.ensures.received

@@ -1,7 +1,8 @@
 use Rattle.std.proofs.Common.{subst}
-use Rattle.yd_meaning.specs.Deleted.{AreDeleteSet}
-use Rattle.yd_doc.specs.Kept.{received_of}
+use Rattle.yd_meaning.specs.Document.{AreDeletedIn}
+use Rattle.yd_doc.specs.Kept.{own_document}
+use Rattle.yd_doc.proofs.ListedLemmas.{deletes_named}
 use Rattle.yd_doc.proofs.replica.Replica.deletes.Goals as goal
 
 pub returns : goal.returns
-returns c = subst (λ r. AreDeleteSet c.self.inside.state.deletes (received_of r)) c.self.view_is c.self.invariant.sound.deletes
+returns c = subst (λ r. AreDeletedIn c.self.inside.state.deletes (own_document r)) c.self.view_is (deletes_named c.self.inside.state)
