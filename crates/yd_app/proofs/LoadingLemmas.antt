@@ -1,10 +1,10 @@
 -- What is read of a file so far, after one more call.
-use Rattle.std.proofs.Common.{◌≡◌, ℕ, ◌+◌, ◌^◌, ◌<◌, ◌≤◌, List, ◌++◌, length, take, Option, Some, None, Ok, Err, sym, ap, subst, ◌∙◌, append_assoc, arith}
+use Rattle.std.proofs.Common.{◌≡◌, ℕ, ◌+◌, ◌^◌, ◌<◌, ◌≤◌, List, ◌++◌, length, take, Option, Some, None, Result, Ok, Err, sym, ap, subst, ◌∙◌, append_assoc, arith}
 use Rattle.std.proofs.Math.Seq.{take-append-add}
 use Rattle.std.proofs.lemmas.List.{drop_at, length-append, length-take}
 use Rattle.yd_world.specs.Shelf.{Shelf, Gives}
 use Rattle.yd_world.specs.declared.fault.Failed.{Failed}
-use Rattle.yd_app.specs.Loading.{IsReading, Loads, ReadsInto}
+use Rattle.yd_app.specs.Loading.{BeginsLast, IsReading, Loads, ReadsInto}
 use Rattle.yd_app.specs.declared.fault.LoadFault.TheVariants.{TooLarge}
 
 more_read : (old now new : Option Shelf) (name read into : List ℕ) (count : ℕ) → IsReading old now name read → Gives {E = Failed} now new into (Ok count) → IsReading old new name (read ++ take count into)
@@ -12,9 +12,23 @@ more_read None now new name read into count r g = tt
 more_read (Some old) None new name read into count r g = absurd r
 more_read (Some old) (Some now) None name read into count r g = absurd g
 more_read (Some old) (Some now) (Some new) name read into count r g =
-    (g.0 ∙ r.0, r.1 ∙ ap (λ (l : List ℕ). Some l) (ap (λ (l : List ℕ). read ++ l) g.1 ∙ sym (append_assoc read (take count into) new.unread)))
+    (g.0 ∙ r.0, r.1 ∙ ap (λ (l : List ℕ). Some l) (ap (λ (l : List ℕ). read ++ l) g.1 ∙ sym (append_assoc read (take count into) new.unread)), g.3 ∙ r.2)
 
 -- ---- lemmas for callers
+
+-- what is read was begun last
+pub begins_last : (told now : Option Shelf) (name read : List ℕ) → IsReading told now name read → BeginsLast told now name
+begins_last None now name read r = tt
+begins_last (Some told) None name read r = r
+begins_last (Some told) (Some now) name read r = rw r.1 r.2
+
+-- and stays so in a call that reads
+pub begins_after : (told now next : Option Shelf) (name read into : List ℕ) (result : Result ℕ Failed) → IsReading told now name read → Gives now next into result → BeginsLast told next name
+begins_after told now next name read into (Ok count) r g = begins_last told next name (read ++ take count into) (more_read told now next name read into count r g)
+begins_after None now next name read into (Err e) r g = tt
+begins_after (Some told) None next name read into (Err e) r g = absurd r
+begins_after (Some told) (Some now) None name read into (Err e) r g = absurd g
+begins_after (Some told) (Some now) (Some next) name read into (Err e) r g = rw r.1 (ap (λ (s : Shelf). s.begun) g ∙ r.2)
 
 -- the filled front of the buffer, after a call that read into the rest of it
 pub fills : (filled count : ℕ) (old into new : List ℕ) → filled ≤ length old → new ≡ take filled old ++ into → take (filled + count) new ≡ take filled old ++ take count into

@@ -311,19 +311,19 @@ tells_line words told reads writes errs taken now err err_now e status ends is f
     (line_of e, rw due.0 (ends_line words told reads writes taken now e ends due.2), front, whole due.1)
 
 -- what was told where memory was wanted
-pub tells_no_memory : (words : List (List ℕ)) (told : Option Shelf) (reads writes : Count) (taken now err err_now : Option (List ℕ)) (e : Result (Unit {0}) Stop) (status : ℕ) → Ends words told reads writes taken now e
-    → (status ≡ status_of e) ⊎ ((status ≡ 5) × (status_of e ≢ 0)) → TakesFront err err_now (line_of e) → status ≡ 5 → TellsNoMemory words told reads writes err err_now
-tells_no_memory words told reads writes taken now err err_now e status ends is front five =
-    due_line e ends (omega (arith, is, five)) (line_of e, ends_line words told reads writes taken now e ends (omega (arith, is, five)), front)
+pub tells_no_memory : (words : List (List ℕ)) (told : Option Shelf) (reads writes errs : Count) (taken now err err_now : Option (List ℕ)) (e : Result (Unit {0}) Stop) (status : ℕ) → Ends words told reads writes taken now e
+    → (status ≡ status_of e) ⊎ ((status ≡ 5) × (status_of e ≢ 0)) → TakesFront err err_now (line_of e) → (status ≢ status_of e → errs.now ≡ errs.before) → status ≡ 5 → TellsNoMemory words told reads writes errs err err_now
+tells_no_memory words told reads writes errs taken now err err_now e status ends is front kept five =
+    due_line e ends (omega (arith, is, five)) (λ n. kept (λ same. n (omega (arith, same, five)))) (line_of e, ends_line words told reads writes taken now e ends (omega (arith, is, five)), front)
   where
-    other : (due : ℕ) (f : Result (Unit {0}) Stop) → due ≡ status_of f → IsOneOf due (1 ∷ 2 ∷ 3 ∷ 4 ∷ 7 ∷ []) → Ends words told reads writes taken now f → TellsFront words told err err_now (status_of f) → TellsNoMemory words told reads writes err err_now
-    other due f is one ends told_front = inr (due, one, rw is (ends_reason words told reads writes taken now f ends), rw is told_front)
+    other : (due : ℕ) (f : Result (Unit {0}) Stop) → due ≡ status_of f → IsOneOf due (1 ∷ 2 ∷ 3 ∷ 4 ∷ 7 ∷ []) → Ends words told reads writes taken now f → (5 ≢ status_of f → errs.now ≡ errs.before) → TellsFront words told err err_now (status_of f) → TellsNoMemory words told reads writes errs err err_now
+    other due f is one ends same told_front = inr (due, one, rw is (ends_reason words told reads writes taken now f ends), rw is told_front, same (λ five. omega (arith, is, one, five)))
 
-    due_line : (f : Result (Unit {0}) Stop) → Ends words told reads writes taken now f → status_of f ≢ 0 → TellsFront words told err err_now (status_of f) → TellsNoMemory words told reads writes err err_now
-    due_line (Ok done) ends n told_front = absurd (n refl)
-    due_line (Err NoMemory) ends n told_front = inl told_front
-    due_line (Err (Refused file cause spot)) ends n told_front = other 1 (Err (Refused file cause spot)) refl (inl refl) ends told_front
-    due_line (Err Usage) ends n told_front = other 2 (Err Usage) refl (inr (inl refl)) ends told_front
-    due_line (Err (ReadFault file)) ends n told_front = other 3 (Err (ReadFault file)) refl (inr (inr (inl refl))) ends told_front
-    due_line (Err WriteFault) ends n told_front = other 4 (Err WriteFault) refl (inr (inr (inr (inl refl)))) ends told_front
-    due_line (Err (TooLarge file)) ends n told_front = other 7 (Err (TooLarge file)) refl (inr (inr (inr (inr (inl refl))))) ends told_front
+    due_line : (f : Result (Unit {0}) Stop) → Ends words told reads writes taken now f → status_of f ≢ 0 → (5 ≢ status_of f → errs.now ≡ errs.before) → TellsFront words told err err_now (status_of f) → TellsNoMemory words told reads writes errs err err_now
+    due_line (Ok done) ends n same told_front = absurd (n refl)
+    due_line (Err NoMemory) ends n same told_front = inl told_front
+    due_line (Err (Refused file cause spot)) ends n same told_front = other 1 (Err (Refused file cause spot)) refl (inl refl) ends same told_front
+    due_line (Err Usage) ends n same told_front = other 2 (Err Usage) refl (inr (inl refl)) ends same told_front
+    due_line (Err (ReadFault file)) ends n same told_front = other 3 (Err (ReadFault file)) refl (inr (inr (inl refl))) ends same told_front
+    due_line (Err WriteFault) ends n same told_front = other 4 (Err WriteFault) refl (inr (inr (inr (inl refl)))) ends same told_front
+    due_line (Err (TooLarge file)) ends n same told_front = other 7 (Err (TooLarge file)) refl (inr (inr (inr (inr (inl refl))))) ends same told_front

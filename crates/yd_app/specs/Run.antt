@@ -100,14 +100,14 @@ abbrev pub TellsLine : List (List ℕ) → Option Shelf → Option (List ℕ) �
 TellsLine words told taken now errs status =
     (line : List ℕ) × IsLine words told status line × TakesFront taken now line × (TakesAll taken now line ⊎ RoseIn errs)
 
--- a front of the line for want of memory was written, or of the line of the status that was due
-abbrev pub TellsNoMemory : List (List ℕ) → Option Shelf → Count → Count → Option (List ℕ) → Option (List ℕ) → Type 0
-TellsNoMemory words told reads writes taken now =
+-- a front of the line for want of memory was written; or of the line of the status that was due, and err did not fail
+abbrev pub TellsNoMemory : List (List ℕ) → Option Shelf → Count → Count → Count → Option (List ℕ) → Option (List ℕ) → Type 0
+TellsNoMemory words told reads writes errs taken now =
     TellsFront words told taken now 5
-    ⊎ ((due : ℕ) × IsOneOf due (1 ∷ 2 ∷ 3 ∷ 4 ∷ 7 ∷ []) × HasReason words told reads writes due × TellsFront words told taken now due)
+    ⊎ ((due : ℕ) × IsOneOf due (1 ∷ 2 ∷ 3 ∷ 4 ∷ 7 ∷ []) × HasReason words told reads writes due × TellsFront words told taken now due × (errs.now ≡ errs.before))
 
 -- what stands on err
 pub record TellsErr (words : List (List ℕ)) (told : Option Shelf) (reads writes errs : Count) (taken now : Option (List ℕ)) (status : ℕ) : Type 0 where
   pub done : status ≡ 0 → now ≡ taken
   pub line : IsOneOf status (1 ∷ 2 ∷ 3 ∷ 4 ∷ 7 ∷ []) → TellsLine words told taken now errs status
-  pub no_memory : status ≡ 5 → TellsNoMemory words told reads writes taken now
+  pub no_memory : status ≡ 5 → TellsNoMemory words told reads writes errs taken now

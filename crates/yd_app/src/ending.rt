@@ -1,6 +1,6 @@
 //! How a run ends: its status, and its line on err.
 
-ghost use Rattle.std.specs.Prelude.{◌≡◌, ◌≢◌, ◌≤◌, ◌⊎◌, ◌++◌, Err, IsOk, OnOk, IsErrOf};
+ghost use Rattle.std.specs.Prelude.{◌≡◌, ◌≢◌, ◌≤◌, ◌⊎◌, ◌++◌, Err, IsOk, OnOk};
 ghost use Rattle.yd_world.specs.Faults.{Rose};
 ghost use Rattle.yd_app.specs.Ending.{status_of, line_of};
 ghost use Rattle.yd_app.specs.Writing.{TakesAll, TakesFront, CountsFault};
@@ -23,6 +23,7 @@ pub fn report<S: Sink>(ending: Result<(), Stop<'_>>, err: &mut S) -> u8
     ensures whole { result ≢ 5
         → TakesAll (S.bytes_taken err.old) (S.bytes_taken err.new) (line_of ending.entry)
         ⊎ Rose (S.faults err.old) (S.faults err.new) }
+    ensures kept { result ≢ status_of ending.entry → S.faults err.new ≡ S.faults err.old }
 {
     match tell(ending, err) {
         Err(Outage::NoMemory) => 5,
@@ -36,7 +37,7 @@ fn tell<S: Sink>(ending: Result<(), Stop<'_>>, err: &mut S) -> Result<(), Outage
         (line_of ending.entry)) }
     ensures front { TakesFront (S.bytes_taken err.old) (S.bytes_taken err.new)
         (line_of ending.entry) }
-    ensures failed { IsErrOf result Outage.Failed → Rose (S.faults err.old) (S.faults err.new) }
+    ensures cause { CountsFault (S.faults err.old) (S.faults err.new) result }
 {
     match ending {
         Ok(()) => Ok(()),
@@ -49,7 +50,7 @@ fn tell_stop<S: Sink>(stop: Stop<'_>, err: &mut S) -> Result<(), Outage>
         (line_of (Err stop.entry))) }
     ensures front { TakesFront (S.bytes_taken err.old) (S.bytes_taken err.new)
         (line_of (Err stop.entry)) }
-    ensures failed { IsErrOf result Outage.Failed → Rose (S.faults err.old) (S.faults err.new) }
+    ensures cause { CountsFault (S.faults err.old) (S.faults err.new) result }
 {
     match stop {
         Stop::Usage => write_line(err, USAGE, "", "\n"),

@@ -3,7 +3,7 @@
 ghost use Rattle.std.specs.Prelude.{◌≡◌, ◌≢◌, ◌+◌, ◌<◌, ◌≤◌, Err, IsErrOf, IsOk, OnOk, take, vec_len};
 ghost use Rattle.yd_world.specs.Faults.{Rose, HasCause};
 ghost use Rattle.yd_world.specs.Shelf.{HasName};
-ghost use Rattle.yd_app.specs.Loading.{Loads, KeepsFiles, ReadsInto};
+ghost use Rattle.yd_app.specs.Loading.{BeginsLast, Loads, KeepsFiles, ReadsInto};
 
 use crate::fault::LoadFault;
 use std::alloc::{AllocError, Global};
@@ -23,6 +23,7 @@ pub fn read_all<L: Library>(
 ) -> Result<Vec<u8>, LoadFault>
     ensures loads { Loads (L.told library.old) (L.told library.new) name.now result }
     ensures files { KeepsFiles (L.told library.old) (L.told library.new) }
+    ensures begun { BeginsLast (L.told library.old) (L.told library.new) name.now }
     ensures counts { L.faults library.old ≤ L.faults library.new }
     ensures failed { IsErrOf result LoadFault.ReadFault
         → Rose (L.faults library.old) (L.faults library.new) }

@@ -6,7 +6,7 @@ use Rattle.std.proofs.lemmas.Slice.Eq.{bytes_eq-Decides}
 use Rattle.std.proofs.lemmas.List.{drop-drop, take-append-drop, nil_from_length, length-drop}
 use Rattle.yd_world.specs.declared.memory_library.Stored.{Stored}
 use Rattle.yd_world.specs.declared.memory_library.Place.{Place}
-use Rattle.yd_world.specs.MemoryLibrary.{LibraryState, Adds, bytes_under, bytes_at, unread_at, IsPlace, IsLast}
+use Rattle.yd_world.specs.MemoryLibrary.{LibraryState, Adds, begun_at, bytes_under, bytes_at, name_at, unread_at, IsFile, IsPlace, IsLast}
 
 -- a test that cannot be true is false
 false_of : (test : Bool) → (test ≡ true → ⊥) → test ≡ false
@@ -37,6 +37,12 @@ bytes_at-append [] more at h = absurd (omega arith)
 bytes_at-append (file ∷ files) more zero h = refl
 bytes_at-append (file ∷ files) more (suc at) h = bytes_at-append files more at (omega arith)
 
+-- and their names
+name_at-append : (files more : List Stored) (at : ℕ) → at < length files → name_at (files ++ more) at ≡ name_at files at
+name_at-append [] more at h = absurd (omega arith)
+name_at-append (file ∷ files) more zero h = refl
+name_at-append (file ∷ files) more (suc at) h = name_at-append files more at (omega arith)
+
 -- the bytes of the file with this number
 pub bytes_at-get_or : (files : List Stored) (at : ℕ) (d : Stored) → at < length files → bytes_at files at ≡ (get_or files at d).bytes
 bytes_at-get_or [] at d h = absurd (omega arith)
@@ -52,6 +58,21 @@ pub bytes_at-last : (files : List Stored) (file : Stored) → bytes_at (files ++
 bytes_at-last [] file = refl
 bytes_at-last (first ∷ files) file = bytes_at-last files file
 
+-- with its name
+name_at-last : (files : List Stored) (file : Stored) → name_at (files ++ file ∷ []) (length files) ≡ file.name
+name_at-last [] file = refl
+name_at-last (first ∷ files) file = name_at-last files file
+
+-- a file stays one
+pub IsFile-append : (files more : List Stored) (begun : Option ℕ) → IsFile files begun → IsFile (files ++ more) begun
+IsFile-append files more None h = tt
+IsFile-append files more (Some at) h = omega (arith, length-append files more, h)
+
+-- with the same name
+pub begun_at-append : (files more : List Stored) (begun : Option ℕ) → IsFile files begun → begun_at (files ++ more) begun ≡ begun_at files begun
+begun_at-append files more None h = refl
+begun_at-append files more (Some at) h = rw (name_at-append files more at h)
+
 -- a place stays one
 pub IsPlace-append : (files more : List Stored) (place : Option Place) → IsPlace files place → IsPlace (files ++ more) place
 IsPlace-append files more None h = tt
@@ -64,20 +85,21 @@ unread_at-append files more (Some place) h = rw (bytes_at-append files more plac
 
 -- one file more, which has the name
 pub IsLast-same : (files : List Stored) (file : Stored) (name : List ℕ) → bytes_eq file.name name ≡ true → IsLast (files ++ file ∷ []) name (Some (length files))
-IsLast-same files file name e = (omega (arith, length-append files (file ∷ [])), bytes_under-same files file name e ∙ ap Some (sym (bytes_at-last files file)))
+IsLast-same files file name e = (omega (arith, length-append files (file ∷ [])), bytes_under-same files file name e ∙ ap Some (sym (bytes_at-last files file)), name_at-last files file ∙ (bytes_eq-Decides file.name name).0 e)
 
 -- one file more, which has another name
 pub IsLast-other : (files : List Stored) (file : Stored) (name : List ℕ) (found : Option ℕ) → bytes_eq file.name name ≡ false → IsLast files name found → IsLast (files ++ file ∷ []) name found
 IsLast-other files file name None e h = bytes_under-other files file name e ∙ h
-IsLast-other files file name (Some at) e h = (omega (arith, length-append files (file ∷ []), h.0), bytes_under-other files file name e ∙ h.1 ∙ ap Some (sym (bytes_at-append files (file ∷ []) at h.0)))
+IsLast-other files file name (Some at) e h = (omega (arith, length-append files (file ∷ []), h.0), bytes_under-other files file name e ∙ h.1 ∙ ap Some (sym (bytes_at-append files (file ∷ []) at h.0)), name_at-append files (file ∷ []) at h.0 ∙ h.2)
 
 -- ---- what adding does
 
 -- the file that is added has its bytes alone, and another name keeps its own
-pub Adds-added : (old new : LibraryState) (file : Stored) (name bytes : List ℕ) → file.name ≡ name → file.bytes ≡ bytes → new.files ≡ old.files ++ file ∷ [] → new.unread ≡ old.unread → new.piece ≡ old.piece → new.plan ≡ old.plan → Adds old new name bytes
-Adds-added old new file name bytes is_name is_bytes is_files unread piece plan = record {
+pub Adds-added : (old new : LibraryState) (file : Stored) (name bytes : List ℕ) → file.name ≡ name → file.bytes ≡ bytes → new.files ≡ old.files ++ file ∷ [] → new.begun ≡ old.begun → new.unread ≡ old.unread → new.piece ≡ old.piece → new.plan ≡ old.plan → Adds old new name bytes
+Adds-added old new file name bytes is_name is_bytes is_files begun unread piece plan = record {
   this_name = rw is_files (bytes_under-same old.files file name (bytes_eq-is file.name name is_name) ∙ ap Some is_bytes);
   other_names = λ other ne. rw is_files (bytes_under-other old.files file other (bytes_eq-not file.name other (λ e. ne (sym e ∙ is_name))));
+  begun = begun;
   unread = unread;
   piece = piece;
   plan = plan;

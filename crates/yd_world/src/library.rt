@@ -8,7 +8,7 @@ use crate::fault::Failed;
 
 /// Files by their names, read one after the other from the first byte on.
 pub trait Library {
-    /// The bytes under each name and what is unread of the name last begun, where they are told.
+    /// The bytes under each name, the name last begun, and what is unread, where they are told.
     /// Before a `begin` that answered Ok nothing is unread.
     ghost told: { Self → Option Shelf };
 

@@ -31,6 +31,7 @@ pub struct Place {
 pub struct MemoryLibrary {
     alloc: Global,
     files: Vec<Stored>,
+    begun: Option<usize>,
     place: Option<Place>,
     piece: usize,
     plan: Plan,
@@ -38,18 +39,19 @@ pub struct MemoryLibrary {
 
 impl Model for MemoryLibrary {
     ghost use Rattle.std.specs.Prelude.{◌<◌};
-    ghost use Rattle.yd_world.specs.MemoryLibrary.{IsPlace, LibraryState, unread_at};
+    ghost use Rattle.yd_world.specs.MemoryLibrary.{IsFile, IsPlace, LibraryState, begun_at, unread_at};
 
     ghost Value = { LibraryState };
 
     ghost view = { λ l. record {
       files = l.files.items;
+      begun = begun_at l.files.items l.begun;
       unread = unread_at l.files.items l.place;
       piece = l.piece;
       plan = l.plan;
     } };
 
-    ghost invariant = { λ l. IsPlace l.files.items l.place × (0 < l.piece) };
+    ghost invariant = { λ l. IsPlace l.files.items l.place × IsFile l.files.items l.begun × (0 < l.piece) };
 }
 
 impl MemoryLibrary {
@@ -60,6 +62,7 @@ impl MemoryLibrary {
         MemoryLibrary {
             alloc,
             files: Vec::new(alloc),
+            begun: None,
             place: None,
             piece: usize::MAX,
             plan: Plan::new(alloc),
@@ -110,11 +113,13 @@ impl Library for MemoryLibrary {
         ensures counts { self.new.plan ≡ counted self.old.plan (is_err result) }
         ensures piece { self.new.piece ≡ self.old.piece }
     {
+        let found = last_under(self.files.as_slice(), name.as_bytes());
+        self.begun = found;
         if self.plan.is_due() {
             self.plan.count_failure();
             return Err(Failed);
         }
-        match last_under(self.files.as_slice(), name.as_bytes()) {
+        match found {
             None => {
                 self.plan.count_failure();
                 Err(Failed)

@@ -54,5 +54,5 @@ returns-clause-err g c =
     record {
       done = λ done. ap g.S.Sink.bytes_taken (report.silent (omega (arith, report.status, done)));
       line = tells_line words told reads writes errs taken now err err_now ending c.report.result ends report.status report.front report.whole;
-      no_memory = tells_no_memory words told reads writes taken now err err_now ending c.report.result ends report.status report.front;
+      no_memory = tells_no_memory words told reads writes errs taken now err err_now ending c.report.result ends report.status report.front report.kept;
     }

@@ -6,5 +6,5 @@ pub returns-clause-gives : goal.returns-clause-gives
 returns-clause-gives c =
     let count = rw c.as_slice.ensures.value at c.read_at-count.ensures.count in
     let bytes = rw c.as_slice.ensures.value at c.read_at-count.ensures.bytes in
-    let front = Gives-front _ _ _ _ _ count bytes c.self.invariant.1 in
-    rw (← c.self.view_is, c.in-Some.is) (refl, front.0, front.1)
+    let front = Gives-front _ _ _ _ _ count bytes c.self.invariant.2 in
+    rw (← c.self.view_is, c.in-Some.is) (refl, front.0, front.1, refl)
