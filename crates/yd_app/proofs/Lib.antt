@@ -1,8 +1,10 @@
 pub mod CalmLemmas
-pub mod CarryingLemmas
+pub mod DueLemmas
+pub mod FormLemmas
 pub mod FormatLemmas
 pub mod LawLemmas
 pub mod LoadingLemmas
+pub mod MakingLemmas
 pub mod ReceivingLemmas
 pub mod RequestLemmas
 pub mod RunLemmas

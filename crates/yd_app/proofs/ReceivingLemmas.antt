@@ -1,5 +1,6 @@
 -- What a replica received of files so far, and what the library tells then.
 use Rattle.std.proofs.Common.{◌≡◌, ◌+◌, ◌-◌, ◌^◌, ◌<◌, ◌≤◌, ℕ, List, [], ◌∷◌, ◌++◌, length, map, take, drop, get_or, Option, Some, None, Result, Ok, Err, IfErr, IsErr, IsErrAnd, refl, sym, ap, subst, ◌∙◌, inl, inr, arith}
+use Rattle.std.specs.Prelude.{is_none, if◌then◌else◌}
 use Rattle.std.proofs.lemmas.Bool.{cases_lt}
 use Rattle.std.proofs.lemmas.List.{drop_more, get_or-map, length-map, take-append-drop, take_more}
 use Rattle.yd_meaning.specs.Received.{Received, received_after, received_more, received_set, nothing_received}
@@ -7,16 +8,17 @@ use Rattle.yd_ops.specs.Value.{UpdateValue}
 use Rattle.yd_world.specs.Faults.{Rose}
 use Rattle.yd_world.specs.Shelf.{HasName, Shelf}
 use Rattle.yd_app.proofs.VerdictLemmas.{reached_first}
-use Rattle.yd_app.specs.Loading.{KeepsFiles, Loads}
+use Rattle.yd_app.specs.Loading.{BeginsLast, KeepsFiles, Loads}
 use Rattle.yd_app.specs.Receiving.{ReceivesOne}
 use Rattle.yd_app.specs.Reason.{fault_text}
 use Rattle.yd_app.specs.Run.{count_of}
 use Rattle.yd_app.specs.Seen.{file_of}
 use Rattle.yd_app.specs.Stopping.{StopsAmong, StopsReading}
-use Rattle.yd_app.specs.Verdict.{AreRead, HasVerdict, IsReached, IsTold, IsTooLarge, NoneIsMissing, Verdict, WhereTold, accepted, missing, refused, too_large}
+use Rattle.yd_app.specs.Verdict.{AreRead, HasVerdict, IsReached, IsTold, IsTooLarge, LacksName, NoneIsMissing, Verdict, WhereTold, accepted, missing, refused, too_large}
 use Rattle.yd_app.specs.Words.{File}
 use Rattle.yd_app.specs.declared.fault.LoadFault.TheVariants as faults
 use Rattle.yd_app.specs.declared.file.File.{File as FileSeen}
+use Rattle.yd_app.specs.declared.refusal.Refusal.TheVariants.{OfFile}
 use Rattle.yd_app.specs.declared.stop.Stop.{Stop}
 use Rattle.yd_app.specs.declared.stop.Stop.TheVariants.{Usage, Refused, ReadFault, TooLarge, NoMemory, WriteFault}
 
@@ -43,6 +45,15 @@ verdict_before None now file missing keeps has = tt
 verdict_before (Some told) None file missing keeps has = absurd keeps
 verdict_before (Some told) (Some now) file missing keeps has = sym (ap (λ (f : List ℕ → Option (List ℕ)). f file.name) keeps) ∙ has
 
+-- a name that the library lacks
+pub lacks : (told : Option Shelf) (name : List ℕ) → (HasName told name → ⊥) → IsTold told → LacksName told name
+lacks None name never is_told = absurd is_told
+lacks (Some shelf) name never is_told = by_bytes (shelf.bytes_under name) refl
+  where
+    by_bytes : (found : Option (List ℕ)) → shelf.bytes_under name ≡ found → shelf.bytes_under name ≡ None
+    by_bytes None is = is
+    by_bytes (Some bytes) is = absurd (never (bytes, is))
+
 keeps_all : (told : Option Shelf) → KeepsFiles told told
 keeps_all None = tt
 keeps_all (Some shelf) = refl
@@ -63,6 +74,25 @@ named_here (Some told) (Some now) files file keeps is_told none reached = by_byt
     by_bytes None is = absurd (none file (record { reached = reached; not_accepted = tt; verdict_is = is }))
     by_bytes (Some bytes) is = (bytes, ap (λ (f : List ℕ → Option (List ℕ)). f file.name) keeps ∙ is)
 
+-- where the library tells, it goes on to tell
+tells_on : (told now : Option Shelf) → KeepsFiles told now → IsTold told → IsTold now
+tells_on None now keeps is_told = absurd is_told
+tells_on (Some told) None keeps is_told = absurd keeps
+tells_on (Some told) (Some now) keeps is_told = tt
+
+-- a file that is accepted is there
+accepted_here : (told now : Option Shelf) (file : File) (update : UpdateValue) → KeepsFiles told now → IsTold told → HasVerdict now file (accepted update) → HasName now file.name
+accepted_here None now file update keeps is_told has = absurd is_told
+accepted_here (Some told) None file update keeps is_told has = absurd keeps
+accepted_here (Some told) (Some now) file update keeps is_told has = (has.0, has.1)
+
+-- the name that is begun last is so from the start
+begins_before : (told now next : Option Shelf) (name : List ℕ) → KeepsFiles told now → BeginsLast now next name → BeginsLast told next name
+begins_before None now next name keeps b = tt
+begins_before (Some told) None next name keeps b = absurd keeps
+begins_before (Some told) (Some now) None name keeps b = absurd b
+begins_before (Some told) (Some now) (Some next) name keeps b = b ∙ ap (λ (f : List ℕ → Option (List ℕ)). if is_none (f name) then None else Some name) keeps
+
 -- a count that rose later rose
 rose_before : (before now later : ℕ) → before ≤ now → now ≤ later → Rose now later → Rose before later
 rose_before before now later le more (inl lt) = inl (omega (arith, le, lt))
@@ -73,13 +103,15 @@ rose_before before now later le more (inr full) =
     ]
 
 -- why reading stopped, told from the start
-stops_before : (told now : Option Shelf) (file : File) (before faults later : ℕ) (stop : Stop) → KeepsFiles told now → before ≤ faults → faults ≤ later → StopsReading now file (count_of faults later) stop → StopsReading told file (count_of before later) stop
-stops_before told now file before faults later (Refused other cause spot) keeps le more s = (s.0, verdict_before told now file (refused (fault_text (record { cause = cause; spot = spot }))) keeps s.1)
-stops_before told now file before faults later (ReadFault other) keeps le more s = (s.0, rose_before before faults later le more s.1)
-stops_before told now file before faults later (TooLarge other) keeps le more s = (s.0, verdict_before told now file too_large keeps s.1)
-stops_before told now file before faults later NoMemory keeps le more s = tt
-stops_before told now file before faults later WriteFault keeps le more s = s
-stops_before told now file before faults later Usage keeps le more s = s
+stops_before : (Calm CalmNow : Type 0) (told now next : Option Shelf) (file : File) (before faults later : ℕ) (stop : Stop) → KeepsFiles told now → before ≤ faults → faults ≤ later → (Calm → IsTold told → CalmNow)
+    → StopsReading CalmNow now next file (count_of faults later) stop → StopsReading Calm told next file (count_of before later) stop
+stops_before Calm CalmNow told now next file before faults later (Refused (OfFile other cause spot)) keeps le more calm s = (s.0, verdict_before told now file (refused (fault_text (record { cause = cause; spot = spot }))) keeps s.1)
+stops_before Calm CalmNow told now next file before faults later (ReadFault other) keeps le more calm s =
+    (s.0, rose_before before faults later le more s.1, begins_before told now next file.name keeps s.2, λ calmly is_told. verdict_before told now file missing keeps (s.3 (calm calmly is_told) (tells_on told now keeps is_told)))
+stops_before Calm CalmNow told now next file before faults later (TooLarge other) keeps le more calm s = (s.0, verdict_before told now file too_large keeps s.1)
+stops_before Calm CalmNow told now next file before faults later NoMemory keeps le more calm s = tt
+stops_before Calm CalmNow told now next file before faults later WriteFault keeps le more calm s = s
+stops_before Calm CalmNow told now next file before faults later Usage keeps le more calm s = s
 
 -- ---- what was received
 
@@ -105,7 +137,7 @@ pub record SoFar (told now : Option Shelf) (faults faults_now : ℕ) (Calm CalmN
   pub received_is : received ≡ received_set updates
   pub keeps : KeepsFiles told now
   pub counts : faults ≤ faults_now
-  pub calm : Calm → IsTold told → NoneIsMissing told files → CalmNow × (faults_now ≡ faults)
+  pub calm : Calm → IsTold told → CalmNow × (faults_now ≡ faults)
 
 -- before the first file nothing is received
 pub so_far_none : (told : Option Shelf) (faults : ℕ) (Calm : Type 0) (files : List File) (received : Received) → received ≡ nothing_received →
@@ -116,7 +148,7 @@ so_far_none told faults Calm files received e = record {
   received_is = e;
   keeps = keeps_all told;
   counts = omega arith;
-  calm = λ calmly is_told none. (calmly, refl);
+  calm = λ calmly is_told. (calmly, refl);
 }
 
 -- the file of this number
@@ -139,10 +171,10 @@ reached_at seen index any lt s =
     }
 
 -- why reading stopped there
-pub stops_at : {told now : Option Shelf} {faults faults_now : ℕ} {Calm CalmNow : Type 0} {received : Received} (seen : List FileSeen) (index : ℕ) (any : FileSeen) (later : ℕ) (stop : Stop) → index < length seen
-    → SoFar told now faults faults_now Calm CalmNow (map file_of seen) index received → faults_now ≤ later → StopsReading now (file_of (get_or seen index any)) (count_of faults_now later) stop → StopsAmong told (map file_of seen) (count_of faults later) stop
-stops_at {told} {now} {faults} {faults_now} seen index any later stop lt s more stops =
-    inr (file_of (get_or seen index any), reached_at seen index any lt s, stops_before told now (file_of (get_or seen index any)) faults faults_now later stop s.keeps s.counts more stops)
+pub stops_at : {told now : Option Shelf} {faults faults_now : ℕ} {Calm CalmNow : Type 0} {received : Received} (next : Option Shelf) (seen : List FileSeen) (index : ℕ) (any : FileSeen) (later : ℕ) (stop : Stop) → index < length seen
+    → SoFar told now faults faults_now Calm CalmNow (map file_of seen) index received → faults_now ≤ later → StopsReading CalmNow now next (file_of (get_or seen index any)) (count_of faults_now later) stop → StopsAmong Calm told next (map file_of seen) (count_of faults later) stop
+stops_at {told} {now} {faults} {faults_now} {Calm} {CalmNow} next seen index any later stop lt s more stops =
+    inr (file_of (get_or seen index any), reached_at seen index any lt s, stops_before Calm CalmNow told now next (file_of (get_or seen index any)) faults faults_now later stop s.keeps s.counts more (λ calmly is_told. (s.calm calmly is_told).0) stops)
 
 -- where none is missing, it is there
 pub named_at : {told now : Option Shelf} {faults faults_now : ℕ} {Calm CalmNow : Type 0} {received : Received} (seen : List FileSeen) (index : ℕ) (any : FileSeen) → index < length seen
@@ -164,9 +196,9 @@ so_far_more {told} {now} {next} {new = new} seen index any lt s one keeps counts
       received_is = one.received ∙ ap (λ (r : Received). received_after r one.update) s.received_is ∙ sym (received_one_more nothing_received s.updates one.update);
       keeps = keeps_more told now next s.keeps keeps;
       counts = omega (arith, counts, s.counts);
-      calm = λ calmly is_told none.
-          let before = s.calm calmly is_told none in
-          let after = calm before.0 (named_at seen index any lt s is_told none) in
+      calm = λ calmly is_told.
+          let before = s.calm calmly is_told in
+          let after = calm before.0 (accepted_here told now file one.update s.keeps is_told one.is_read) in
           (after.0, after.1 ∙ before.1);
     }
 

@@ -32,7 +32,7 @@ file_same file other e =
     ap (λ (f : Format). file_in f file.name) same.0 ∙ ap (file_in other.format) same.1
 
 -- words name one list of files
-files_same : (files others : List File) → map file_word files ≡ map file_word others → files ≡ others
+pub files_same : (files others : List File) → map file_word files ≡ map file_word others → files ≡ others
 files_same [] [] e = refl
 files_same [] (other ∷ others) e = absurd cc
 files_same (file ∷ files) [] e = absurd cc
@@ -62,21 +62,21 @@ three_up (x ∷ y ∷ z ∷ rest) a b c least ia ib ic =
 
 -- ---- what they ask for
 
+-- words are those of one command and of one rest
+pub words_same : (command other : Command) (names others : List (List ℕ)) → words_of command names ≡ words_of other others → (command ≡ other) × (names ≡ others)
+words_same (show_text root) (show_text other) names others e =
+    let same : root ≡ other = cc in
+    let rest : names ≡ others = cc in
+    (ap show_text same, rest)
+words_same (show_text root) (convert form) names others e = absurd cc
+words_same (convert form) (show_text root) names others e = absurd cc
+words_same (convert form) (convert to) names others e =
+    let same : word_of form ≡ word_of to = cc in
+    let rest : names ≡ others = cc in
+    (ap convert (named_one form to same), rest)
+
 -- words ask for one command of one list of files
 pub asks_same : (words : List (List ℕ)) (command other : Command) (files others : List File) → Asks words command files → Asks words other others → (command ≡ other) × (files ≡ others)
-asks_same words (show_text root) (show_text other) files others a b =
-    let e : words_of (show_text root) (map file_word files) ≡ words_of (show_text other) (map file_word others) = sym a.words_are ∙ b.words_are in
-    let same : root ≡ other = cc in
-    let names : map file_word files ≡ map file_word others = cc in
-    (ap show_text same, files_same files others names)
-asks_same words (show_text root) (convert form) files others a b =
-    let e : words_of (show_text root) (map file_word files) ≡ words_of (convert form) (map file_word others) = sym a.words_are ∙ b.words_are in
-    absurd cc
-asks_same words (convert form) (show_text root) files others a b =
-    let e : words_of (convert form) (map file_word files) ≡ words_of (show_text root) (map file_word others) = sym a.words_are ∙ b.words_are in
-    absurd cc
-asks_same words (convert form) (convert to) files others a b =
-    let e : words_of (convert form) (map file_word files) ≡ words_of (convert to) (map file_word others) = sym a.words_are ∙ b.words_are in
-    let same : word_of form ≡ word_of to = cc in
-    let names : map file_word files ≡ map file_word others = cc in
-    (ap convert (named_one form to same), files_same files others names)
+asks_same words command other files others a b =
+    let same = words_same command other (map file_word files) (map file_word others) (sym a.words_are ∙ b.words_are) in
+    (same.0, files_same files others same.1)

@@ -13,7 +13,7 @@ NameNoFiles names = (files : List File) → Each IsNamed files → names ≢ map
 abbrev pub IsUsage : Type 0 → Stop → Type 0
 IsUsage Said Usage = Said
 IsUsage Said NoMemory = Unit {0}
-IsUsage Said (Refused file cause spot) = ⊥
+IsUsage Said (Refused what) = ⊥
 IsUsage Said (ReadFault file) = ⊥
 IsUsage Said (TooLarge file) = ⊥
 IsUsage Said WriteFault = ⊥

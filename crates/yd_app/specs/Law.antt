@@ -5,6 +5,8 @@ use Rattle.yd_ops.specs.Valid.{IsValidUpdate}
 use Rattle.yd_ops.specs.Value.{UpdateValue}
 use Rattle.yd_meaning.specs.Received.{Agree, HaveSameContents, operations_of_all}
 use Rattle.yd_world.specs.Shelf.{Shelf}
+use Rattle.yd_world.specs.Traffic.{Traffic}
+use Rattle.yd_app.specs.Due.{Due, IsDue}
 use Rattle.yd_app.specs.Output.{output_of}
 use Rattle.yd_app.specs.Run.{Writes}
 use Rattle.yd_app.specs.Verdict.{AreRead, HasVerdict, StopsAt, Verdict}
@@ -25,6 +27,11 @@ pub record FilesAreJudged : Type 0 where
   pub valid : (shelf : Shelf) (files : List File) (updates : List UpdateValue) → AreRead (Some shelf) files updates → Each IsValidUpdate updates
   pub first : (shelf : Shelf) (files : List File) (file other : File) (verdict thing : Verdict) → StopsAt (Some shelf) files file verdict → StopsAt (Some shelf) files other thing → (file ≡ other) × (verdict ≡ thing)
   pub apart : (shelf : Shelf) (files : List File) (updates : List UpdateValue) (file : File) (verdict : Verdict) → AreRead (Some shelf) files updates → StopsAt (Some shelf) files file verdict → ⊥
+
+-- where a library tells, one thing is due
+pub record OneIsDue : Type 0 where
+  pub some : (words : List (List ℕ)) (shelf : Shelf) (traffic : Option Traffic) → (due : Due) × IsDue words (Some shelf) traffic due
+  pub one : (words : List (List ℕ)) (shelf : Shelf) (traffic : Option Traffic) (due other : Due) → IsDue words (Some shelf) traffic due → IsDue words (Some shelf) traffic other → due ≡ other
 
 -- the updates of both have the same operations and deletions, in any order and repeated, and no two operations with one id differ
 pub record AreOneContents (one other : List UpdateValue) : Type 0 where

@@ -1,5 +1,6 @@
 pub mod Asking
 pub mod Converted
+pub mod Due
 pub mod Ending
 pub mod Law
 pub mod Lines
@@ -9,6 +10,7 @@ pub mod Reason
 pub mod Receiving
 pub mod Run
 pub mod Seen
+pub mod Status
 pub mod Stopping
 pub mod Verdict
 pub mod Words

@@ -1,25 +1,44 @@
--- The lines on err (own).
-use Rattle.std.specs.Prelude.{◌≡◌, ℕ, List, ◌++◌, codes, ◌==◌, Option, if◌then◌else◌}
+-- The lines on err, and which file a read fault names (own).
+use Rattle.std.specs.Prelude.{ℕ, List, ◌++◌, codes, Option}
 use Rattle.yd_world.specs.Shelf.{Shelf}
-use Rattle.yd_app.specs.Verdict.{IsReached, StopsAt, refused, too_large}
-use Rattle.yd_app.specs.Words.{AsksFor, File, file_word}
+use Rattle.yd_app.specs.Loading.{BeginsLast}
+use Rattle.yd_app.specs.Verdict.{HasVerdict, IsReached, IsTold, missing}
+use Rattle.yd_app.specs.Words.{File, file_word}
 
--- the line of each status but 0, which may name this file and this reason
-abbrev pub line_of_status : File → List ℕ → ℕ → List ℕ
-line_of_status file why status =
-    if status == 1 then codes "refused " ++ file_word file ++ codes " " ++ why ++ codes "\n"
-    else if status == 2 then codes "usage: ydoc show|merge|cut|vector|convert|edit|serve|sync|check|generate\n"
-    else if status == 3 then codes "read fault " ++ file.name ++ codes "\n"
-    else if status == 4 then codes "write fault\n"
-    else if status == 5 then codes "no memory\n"
-    else codes "limit " ++ file.name ++ codes " TooLarge\n"
+-- how the program is used
+abbrev pub usage_line : List ℕ
+usage_line = codes "usage: ydoc show|merge|cut|vector|convert|edit|serve|sync|check|generate\n"
 
--- the line is the status's; the file in it is the first of those asked for that is not accepted, for the reason in it, or is too
--- large; or at a read fault one that was reached
-pub record IsLine (words : List (List ℕ)) (told : Option Shelf) (status : ℕ) (line : List ℕ) : Type 0 where
-  pub file : File
-  pub why : List ℕ
-  pub line_is : line ≡ line_of_status file why status
-  pub is_refused : status ≡ 1 → AsksFor words (λ command files. StopsAt told files file (refused why))
-  pub is_reached : status ≡ 3 → AsksFor words (λ command files. IsReached told files file)
-  pub is_too_large : status ≡ 7 → AsksFor words (λ command files. StopsAt told files file too_large)
+-- the file is refused for this reason
+abbrev pub refused_line : File → List ℕ → List ℕ
+refused_line file why = codes "refused " ++ file_word file ++ codes " " ++ why ++ codes "\n"
+
+-- the library failed at the name
+abbrev pub read_fault_line : List ℕ → List ℕ
+read_fault_line name = codes "read fault " ++ name ++ codes "\n"
+
+-- out failed
+abbrev pub write_fault_line : List ℕ
+write_fault_line = codes "write fault\n"
+
+-- memory is wanted
+abbrev pub no_memory_line : List ℕ
+no_memory_line = codes "no memory\n"
+
+-- the network failed
+abbrev pub link_fault_line : List ℕ
+link_fault_line = codes "link fault\n"
+
+-- the file of the name is too large
+abbrev pub limit_line : List ℕ → List ℕ
+limit_line name = codes "limit " ++ name ++ codes " TooLarge\n"
+
+-- no step 2 came
+abbrev pub no_step_2_line : List ℕ
+no_step_2_line = codes "no step 2\n"
+
+-- the library failed at this file: it was reached, and begun last or missing; where no call is set to fail, it is missing
+pub record FailsAt (Calm : Type 0) (told told_now : Option Shelf) (files : List File) (file : File) : Type 0 where
+  pub reached : IsReached told files file
+  pub begun : BeginsLast told told_now file.name
+  pub is_missing : Calm → IsTold told → HasVerdict told file missing

@@ -1,12 +1,13 @@
 -- What the code has, as definitions see it: without where its texts lie in memory.
-use Rattle.std.specs.Prelude.{ℕ, List, [], ◌∷◌, ◌++◌, map, codes}
-use Rattle.yd_parts.specs.declared.fault.Cause.{Cause}
-use Rattle.yd_parts.specs.declared.fault.Spot.{Spot}
+use Rattle.std.specs.Prelude.{ℕ, List, [], ◌∷◌, map}
+use Rattle.yd_app.specs.Lines.{refused_line}
 use Rattle.yd_app.specs.Reason.{fault_text}
-use Rattle.yd_app.specs.Words.{Command, File, Format, convert, file_word, show_text, v1, v2}
+use Rattle.yd_app.specs.Words.{Command, File, Format, convert, show_text, v1, v2}
 use Rattle.yd_app.specs.declared.file.File.{File as FileSeen}
 use Rattle.yd_app.specs.declared.format.Format.{Format as FileFormat}
 use Rattle.yd_app.specs.declared.format.Format.TheVariants.{V1, V2}
+use Rattle.yd_app.specs.declared.refusal.Refusal.{Refusal}
+use Rattle.yd_app.specs.declared.refusal.Refusal.TheVariants.{OfFile}
 use Rattle.yd_app.specs.declared.request.Request.{Request}
 use Rattle.yd_app.specs.declared.request.Request.TheVariants.{ShowText, Convert}
 
@@ -29,6 +30,6 @@ abbrev pub files_of : Request → List File
 files_of (ShowText root files) = map file_of files.items
 files_of (Convert form file) = file_of file ∷ []
 
--- the line of a file that is refused
-abbrev pub refusal_line : FileSeen → Cause → Spot → List ℕ
-refusal_line file cause spot = codes "refused " ++ file_word (file_of file) ++ codes " " ++ fault_text (record { cause = cause; spot = spot }) ++ codes "\n"
+-- the line of what is refused
+abbrev pub refusal_line : Refusal → List ℕ
+refusal_line (OfFile file cause spot) = refused_line (file_of file) (fault_text (record { cause = cause; spot = spot }))

@@ -2,10 +2,11 @@
 
 ghost use Rattle.std.specs.Prelude.{◌≡◌, ◌≢◌, ◌≤◌, ◌⊎◌, ◌++◌, Err, IsOk, OnOk};
 ghost use Rattle.yd_world.specs.Faults.{Rose};
-ghost use Rattle.yd_app.specs.Ending.{status_of, line_of};
+ghost use Rattle.yd_app.specs.Ending.{line_of, status_of};
 ghost use Rattle.yd_app.specs.Writing.{TakesAll, TakesFront, CountsFault};
 
 use crate::refusal::tell_refusal;
+use crate::status;
 use crate::stop::Stop;
 use crate::writing::write_out;
 use yd_world::{Outage, Sink};
@@ -26,8 +27,8 @@ pub fn report<S: Sink>(ending: Result<(), Stop<'_>>, err: &mut S) -> u8
     ensures kept { result ≢ status_of ending.entry → S.faults err.new ≡ S.faults err.old }
 {
     match tell(ending, err) {
-        Err(Outage::NoMemory) => 5,
-        _ => status(ending),
+        Err(Outage::NoMemory) => status::NO_MEMORY,
+        _ => status_of_ending(ending),
     }
 }
 
@@ -54,7 +55,7 @@ fn tell_stop<S: Sink>(stop: Stop<'_>, err: &mut S) -> Result<(), Outage>
 {
     match stop {
         Stop::Usage => write_line(err, USAGE, "", "\n"),
-        Stop::Refused { file, cause, spot } => tell_refusal(err, file, cause, spot),
+        Stop::Refused(refusal) => tell_refusal(err, refusal),
         Stop::ReadFault(file) => write_line(err, "read fault ", file.name, "\n"),
         Stop::TooLarge(file) => write_line(err, "limit ", file.name, " TooLarge\n"),
         Stop::NoMemory => write_line(err, "no memory", "", "\n"),
@@ -62,17 +63,17 @@ fn tell_stop<S: Sink>(stop: Stop<'_>, err: &mut S) -> Result<(), Outage>
     }
 }
 
-fn status(ending: Result<(), Stop<'_>>) -> u8
+fn status_of_ending(ending: Result<(), Stop<'_>>) -> u8
     ensures { result ≡ status_of ending.entry }
 {
     match ending {
-        Ok(()) => 0,
-        Err(Stop::Refused { .. }) => 1,
-        Err(Stop::Usage) => 2,
-        Err(Stop::ReadFault(_)) => 3,
-        Err(Stop::WriteFault) => 4,
-        Err(Stop::NoMemory) => 5,
-        Err(Stop::TooLarge(_)) => 7,
+        Ok(()) => status::DONE,
+        Err(Stop::Refused(_)) => status::REFUSED,
+        Err(Stop::Usage) => status::WRONG_USE,
+        Err(Stop::ReadFault(_)) => status::READ_FAULT,
+        Err(Stop::WriteFault) => status::WRITE_FAULT,
+        Err(Stop::NoMemory) => status::NO_MEMORY,
+        Err(Stop::TooLarge(_)) => status::TOO_LARGE,
     }
 }
 

@@ -4,7 +4,8 @@
 ghost use Rattle.std.specs.Prelude.{◌≡◌, [], Some};
 ghost use Rattle.yd_world.specs.MemoryLibrary.{shelf_of};
 ghost use Rattle.yd_world.specs.MemorySink.{IsCalm};
-ghost use Rattle.yd_app.specs.Law.{AskForOne, FilesAreJudged, RunsConverge, ShowsConverge};
+ghost use Rattle.yd_world.specs.ScriptBoard.{traffic_of};
+ghost use Rattle.yd_app.specs.Law.{AskForOne, FilesAreJudged, OneIsDue, RunsConverge, ShowsConverge};
 ghost use Rattle.yd_app.specs.Run.{Follows, Writes};
 
 use crate::program::run;
@@ -23,6 +24,12 @@ pub fn files_are_judged()
     ensures { FilesAreJudged }
 {}
 
+/// Where a library tells, one thing is due: the usage line, the output, or what the first file is
+/// that is not accepted.
+pub fn one_is_due()
+    ensures { OneIsDue }
+{}
+
 /// Files of updates with the same contents show the same, in any order, repeated or translated,
 /// where no two operations with one id differ.
 pub fn shows_converge()
@@ -35,9 +42,8 @@ pub fn runs_converge()
     ensures { RunsConverge }
 {}
 
-/// The program over things in memory: where no failure is set and the library has the files that
-/// the words ask for, the command is done or the first file that is not accepted is told, as its
-/// bytes say, or memory is wanted.
+/// The program over things in memory. Where no failure is set, the status is that of what is due,
+/// or memory is wanted; and status 0 has written the output.
 pub fn run_in_memory(
     alloc: Global,
     words: &[Word],
@@ -47,7 +53,7 @@ pub fn run_in_memory(
     board: &mut ScriptBoard,
 ) -> u8
     ensures completes { library.old.plan.failures ≡ [] → IsCalm out.old
-        → Follows words.now (Some (shelf_of library.old)) result }
+        → Follows words.now (Some (shelf_of library.old)) (Some (traffic_of board.old)) result }
     ensures converges { result ≡ 0 → Writes words.now (Some (shelf_of library.old))
         (Some out.old.bytes) (Some out.new.bytes) }
 {

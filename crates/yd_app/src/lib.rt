@@ -13,6 +13,7 @@
 #![tactic(auto)]
 
 mod converting;
+mod delivery;
 mod ending;
 mod fault;
 mod file;
@@ -25,6 +26,7 @@ mod receiving;
 mod refusal;
 mod request;
 mod showing;
+mod status;
 mod stop;
 mod word;
 mod writing;

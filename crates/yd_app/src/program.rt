@@ -1,12 +1,12 @@
 //! The program over the traits of the outside.
 
-ghost use Rattle.std.specs.Prelude.{◌≡◌, ◌≢◌, ◌∷◌, []};
-ghost use Rattle.yd_app.specs.Ending.{Ends, status_of};
+ghost use Rattle.std.specs.Prelude.{◌≡◌, ◌∷◌, []};
 ghost use Rattle.yd_app.specs.Run.{Comes, Completes, CutsOff, HasReason, IsOneOf, TellsErr, Writes, count_of};
 ghost use Rattle.yd_app.specs.Seen.{command_of, files_of};
-ghost use Rattle.yd_app.specs.Stopping.{Carries, ReadsAsked, ReadsCalmly};
+ghost use Rattle.yd_app.specs.Stopping.{Makes, MakesAsked, ReadsAsked, ReadsCalmly};
 
 use crate::converting::convert;
+use crate::delivery::deliver;
 use crate::ending::report;
 use crate::request::{Request, request_of};
 use crate::showing::show;
@@ -28,74 +28,65 @@ pub fn run<L: Library, S: Sink, B: Switchboard>(
     board: &mut B,
 ) -> u8
     // Why the status comes, and which can come.
-    ensures reason { HasReason words.now (L.told library.old)
+    ensures reason { HasReason words.now (L.told library.old) (B.told board.old)
         (count_of (L.faults library.old) (L.faults library.new))
         (count_of (S.faults out.old) (S.faults out.new)) result }
-    ensures comes { Comes words.now (L.told library.old) result }
+    ensures comes { Comes words.now (L.told library.old) (B.told board.old) result }
     ensures completes { Completes (L.is_calm library.old) (S.is_calm out.old)
-        words.now (L.told library.old)
+        words.now (L.told library.old) (B.told board.old)
         (count_of (L.faults library.old) (L.faults library.new))
         (count_of (S.faults out.old) (S.faults out.new)) result }
 
     // What is written is what the updates of the files define.
     ensures converges { result ≡ 0 → Writes words.now (L.told library.old)
         (S.bytes_taken out.old) (S.bytes_taken out.new) }
-    ensures cuts_off { CutsOff words.now (L.told library.old)
+    ensures cuts_off { CutsOff words.now (L.told library.old) (B.told board.old)
         (S.bytes_taken out.old) (S.bytes_taken out.new) result }
-    ensures untouched { IsOneOf result (1 ∷ 2 ∷ 3 ∷ 7 ∷ []) → out.new ≡ out.old }
+    ensures untouched { IsOneOf result (1 ∷ 2 ∷ 3 ∷ 6 ∷ 7 ∷ 8 ∷ []) → out.new ≡ out.old }
 
     // What is said on err, and that the network is left alone.
-    ensures err { TellsErr words.now (L.told library.old)
+    ensures err { TellsErr (L.is_calm library.old) words.now (L.told library.old)
+        (L.told library.new) (B.told board.old)
         (count_of (L.faults library.old) (L.faults library.new))
         (count_of (S.faults out.old) (S.faults out.new))
         (count_of (S.faults err.old) (S.faults err.new))
         (S.bytes_taken err.old) (S.bytes_taken err.new) result }
     ensures board { board.new ≡ board.old }
 {
-    let ending = answer(alloc, words, library, out);
+    let made = make(alloc, words, library);
+    let ending = deliver(made, out);
     report(ending, err)
 }
 
-// Does what the words ask for, and says how it ended.
-fn answer<'a, L: Library, S: Sink>(
+// Makes what the words ask for.
+fn make<'a, L: Library>(
     alloc: Global,
     words: &'a [Word],
     library: &mut L,
-    out: &mut S,
-) -> Result<(), Stop<'a>>
-    ensures ends { Ends words.now (L.told library.old)
-        (count_of (L.faults library.old) (L.faults library.new))
-        (count_of (S.faults out.old) (S.faults out.new))
-        (S.bytes_taken out.old) (S.bytes_taken out.new) result }
-    ensures untouched { IsOneOf (status_of result) (1 ∷ 2 ∷ 3 ∷ 7 ∷ []) → out.new ≡ out.old }
+) -> Result<Vec<u8>, Stop<'a>>
+    ensures makes { MakesAsked (L.is_calm library.old) words.now (L.told library.old)
+        (L.told library.new) (count_of (L.faults library.old) (L.faults library.new)) result }
     ensures reads { L.is_calm library.old → ReadsAsked words.now (L.told library.old)
-        (count_of (L.faults library.old) (L.faults library.new)) result }
-    ensures writes { S.is_calm out.old → status_of result ≢ 4 }
-    ensures written { status_of result ≢ 4 → S.faults out.new ≡ S.faults out.old }
+        (count_of (L.faults library.old) (L.faults library.new)) }
 {
     let request = request_of(alloc, words)?;
-    carry_out(alloc, &request, library, out)
+    carry_out(alloc, &request, library)
 }
 
-// Does what is asked for.
-fn carry_out<'a, L: Library, S: Sink>(
+// Makes what is asked for.
+fn carry_out<'a, L: Library>(
     alloc: Global,
     request: &Request<'a>,
     library: &mut L,
-    out: &mut S,
-) -> Result<(), Stop<'a>>
-    ensures carries { Carries (command_of request.now) (files_of request.now) (L.told library.old)
-        (count_of (L.faults library.old) (L.faults library.new))
-        (count_of (S.faults out.old) (S.faults out.new))
-        (S.bytes_taken out.old) (S.bytes_taken out.new) result }
-    ensures untouched { IsOneOf (status_of result) (1 ∷ 2 ∷ 3 ∷ 7 ∷ []) → out.new ≡ out.old }
-    ensures reads { L.is_calm library.old → ReadsCalmly (L.told library.old)
-        (files_of request.now) (count_of (L.faults library.old) (L.faults library.new)) result }
-    ensures writes { S.is_calm out.old → status_of result ≢ 4 }
-    ensures written { status_of result ≢ 4 → S.faults out.new ≡ S.faults out.old }
+) -> Result<Vec<u8>, Stop<'a>>
+    ensures makes { Makes (L.is_calm library.old) (command_of request.now)
+        (files_of request.now) (L.told library.old) (L.told library.new)
+        (count_of (L.faults library.old) (L.faults library.new)) result }
+    ensures reads { L.is_calm library.old → ReadsCalmly (L.told library.old) (files_of request.now)
+        (count_of (L.faults library.old) (L.faults library.new)) }
 {
     match request {
-        Request::ShowText { root, files } => show(alloc, root, files.as_slice(), library, out),
-        Request::Convert { form, file } => convert(alloc, *form, *file, library, out),
+        Request::ShowText { root, files } => show(alloc, root, files.as_slice(), library),
+        Request::Convert { form, file } => convert(alloc, *form, *file, library),
     }
 }

@@ -7,7 +7,7 @@ ghost use Rattle.yd_app.specs.Loading.{KeepsFiles};
 ghost use Rattle.yd_app.specs.Receiving.{ReceivesAll, ReceivesOne};
 ghost use Rattle.yd_app.specs.Run.{count_of};
 ghost use Rattle.yd_app.specs.Seen.{file_of};
-ghost use Rattle.yd_app.specs.Stopping.{IsNoReadFault, ReadsCalmly, StopsAmong, StopsReading};
+ghost use Rattle.yd_app.specs.Stopping.{ReadsCalmly, StopsAmong, StopsReading};
 
 use crate::file::File;
 use crate::reading::read_file;
@@ -25,10 +25,11 @@ pub fn receive_files<'a, L: Library>(
 ) -> Result<Replica, Stop<'a>>
     ensures received { IfOk result (λ replica.
         ReceivesAll (L.told library.old) (map file_of files.now) (received_of replica)) }
-    ensures stops { IfErr result (StopsAmong (L.told library.old) (map file_of files.now)
+    ensures stops { IfErr result (StopsAmong (L.is_calm library.old) (L.told library.old)
+        (L.told library.new) (map file_of files.now)
         (count_of (L.faults library.old) (L.faults library.new))) }
     ensures calm { L.is_calm library.old → ReadsCalmly (L.told library.old)
-        (map file_of files.now) (count_of (L.faults library.old) (L.faults library.new)) result }
+        (map file_of files.now) (count_of (L.faults library.old) (L.faults library.new)) }
 {
     // It makes no edits, so any client serves.
     let mut replica = Replica::new(alloc, Client(0))?;
@@ -47,13 +48,13 @@ fn receive_file<'a, L: Library>(
 ) -> Result<(), Stop<'a>>
     ensures received { OnOk result (ReceivesOne (L.told library.old) (file_of file.now)
         (received_of replica.old) (received_of replica.new)) }
-    ensures stops { IfErr result (StopsReading (L.told library.old) (file_of file.now)
+    ensures stops { IfErr result (StopsReading (L.is_calm library.old) (L.told library.old)
+        (L.told library.new) (file_of file.now)
         (count_of (L.faults library.old) (L.faults library.new))) }
     ensures files { KeepsFiles (L.told library.old) (L.told library.new) }
     ensures counts { L.faults library.old ≤ L.faults library.new }
     ensures calm { L.is_calm library.old → HasName (L.told library.old) (file_of file.now).name
-        → L.is_calm library.new × IfErr result IsNoReadFault
-        × (L.faults library.new ≡ L.faults library.old) }
+        → L.is_calm library.new × (L.faults library.new ≡ L.faults library.old) }
 {
     let update = read_file(alloc, library, *file)?;
     replica.apply(&update)?;

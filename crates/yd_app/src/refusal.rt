@@ -1,8 +1,9 @@
-//! Why a file is refused: its line on err.
+//! What is refused, and why: the line on err of each kind.
 
 ghost use Rattle.std.specs.Prelude.{◌≡◌, OnOk};
-ghost use Rattle.yd_app.specs.Reason.{cause_name, column_prefix};
-ghost use Rattle.yd_app.specs.Seen.{refusal_line};
+ghost use Rattle.yd_app.specs.Reason.{cause_name, column_prefix, fault_text};
+ghost use Rattle.yd_app.specs.Lines.{refused_line};
+ghost use Rattle.yd_app.specs.Seen.{file_of as seen, refusal_line};
 ghost use Rattle.yd_app.specs.Writing.{TakesAll, TakesFront, CountsFault};
 
 use crate::ending::write_line;
@@ -11,17 +12,36 @@ use itoa::Buffer;
 use yd_parts::{Cause, Column, Spot};
 use yd_world::{Outage, Sink};
 
-/// Writes the line of a file that is refused for what is wrong first in it.
-pub fn tell_refusal<S: Sink>(
-    err: &mut S,
-    file: File<'_>,
-    cause: Cause,
-    spot: Spot,
-) -> Result<(), Outage>
+/// What is refused, and why.
+#[derive(Clone, Copy)]
+pub enum Refusal<'a> {
+    /// The file is outside its grammar: what is wrong first, and where.
+    OfFile {
+        file: File<'a>,
+        cause: Cause,
+        spot: Spot,
+    },
+}
+
+/// Writes the line of what is refused.
+pub fn tell_refusal<S: Sink>(err: &mut S, refusal: Refusal<'_>) -> Result<(), Outage>
     ensures whole { OnOk result (TakesAll (S.bytes_taken err.old) (S.bytes_taken err.new)
-        (refusal_line file.entry cause spot)) }
+        (refusal_line refusal.entry)) }
     ensures front { TakesFront (S.bytes_taken err.old) (S.bytes_taken err.new)
-        (refusal_line file.entry cause spot) }
+        (refusal_line refusal.entry) }
+    ensures cause { CountsFault (S.faults err.old) (S.faults err.new) result }
+{
+    match refusal {
+        Refusal::OfFile { file, cause, spot } => tell_file(err, file, cause, spot),
+    }
+}
+
+// Writes the line of a file that is refused for what is wrong first in it.
+fn tell_file<S: Sink>(err: &mut S, file: File<'_>, cause: Cause, spot: Spot) -> Result<(), Outage>
+    ensures whole { OnOk result (TakesAll (S.bytes_taken err.old) (S.bytes_taken err.new)
+        (refused_line (seen file.entry) (fault_text (record { cause = cause; spot = spot })))) }
+    ensures front { TakesFront (S.bytes_taken err.old) (S.bytes_taken err.new)
+        (refused_line (seen file.entry) (fault_text (record { cause = cause; spot = spot }))) }
     ensures cause { CountsFault (S.faults err.old) (S.faults err.new) result }
 {
     let mut digits = Buffer::new();

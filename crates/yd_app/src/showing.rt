@@ -1,49 +1,41 @@
 //! `show`: what a reader of a root sees.
 
-ghost use Rattle.std.specs.Prelude.{◌≡◌, ◌≢◌, ◌∷◌, [], map, IfOk};
+ghost use Rattle.std.specs.Prelude.{◌≡◌, map, IfOk};
 ghost use Rattle.yd_doc.specs.Kept.{received_of};
-ghost use Rattle.yd_app.specs.Ending.{status_of};
 ghost use Rattle.yd_app.specs.Output.{root_list, text_line};
-ghost use Rattle.yd_app.specs.Run.{IsOneOf, count_of};
+ghost use Rattle.yd_app.specs.Run.{count_of};
 ghost use Rattle.yd_app.specs.Seen.{file_of};
-ghost use Rattle.yd_app.specs.Stopping.{Carries, ReadsCalmly};
+ghost use Rattle.yd_app.specs.Stopping.{Makes, ReadsCalmly};
 ghost use Rattle.yd_app.specs.Words.{show_text};
 
 use crate::fault::NoMemory;
 use crate::file::File;
 use crate::receiving::receive_files;
 use crate::stop::Stop;
-use crate::writing::write_out;
 use std::alloc::Global;
 use yd_any::Text;
 use yd_doc::Replica;
 use yd_doc::law::own_document_is_defined;
 use yd_ops::{List, Parent};
 use yd_view::text;
-use yd_world::{Library, Sink};
+use yd_world::Library;
 
-/// Writes the text that the root shows in the document of all files, and a line feed.
-pub fn show<'a, L: Library, S: Sink>(
+/// The text that the root shows in the document of all files, and a line feed.
+pub fn show<'a, L: Library>(
     alloc: Global,
     root: &str,
     files: &[File<'a>],
     library: &mut L,
-    out: &mut S,
-) -> Result<(), Stop<'a>>
-    ensures carries { Carries (show_text root.now) (map file_of files.now) (L.told library.old)
-        (count_of (L.faults library.old) (L.faults library.new))
-        (count_of (S.faults out.old) (S.faults out.new))
-        (S.bytes_taken out.old) (S.bytes_taken out.new) result }
-    ensures untouched { IsOneOf (status_of result) (1 ∷ 2 ∷ 3 ∷ 7 ∷ []) → out.new ≡ out.old }
-    ensures reads { L.is_calm library.old → ReadsCalmly (L.told library.old)
-        (map file_of files.now) (count_of (L.faults library.old) (L.faults library.new)) result }
-    ensures writes { S.is_calm out.old → status_of result ≢ 4 }
-    ensures written { status_of result ≢ 4 → S.faults out.new ≡ S.faults out.old }
+) -> Result<Vec<u8>, Stop<'a>>
+    ensures makes { Makes (L.is_calm library.old) (show_text root.now)
+        (map file_of files.now) (L.told library.old) (L.told library.new)
+        (count_of (L.faults library.old) (L.faults library.new)) result }
+    ensures reads { L.is_calm library.old → ReadsCalmly (L.told library.old) (map file_of files.now)
+        (count_of (L.faults library.old) (L.faults library.new)) }
 {
     let replica = receive_files(alloc, library, files)?;
     let line = line_of_root(alloc, &replica, root)?;
-    write_out(out, &line)?;
-    Ok(())
+    Ok(line)
 }
 
 // The text that the root shows, and a line feed.

@@ -6,8 +6,8 @@ ghost use Rattle.yd_app.specs.declared.stop.Stop.TheVariants.{NoMemory as NoRoom
 
 use crate::fault::NoMemory;
 use crate::file::File;
+use crate::refusal::Refusal;
 use std::alloc::AllocFailed;
-use yd_parts::{Cause, Spot};
 use yd_world::Outage;
 
 /// Why the program stopped before all of its output was written.
@@ -15,12 +15,8 @@ use yd_world::Outage;
 pub enum Stop<'a> {
     /// The words are of no form.
     Usage,
-    /// The file is outside its grammar: what is wrong first, and where.
-    Refused {
-        file: File<'a>,
-        cause: Cause,
-        spot: Spot,
-    },
+    /// An input is outside its grammar.
+    Refused(Refusal<'a>),
     /// The library failed at this file.
     ReadFault(File<'a>),
     /// The file has more bytes than a file may have.

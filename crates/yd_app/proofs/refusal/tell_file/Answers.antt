@@ -2,12 +2,13 @@ use Rattle.std.proofs.Common.{◌≡◌, ◌++◌, List, ℕ, append_assoc}
 use Rattle.std.specs.Prelude.{codes, decimal}
 use Rattle.yd_parts.specs.declared.fault.Cause.{Cause}
 use Rattle.yd_parts.specs.declared.fault.Spot.{Spot}
-use Rattle.yd_app.specs.Reason.{cause_name, column_prefix}
-use Rattle.yd_app.specs.Seen.{file_of, refusal_line}
+use Rattle.yd_app.specs.Lines.{refused_line}
+use Rattle.yd_app.specs.Reason.{cause_name, column_prefix, fault_text}
+use Rattle.yd_app.specs.Seen.{file_of}
 use Rattle.yd_app.specs.Words.{prefix_of}
 use Rattle.yd_app.specs.declared.file.File.{File}
 use Rattle.yd_app.proofs.WritingLemmas.{front_then, on_ok, then_all, then_front}
-use Rattle.yd_app.proofs.refusal.tell_refusal.Goals as goal
+use Rattle.yd_app.proofs.refusal.tell_file.Goals as goal
 
 -- the three parts of the line
 abbrev named : File → List ℕ
@@ -22,7 +23,7 @@ placed spot = column_prefix spot.column ++ decimal spot.at ++ codes "\n"
 parts : (said prefix name blank cause column digits end : List ℕ) → said ++ (prefix ++ name) ++ blank ++ (cause ++ blank ++ (column ++ digits)) ++ end ≡ (said ++ prefix ++ name) ++ ((blank ++ cause ++ blank) ++ (column ++ digits ++ end))
 parts said prefix name blank cause column digits end = simp append_assoc
 
-in_parts : (file : File) (cause : Cause) (spot : Spot) → refusal_line file cause spot ≡ named file ++ (caused cause ++ placed spot)
+in_parts : (file : File) (cause : Cause) (spot : Spot) → refused_line (file_of file) (fault_text (record { cause = cause; spot = spot })) ≡ named file ++ (caused cause ++ placed spot)
 in_parts file cause spot = parts (codes "refused ") (prefix_of (file_of file).format) (file_of file).name (codes " ") (cause_name cause) (column_prefix spot.column) (decimal spot.at) (codes "\n")
 
 pub returns-in_err-write_line-clause-front : goal.returns-in_err-write_line-clause-front

@@ -1,0 +1,99 @@
+-- What is due: one thing, and there always is one.
+use Rattle.std.proofs.Common.{◌≡◌, ◌⊎◌, ◌∙◌, ℕ, List, Option, Some, None, inl, inr, refl, sym, subst, ap}
+use Rattle.yd_ops.specs.Value.{UpdateValue}
+use Rattle.yd_world.specs.Shelf.{Shelf}
+use Rattle.yd_world.specs.Traffic.{Traffic}
+use Rattle.yd_app.proofs.FormLemmas.{asked_or_not}
+use Rattle.yd_app.proofs.VerdictLemmas.{files_judged, stops_apart, stops_one, updates_one}
+use Rattle.yd_app.proofs.WordLemmas.{asks_same}
+use Rattle.yd_app.specs.Due.{Due, IsDue, lacking, no_step_2, output, over_limit, refusal, usage}
+use Rattle.yd_app.specs.Law.{OneIsDue}
+use Rattle.yd_app.specs.Lines.{refused_line}
+use Rattle.yd_app.specs.Output.{output_of}
+use Rattle.yd_app.specs.Verdict.{AreRead, IsTold, StopsAt, Verdict, accepted, missing, refused, too_large}
+use Rattle.yd_app.specs.Words.{AreOfNoForm, Asks, AsksFor, Command, File}
+
+-- what holds of what is asked for holds of each thing that is asked for
+pub asked : (words : List (List ℕ)) (Holds : Command → List File → Type 0) (command : Command) (files : List File) → AsksFor words Holds → Asks words command files → Holds command files
+asked words Holds command files w asks =
+    let same = asks_same words w.command command w.files files w.asks asks in
+    subst (λ (fs : List File). Holds command fs) same.1 (subst (λ (c : Command). Holds c w.files) same.0 w.holds)
+
+-- and so does what follows from it
+pub weaker : (words : List (List ℕ)) (P Q : Command → List File → Type 0) → ((command : Command) (files : List File) → P command files → Q command files) → AsksFor words P → AsksFor words Q
+weaker words P Q less w = record { command = w.command; files = w.files; asks = w.asks; holds = less w.command w.files w.holds }
+
+-- what a file that is not accepted makes due
+abbrev due_of : File → Verdict → Due
+due_of file (accepted update) = usage
+due_of file (refused why) = refusal (refused_line file why)
+due_of file too_large = over_limit file.name
+due_of file missing = lacking file.name
+
+-- all files are accepted, and the output is due; or one is the first that is not, and what it is
+abbrev Answers : Option Shelf → Due → Command → List File → Type 0
+Answers told due command files =
+    ((updates : List UpdateValue) × AreRead told files updates × (due ≡ output (output_of command updates)))
+    ⊎ ((file : File) × (verdict : Verdict) × StopsAt told files file verdict × (due ≡ due_of file verdict))
+
+-- the words are of no form, or ask for one of these
+abbrev Judged : List (List ℕ) → Option Shelf → Due → Type 0
+Judged words told due = (AreOfNoForm words × (due ≡ usage)) ⊎ AsksFor words (Answers told due)
+
+-- what is due is one of these
+judged : (words : List (List ℕ)) (told : Option Shelf) (traffic : Option Traffic) (due : Due) → IsDue words told traffic due → Judged words told due
+judged words told traffic usage d = inl (d, refl)
+judged words told traffic (refusal line) d = inr (record { command = d.command; files = d.files; asks = d.asks; holds = inr (d.holds.0, refused d.holds.1, d.holds.2, ap refusal d.holds.3) })
+judged words told traffic (over_limit name) d = inr (record { command = d.command; files = d.files; asks = d.asks; holds = inr (d.holds.0, too_large, d.holds.1, ap over_limit d.holds.2) })
+judged words told traffic (lacking name) d = inr (record { command = d.command; files = d.files; asks = d.asks; holds = inr (d.holds.0, missing, d.holds.1, ap lacking d.holds.2) })
+judged words told traffic no_step_2 d = absurd d
+judged words told traffic (output bytes) d = inr (record { command = d.command; files = d.files; asks = d.asks; holds = inl (d.holds.0, d.holds.1, ap output d.holds.2) })
+
+-- of files one thing is due
+answers_one : (shelf : Shelf) (command : Command) (files : List File) (due other : Due) → Answers (Some shelf) due command files → Answers (Some shelf) other command files → due ≡ other
+answers_one shelf command files due other (inl a) (inl b) = a.2 ∙ ap (λ (us : List UpdateValue). output (output_of command us)) (updates_one shelf files a.0 b.0 a.1 b.1) ∙ sym b.2
+answers_one shelf command files due other (inl a) (inr b) = absurd (stops_apart shelf files a.0 b.0 b.1 a.1 b.2)
+answers_one shelf command files due other (inr a) (inl b) = absurd (stops_apart shelf files b.0 a.0 a.1 b.1 a.2)
+answers_one shelf command files due other (inr a) (inr b) =
+    let same = stops_one shelf files a.0 b.0 a.1 b.1 a.2 b.2 in
+    a.3 ∙ ap (λ (f : File). due_of f a.1) same.0 ∙ ap (due_of b.0) same.1 ∙ sym b.3
+
+judged_one : (words : List (List ℕ)) (shelf : Shelf) (due other : Due) → Judged words (Some shelf) due → Judged words (Some shelf) other → due ≡ other
+judged_one words shelf due other (inl a) (inl b) = a.1 ∙ sym b.1
+judged_one words shelf due other (inl a) (inr b) = absurd (a.0 b.command b.files b.asks)
+judged_one words shelf due other (inr a) (inl b) = absurd (b.0 a.command a.files a.asks)
+judged_one words shelf due other (inr a) (inr b) = answers_one shelf b.command b.files due other (asked words (Answers (Some shelf) due) b.command b.files a b.asks) b.holds
+
+-- ---- lemmas for callers
+
+-- what is due is one thing
+pub due_one : (words : List (List ℕ)) (told : Option Shelf) (traffic : Option Traffic) (due other : Due) → IsTold told → IsDue words told traffic due → IsDue words told traffic other → due ≡ other
+due_one words None traffic due other is_told a b = absurd is_told
+due_one words (Some shelf) traffic due other is_told a b = judged_one words shelf due other (judged words (Some shelf) traffic due a) (judged words (Some shelf) traffic other b)
+
+-- and there is one
+due_some : (words : List (List ℕ)) (shelf : Shelf) (traffic : Option Traffic) → (due : Due) × IsDue words (Some shelf) traffic due
+due_some words shelf traffic =
+    elim (asked_or_not words) [
+      | inl a ↦ by_files a.0 a.1 a.2 (files_judged.files shelf a.1)
+      | inr never ↦ (usage, never)
+    ]
+  where
+    by_first : (command : Command) (files : List File) → Asks words command files → (file : File) (verdict : Verdict) → StopsAt (Some shelf) files file verdict → (due : Due) × IsDue words (Some shelf) traffic due
+    by_first command files asks file (accepted update) stops = absurd stops.not_accepted
+    by_first command files asks file (refused why) stops = (refusal (refused_line file why), record { command = command; files = files; asks = asks; holds = (file, why, stops, refl) })
+    by_first command files asks file too_large stops = (over_limit file.name, record { command = command; files = files; asks = asks; holds = (file, stops, refl) })
+    by_first command files asks file missing stops = (lacking file.name, record { command = command; files = files; asks = asks; holds = (file, stops, refl) })
+
+    by_files : (command : Command) (files : List File) → Asks words command files
+        → ((updates : List UpdateValue) × AreRead (Some shelf) files updates) ⊎ ((file : File) × (verdict : Verdict) × StopsAt (Some shelf) files file verdict)
+        → (due : Due) × IsDue words (Some shelf) traffic due
+    by_files command files asks (inl read) = (output (output_of command read.0), record { command = command; files = files; asks = asks; holds = (read.0, read.1, refl) })
+    by_files command files asks (inr stops) = by_first command files asks stops.0 stops.1 stops.2
+
+-- so one thing is due
+pub one_is_due : OneIsDue
+one_is_due = record {
+  some = due_some;
+  one = λ words shelf traffic due other a b. due_one words (Some shelf) traffic due other tt a b;
+}

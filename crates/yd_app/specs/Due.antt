@@ -1,0 +1,66 @@
+-- What is due in a run, by its words, its files and its network: one thing, with its status, its line on err and its output (own).
+use Rattle.std.specs.Prelude.{◌≡◌, ℕ, List, [], ◌∷◌, Option}
+use Rattle.yd_ops.specs.Value.{UpdateValue}
+use Rattle.yd_world.specs.Shelf.{Shelf}
+use Rattle.yd_world.specs.Traffic.{Traffic}
+use Rattle.yd_app.specs.Lines.{limit_line, no_step_2_line, read_fault_line, refused_line, usage_line}
+use Rattle.yd_app.specs.Output.{output_of}
+use Rattle.yd_app.specs.Status as status
+use Rattle.yd_app.specs.Verdict.{AreRead, StopsAt, missing, refused, too_large}
+use Rattle.yd_app.specs.Words.{AreOfNoForm, AsksFor, File}
+
+-- how the program is used; the line of what is refused; the name of a file that is too large; the name that the library lacks; that
+-- no step 2 came; or the bytes that the command makes
+pub data Due : Type 0 where
+  usage : Due
+  refusal : List ℕ → Due
+  over_limit : List ℕ → Due
+  lacking : List ℕ → Due
+  no_step_2 : Due
+  output : List ℕ → Due
+
+-- usage where the words are of no form; what the command makes of its files where all are accepted; and else what the first is that
+-- is not: refused, too large or missing
+abbrev pub IsDue : List (List ℕ) → Option Shelf → Option Traffic → Due → Type 0
+IsDue words told traffic usage = AreOfNoForm words
+IsDue words told traffic (refusal line) = AsksFor words (λ command files. (file : File) × (why : List ℕ) × StopsAt told files file (refused why) × (line ≡ refused_line file why))
+IsDue words told traffic (over_limit name) = AsksFor words (λ command files. (file : File) × StopsAt told files file too_large × (name ≡ file.name))
+IsDue words told traffic (lacking name) = AsksFor words (λ command files. (file : File) × StopsAt told files file missing × (name ≡ file.name))
+IsDue words told traffic no_step_2 = ⊥
+IsDue words told traffic (output bytes) = AsksFor words (λ command files. (updates : List UpdateValue) × AreRead told files updates × (bytes ≡ output_of command updates))
+
+-- its status
+abbrev pub status_of_due : Due → ℕ
+status_of_due usage = status.wrong_use
+status_of_due (refusal line) = status.refused
+status_of_due (over_limit name) = status.too_large
+status_of_due (lacking name) = status.read_fault
+status_of_due no_step_2 = status.no_step_2
+status_of_due (output bytes) = status.done
+
+-- the statuses that can come where it is due: its own, want of memory, and a fault of what it uses
+abbrev pub statuses_of_due : Due → List ℕ
+statuses_of_due usage = status.wrong_use ∷ status.no_memory ∷ []
+statuses_of_due (refusal line) = status.refused ∷ status.no_memory ∷ status.read_fault ∷ []
+statuses_of_due (over_limit name) = status.too_large ∷ status.no_memory ∷ status.read_fault ∷ []
+statuses_of_due (lacking name) = status.read_fault ∷ status.no_memory ∷ []
+statuses_of_due no_step_2 = status.no_step_2 ∷ status.no_memory ∷ status.read_fault ∷ status.link_fault ∷ []
+statuses_of_due (output bytes) = status.done ∷ status.no_memory ∷ status.read_fault ∷ status.write_fault ∷ []
+
+-- its line on err
+abbrev pub line_of_due : Due → List ℕ
+line_of_due usage = usage_line
+line_of_due (refusal line) = line
+line_of_due (over_limit name) = limit_line name
+line_of_due (lacking name) = read_fault_line name
+line_of_due no_step_2 = no_step_2_line
+line_of_due (output bytes) = []
+
+-- and its output
+abbrev pub output_of_due : Due → List ℕ
+output_of_due usage = []
+output_of_due (refusal line) = []
+output_of_due (over_limit name) = []
+output_of_due (lacking name) = []
+output_of_due no_step_2 = []
+output_of_due (output bytes) = bytes
