@@ -4,7 +4,7 @@ use Rattle.std.proofs.lemmas.Bool.{cases_lt}
 use Rattle.std.proofs.lemmas.Slice.Eq.{bytes_eq-Decides}
 use Rattle.std.specs.Prelude.{codes}
 use Rattle.std.specs.Str.{bytes_eq}
-use Rattle.yd_ids.specs.Each.{Each}
+use Rattle.yd_words.specs.Each.{Each}
 use Rattle.yd_app.proofs.WordLemmas.{files_same, words_same}
 use Rattle.yd_app.specs.Asking.{NameNoFiles}
 use Rattle.yd_app.specs.Words.{AreOfNoForm, Asks, Command, File, Format, HasFiles, IsNamed, convert, file_word, prefix_of, show_text, v1, v2, word_of, words_of}

@@ -44,9 +44,9 @@ reading_more told now new name was old after filled count within kept so_far r =
     rw (fills filled count old r.into after within r.buffer) (more_read told now new name (take filled old) r.into count front r.gives)
 
 -- more was read than a file may have
-pub too_large : (told now : Option Shelf) (name buffer : List ℕ) (filled : ℕ) → filled ≤ length buffer → length buffer ≤ 2 ^ 26 + 1 → 2 ^ 26 < filled → IsReading told now name (take filled buffer) → Loads told now name (Err TooLarge)
+pub too_large : (told now : Option Shelf) (name buffer : List ℕ) (filled : ℕ) → filled ≤ length buffer → length buffer ≤ 2 ^ 28 + 1 → 2 ^ 28 < filled → IsReading told now name (take filled buffer) → Loads told now name (Err TooLarge)
 too_large None now name buffer filled within small past r = tt
 too_large (Some told) None name buffer filled within small past r = absurd r
 too_large (Some told) (Some now) name buffer filled within small past r =
-    let len : length (take filled buffer) ≡ 2 ^ 26 + 1 = omega (arith, length-take filled buffer) in
-    (take filled buffer ++ now.unread, r.1, omega (arith, length-append (take filled buffer) now.unread), sym (drop_at (take filled buffer) now.unread (2 ^ 26 + 1) len))
+    let len : length (take filled buffer) ≡ 2 ^ 28 + 1 = omega (arith, length-take filled buffer) in
+    (take filled buffer ++ now.unread, r.1, omega (arith, length-append (take filled buffer) now.unread), sym (drop_at (take filled buffer) now.unread (2 ^ 28 + 1) len))

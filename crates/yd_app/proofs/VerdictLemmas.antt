@@ -21,25 +21,25 @@ of_reading (Ok update) = accepted update
 of_reading (Err fault) = refused (fault_text fault)
 
 -- what bytes are that are there
-abbrev of_sized : Format → (bytes : List ℕ) → (2 ^ 26 < length bytes) ⊎ (length bytes ≤ 2 ^ 26) → Verdict
+abbrev of_sized : Format → (bytes : List ℕ) → (2 ^ 28 < length bytes) ⊎ (length bytes ≤ 2 ^ 28) → Verdict
 of_sized format bytes (inl large) = too_large
 of_sized format bytes (inr within) = of_reading (reading_in format bytes)
 
 -- what is there under a name
 abbrev of_bytes : Format → Option (List ℕ) → Verdict
 of_bytes format None = missing
-of_bytes format (Some bytes) = of_sized format bytes (cases_lt (2 ^ 26) (length bytes))
+of_bytes format (Some bytes) = of_sized format bytes (cases_lt (2 ^ 28) (length bytes))
 
 -- what a file is
 abbrev verdict_in : Shelf → File → Verdict
 verdict_in shelf file = of_bytes file.format (shelf.bytes_under file.name)
 
 -- bytes that are not too large are what reading makes of them
-within_read : (format : Format) (bytes : List ℕ) (size : (2 ^ 26 < length bytes) ⊎ (length bytes ≤ 2 ^ 26)) → length bytes ≤ 2 ^ 26 → of_sized format bytes size ≡ of_reading (reading_in format bytes)
+within_read : (format : Format) (bytes : List ℕ) (size : (2 ^ 28 < length bytes) ⊎ (length bytes ≤ 2 ^ 28)) → length bytes ≤ 2 ^ 28 → of_sized format bytes size ≡ of_reading (reading_in format bytes)
 within_read format bytes (inl large) within = absurd (omega (arith, large, within))
 within_read format bytes (inr small) within = refl
 
-sized_large : (format : Format) (bytes : List ℕ) (size : (2 ^ 26 < length bytes) ⊎ (length bytes ≤ 2 ^ 26)) → 2 ^ 26 < length bytes → of_sized format bytes size ≡ too_large
+sized_large : (format : Format) (bytes : List ℕ) (size : (2 ^ 28 < length bytes) ⊎ (length bytes ≤ 2 ^ 28)) → 2 ^ 28 < length bytes → of_sized format bytes size ≡ too_large
 sized_large format bytes (inl large) more = refl
 sized_large format bytes (inr small) more = absurd (omega (arith, small, more))
 
@@ -47,25 +47,25 @@ sized_large format bytes (inr small) more = absurd (omega (arith, small, more))
 verdict_only : (shelf : Shelf) (file : File) (verdict : Verdict) → HasVerdict (Some shelf) file verdict → verdict ≡ verdict_in shelf file
 verdict_only shelf file (accepted update) has =
     let read : reading_in file.format has.0 ≡ Ok update = ((read_exactly file.format).values has.0 update).1 has.2.1 in
-    sym (ap (of_bytes file.format) has.1 ∙ within_read file.format has.0 (cases_lt (2 ^ 26) (length has.0)) has.2.0 ∙ ap of_reading read)
+    sym (ap (of_bytes file.format) has.1 ∙ within_read file.format has.0 (cases_lt (2 ^ 28) (length has.0)) has.2.0 ∙ ap of_reading read)
 verdict_only shelf file (refused why) has =
     let read : reading_in file.format has.0 ≡ Err has.2.1.0 = ((read_exactly file.format).faults has.0 has.2.1.0).1 has.2.1.1 in
-    ap refused has.2.1.2 ∙ sym (ap (of_bytes file.format) has.1 ∙ within_read file.format has.0 (cases_lt (2 ^ 26) (length has.0)) has.2.0 ∙ ap of_reading read)
-verdict_only shelf file too_large has = sym (ap (of_bytes file.format) has.1 ∙ sized_large file.format has.0 (cases_lt (2 ^ 26) (length has.0)) has.2)
+    ap refused has.2.1.2 ∙ sym (ap (of_bytes file.format) has.1 ∙ within_read file.format has.0 (cases_lt (2 ^ 28) (length has.0)) has.2.0 ∙ ap of_reading read)
+verdict_only shelf file too_large has = sym (ap (of_bytes file.format) has.1 ∙ sized_large file.format has.0 (cases_lt (2 ^ 28) (length has.0)) has.2)
 verdict_only shelf file missing has = sym (ap (of_bytes file.format) has)
 
 -- and there is this one
 verdict_has : (shelf : Shelf) (file : File) → (verdict : Verdict) × HasVerdict (Some shelf) file verdict
 verdict_has shelf file = by_bytes (shelf.bytes_under file.name) refl
   where
-    by_reading : (bytes : List ℕ) (reading : Result UpdateValue Fault) → shelf.bytes_under file.name ≡ Some bytes → length bytes ≤ 2 ^ 26 → reading_in file.format bytes ≡ reading → (verdict : Verdict) × HasVerdict (Some shelf) file verdict
+    by_reading : (bytes : List ℕ) (reading : Result UpdateValue Fault) → shelf.bytes_under file.name ≡ Some bytes → length bytes ≤ 2 ^ 28 → reading_in file.format bytes ≡ reading → (verdict : Verdict) × HasVerdict (Some shelf) file verdict
     by_reading bytes (Ok update) is within read = (accepted update, (bytes, is, (within, ((read_exactly file.format).values bytes update).0 read)))
     by_reading bytes (Err fault) is within read = (refused (fault_text fault), (bytes, is, (within, (fault, ((read_exactly file.format).faults bytes fault).0 read, refl))))
 
     by_bytes : (found : Option (List ℕ)) → shelf.bytes_under file.name ≡ found → (verdict : Verdict) × HasVerdict (Some shelf) file verdict
     by_bytes None is = (missing, is)
     by_bytes (Some bytes) is =
-        elim (cases_lt (2 ^ 26) (length bytes)) [
+        elim (cases_lt (2 ^ 28) (length bytes)) [
           | inl large ↦ (too_large, (bytes, is, large))
           | inr within ↦ by_reading bytes (reading_in file.format bytes) is within refl
         ]

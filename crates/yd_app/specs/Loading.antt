@@ -8,16 +8,16 @@ use Rattle.yd_app.specs.declared.fault.LoadFault.TheVariants.{NoMemory, ReadFaul
 
 -- nothing was read, or of the name's bytes at most one more than a file may have
 abbrev pub ReadsWithin : Shelf → Shelf → List ℕ → Type 0
-ReadsWithin old new name = (new.unread ≡ old.unread) ⊎ ((read : List ℕ) × (length read ≤ 2 ^ 26 + 1) × (old.bytes_under name ≡ Some (read ++ new.unread)))
+ReadsWithin old new name = (new.unread ≡ old.unread) ⊎ ((read : List ℕ) × (length read ≤ 2 ^ 28 + 1) × (old.bytes_under name ≡ Some (read ++ new.unread)))
 
--- Ok has the bytes under the name, all of them, which are at most 2^26; TooLarge comes where they
+-- Ok has the bytes under the name, all of them, which are at most 2^28; TooLarge comes where they
 -- are more, and no call reads past the first byte that is too many
 abbrev pub Loads : Option Shelf → Option Shelf → List ℕ → Result (Vec ℕ) LoadFault → Type 0
 Loads None new name result = Unit {0}
 Loads (Some old) None name result = ⊥
-Loads (Some old) (Some new) name (Ok bytes) = (old.bytes_under name ≡ Some bytes.items) × (length bytes.items ≤ 2 ^ 26) × (new.unread ≡ [])
+Loads (Some old) (Some new) name (Ok bytes) = (old.bytes_under name ≡ Some bytes.items) × (length bytes.items ≤ 2 ^ 28) × (new.unread ≡ [])
 Loads (Some old) (Some new) name (Err TooLarge) =
-    (bytes : List ℕ) × (old.bytes_under name ≡ Some bytes) × (2 ^ 26 < length bytes) × (new.unread ≡ drop (2 ^ 26 + 1) bytes)
+    (bytes : List ℕ) × (old.bytes_under name ≡ Some bytes) × (2 ^ 28 < length bytes) × (new.unread ≡ drop (2 ^ 28 + 1) bytes)
 Loads (Some old) (Some new) name (Err NoMemory) = ReadsWithin old new name
 Loads (Some old) (Some new) name (Err ReadFault) = ReadsWithin old new name
 

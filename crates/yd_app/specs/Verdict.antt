@@ -24,13 +24,13 @@ HasFirstFaultIn v2 bytes fault = HasFirstFaultV2 bytes fault
 abbrev pub IsOutside : Format → List ℕ → List ℕ → Type 0
 IsOutside format bytes why = (fault : Fault) × HasFirstFaultIn format bytes fault × (why ≡ fault_text fault)
 
--- they are at most 64 MiB
+-- they are at most 256 MiB
 abbrev pub IsWithin : List ℕ → Type 0
-IsWithin bytes = length bytes ≤ 2 ^ 26
+IsWithin bytes = length bytes ≤ 2 ^ 28
 
 -- they are more
 abbrev pub IsTooLarge : List ℕ → Type 0
-IsTooLarge bytes = 2 ^ 26 < length bytes
+IsTooLarge bytes = 2 ^ 28 < length bytes
 
 -- ---- what a library tells
 

@@ -17,7 +17,7 @@ pub enum LoadFault {
     NoMemory,
     /// The library failed, and its count of faults rose.
     ReadFault,
-    /// The file has more than 67,108,864 bytes.
+    /// The file has more than 268,435,456 bytes.
     TooLarge,
 }
 

@@ -10,7 +10,7 @@ use std::alloc::{AllocError, Global};
 use yd_world::{Failed, Library};
 
 /// How many bytes a file may have.
-const MOST: usize = 1 << 26;
+const MOST: usize = 1 << 28;
 
 /// How many bytes are asked for at once, at least.
 const PIECE: usize = 1 << 14;

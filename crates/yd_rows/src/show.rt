@@ -106,10 +106,10 @@ fn what_fails_in_a_sink_leaves_what_it_took(rt: HostRuntime) -> Result<(), Fail>
 
 #[test]
 fn the_largest_file_is_judged_and_a_larger_one_is_not(rt: HostRuntime) -> Result<(), Fail> {
-    let bytes = vec![in rt.alloc(); 0; 67_108_865]?;
+    let bytes = vec![in rt.alloc(); 0; 268_435_457]?;
     let mut stage = Stage::with_file(rt.alloc(), &bytes)?;
     stage.expect(&rt, &SHOW, (7, "", "limit F TooLarge\n"))?;
-    let (largest, _) = bytes.split_at(67_108_864);
+    let (largest, _) = bytes.split_at(268_435_456);
     let mut stage = Stage::with_file(rt.alloc(), largest)?;
     stage.expect_fault(&rt, &SHOW, ("Trailing", 2))
 }

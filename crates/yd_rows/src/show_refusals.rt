@@ -85,7 +85,7 @@ fn the_library_may_fail_at_a_second_file(rt: HostRuntime) -> Result<(), Fail> {
 
 #[test]
 fn a_second_file_may_be_too_large(rt: HostRuntime) -> Result<(), Fail> {
-    let bytes = vec![in rt.alloc(); 0; 67_108_865]?;
+    let bytes = vec![in rt.alloc(); 0; 268_435_457]?;
     let mut stage = Stage::with_files(rt.alloc(), &FILES)?;
     stage.library.add("LARGE", &bytes)?;
     stage.expect_shown(
