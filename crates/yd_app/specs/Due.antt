@@ -1,4 +1,4 @@
--- What is due in a run, by its words, its files and its network: one thing, with its status, its line on err and its output (own).
+-- What is due in a run, by its words, its files and its network: one thing, with its status and its line on err (own).
 use Rattle.std.specs.Prelude.{◌≡◌, ℕ, List, [], ◌∷◌, Option}
 use Rattle.yd_ops.specs.Value.{UpdateValue}
 use Rattle.yd_world.specs.Shelf.{Shelf}
@@ -55,12 +55,3 @@ line_of_due (over_limit name) = limit_line name
 line_of_due (lacking name) = read_fault_line name
 line_of_due no_step_2 = no_step_2_line
 line_of_due (output bytes) = []
-
--- and its output
-abbrev pub output_of_due : Due → List ℕ
-output_of_due usage = []
-output_of_due (refusal line) = []
-output_of_due (over_limit name) = []
-output_of_due (lacking name) = []
-output_of_due no_step_2 = []
-output_of_due (output bytes) = bytes
