@@ -1,0 +1,165 @@
+//! The list in pieces.
+
+ghost use Rattle.std.specs.List.Sorted.{IsPartitionPoint, IsPartitionedBy};
+ghost use Rattle.yd_pieces.specs.Pieces.{IsBoundary};
+ghost use Rattle.std.specs.Prelude.{true, false, take, drop, ◌≡◌, ◌<◌, ◌≤◌, ◌+◌, ◌++◌, ◌∷◌, [], length, insert, remove, slice_index_or, OnOk, OnErr, IfErr, IsOk};
+
+use crate::cutting::{FULL, close, insert_into, remove_from};
+use crate::searching::{Test, point};
+use crate::seeking::{read, rest_of_piece};
+use std::alloc::{AllocError, AllocFailed, Global};
+use std::marker::Model;
+
+/// The greatest length, 2^53 - 1, which no machine reaches. A growth past it finds no memory.
+pub const MOST: usize = 9007199254740991;
+
+/// A list of elements. Behind it there are vectors of some 512 elements, one after another, so that an
+/// insertion or a removal moves no more than that, and how many vectors there are. Pushes go into the
+/// last one, which alone may be longer. Pieces that lost many elements are not joined.
+///
+/// Contracts see its elements, `items`, and its `room`: how many pushes cannot fail.
+#[derive(Drop)]
+pub struct Pieces<T: Drop> {
+    pieces: Vec<Vec<T>>,
+    last: Vec<T>,
+    len: usize,
+}
+
+impl<T: Drop> Model for Pieces<T> {
+    ghost use Rattle.std.specs.Prelude.{◌-◌, ◌++◌, min, vec_len, vec_capacity};
+    ghost use Rattle.yd_pieces.specs.declared.pieces.TheConstants.{MOST};
+    ghost use Rattle.yd_pieces.specs.Pieces.{Listed, listed_code, joined, ArePieces};
+
+    ghost Value = { Listed T };
+
+    ghost coded = { listed_code T.code };
+
+    ghost view = { λ it. record { items = joined it.pieces.items ++ it.last.items; room = min (vec_capacity it.last - vec_len it.last) (MOST - it.len) } };
+
+    ghost invariant = { λ it. ArePieces it.pieces.items it.last.items it.len MOST };
+}
+
+impl<T: Drop> Pieces<T> {
+    /// The empty list, with no room. It takes no memory.
+    pub fn new(alloc: Global) -> Pieces<T>
+        ensures { result.items ≡ [] }
+    {
+        Pieces {
+            pieces: Vec::new(alloc),
+            last: Vec::new(alloc),
+            len: 0,
+        }
+    }
+
+    /// How many elements there are.
+    pub fn len(&self) -> usize
+        ensures { result ≡ length self.now.items }
+    {
+        self.len
+    }
+
+    /// The element at a place, counted from 0. It takes time with the number of pieces before it.
+    pub fn get(&self, at: usize) -> &T
+        requires { at < length self.now.items }
+        ensures { result.now ≡ slice_index_or self.now.items at result.now }
+    {
+        let start = self.len - self.last.len();
+        read(&self.pieces, &self.last, start, at)
+    }
+
+    /// Where the elements that pass end: how many stand before the first that does not, where those
+    /// that pass stand before the others. Otherwise it is some place where one passes in front of
+    /// it, and one behind it does not. It is a bisection over pieces and then in one, and a sum over
+    /// the pieces before it.
+    pub fn partition_point<P: Test<T>>(&self, test: &P) -> usize
+        ensures bound { result ≤ length self.now.items }
+        ensures boundary { IsBoundary (P.passes test.now) self.now.items result }
+        ensures partitioned { IsPartitionedBy (P.passes test.now) self.now.items → IsPartitionPoint (λ y. P.passes test.now y ≡ true) (λ y. P.passes test.now y ≡ false) self.now.items result }
+    {
+        point(&self.pieces, &self.last, test)
+    }
+
+    /// The elements from a place on that lie together in memory, one or more. So a list is read
+    /// piece by piece.
+    pub fn piece_from(&self, at: usize) -> &[T]
+        requires { at < length self.now.items }
+        ensures some { 0 < length result.now }
+        ensures within { at + length result.now ≤ length self.now.items }
+        ensures piece { result.now ≡ take (length result.now) (drop at self.now.items) }
+    {
+        let start = self.len - self.last.len();
+        rest_of_piece(&self.pieces, &self.last, start, at)
+    }
+
+    /// Puts an element at the end. While there is room, this takes no memory. It moves no element.
+    pub fn push(&mut self, item: T) -> Result<(), AllocFailed<T>>
+        ensures done { OnOk result (self.new.items ≡ self.old.items ++ item ∷ []) }
+        ensures unchanged { OnErr result (self.new.items ≡ self.old.items) }
+        ensures value_returned { IfErr result (λ failed. failed.value ≡ item) }
+        ensures room { self.old.room ≤ self.new.room + 1 }
+        ensures succeeds { 0 < self.old.room → IsOk result }
+    {
+        if self.len == MOST {
+            return Err(AllocFailed { value: item });
+        }
+        if self.last.len() >= FULL
+            && self.last.len() == self.last.capacity()
+            && close(&mut self.pieces, &mut self.last, FULL).is_err()
+        {
+            return Err(AllocFailed { value: item });
+        }
+        self.last.push(item)?;
+        self.len += 1;
+        Ok(())
+    }
+
+    /// Makes room for so many pushes, or finds no memory for it. No room is lost.
+    pub fn reserve(&mut self, more: usize) -> Result<(), AllocError>
+        ensures items { self.new.items ≡ self.old.items }
+        ensures room { OnOk result (more ≤ self.new.room) }
+        ensures kept { self.old.room ≤ self.new.room }
+        ensures succeeds { more ≤ self.old.room → IsOk result }
+    {
+        if more > MOST - self.len {
+            return Err(AllocError);
+        }
+        if self.last.len() < FULL || self.last.capacity() - self.last.len() >= more {
+            return self.last.reserve(more);
+        }
+        close(&mut self.pieces, &mut self.last, more)
+    }
+
+    /// Puts an element in front of the one at a place, or at the end. It moves the elements of one
+    /// piece, and takes time with the number of pieces before it. Of room nothing is said after it.
+    pub fn insert(&mut self, at: usize, item: T) -> Result<(), AllocFailed<T>>
+        requires { at ≤ length self.old.items }
+        ensures done { OnOk result (self.new.items ≡ insert self.old.items at item) }
+        ensures unchanged { OnErr result (self.new.items ≡ self.old.items) }
+        ensures value_returned { IfErr result (λ failed. failed.value ≡ item) }
+    {
+        if self.len == MOST {
+            return Err(AllocFailed { value: item });
+        }
+        if self.last.len() >= FULL && close(&mut self.pieces, &mut self.last, 0).is_err() {
+            return Err(AllocFailed { value: item });
+        }
+        let start = self.len - self.last.len();
+        insert_into(&mut self.pieces, &mut self.last, start, at, item)?;
+        self.len += 1;
+        Ok(())
+    }
+
+    /// Takes the element at a place out. It moves the elements of one piece, takes no memory, and takes
+    /// time with the number of pieces before it.
+    pub fn remove(&mut self, at: usize) -> T
+        requires { at < length self.old.items }
+        ensures value { result ≡ slice_index_or self.old.items at result }
+        ensures done { self.new.items ≡ remove self.old.items at }
+        ensures room { self.old.room ≤ self.new.room }
+    {
+        let start = self.len - self.last.len();
+        let item = remove_from(&mut self.pieces, &mut self.last, start, at);
+        self.len -= 1;
+        item
+    }
+}

@@ -1,0 +1,88 @@
+//! Where the elements that pass a test end.
+
+ghost use Rattle.std.specs.Prelude.{◌≡◌, ◌<◌, ◌≤◌, ◌+◌, ◌^◌, ◌++◌, Bool, All, length, take};
+ghost use Rattle.yd_pieces.specs.Pieces.{joined, ends_with, IsBoundary, IsFilled};
+
+/// A test of elements, which a search goes by. Its ghost member says which elements pass, so that
+/// whoever asks needs no closure.
+pub trait Test<T> {
+    ghost passes: { Self → T → Bool };
+
+    /// Whether the element passes.
+    fn passes(&self, item: &T) -> bool
+        ensures { result ≡ passes self.now item.now };
+}
+
+/// Whether the last element of the piece passes.
+fn is_end_passed<T, P: Test<T>>(piece: &Vec<T>, test: &P) -> bool
+    ensures { result ≡ ends_with (P.passes test.now) piece.now }
+{
+    match piece.last() {
+        Some(item) => test.passes(item),
+        None => false,
+    }
+}
+
+/// A place between pieces that end with an element that passes and those that do not.
+fn pieces_passed<T, P: Test<T>>(pieces: &[Vec<T>], test: &P) -> usize
+    ensures bound { result ≤ length pieces.now }
+    ensures boundary { IsBoundary (ends_with (P.passes test.now)) pieces.now result }
+{
+    let mut low = 0;
+    let mut high = pieces.len();
+    while low < high {
+        let mid = low + (high - low) / 2;
+        if is_end_passed(&pieces[mid], test) {
+            low = mid + 1;
+        } else {
+            high = mid;
+        }
+    }
+    low
+}
+
+/// A place between elements that pass and those that do not.
+fn items_passed<T, P: Test<T>>(items: &[T], test: &P) -> usize
+    ensures bound { result ≤ length items.now }
+    ensures boundary { IsBoundary (P.passes test.now) items.now result }
+{
+    let mut low = 0;
+    let mut high = items.len();
+    while low < high {
+        let mid = low + (high - low) / 2;
+        if test.passes(&items[mid]) {
+            low = mid + 1;
+        } else {
+            high = mid;
+        }
+    }
+    low
+}
+
+/// How many elements the first pieces have.
+fn len_before<T>(pieces: &[Vec<T>], end: usize) -> usize
+    requires end { end ≤ length pieces.now }
+    requires fits { length (joined pieces.now) < 2 ^ 64 }
+    ensures { result ≡ length (joined (take end pieces.now)) }
+{
+    let mut sum = 0;
+    for piece in &pieces[..end] {
+        sum += piece.len();
+    }
+    sum
+}
+
+/// A place of the whole between elements that pass and those that do not.
+pub fn point<T, P: Test<T>>(pieces: &[Vec<T>], last: &[T], test: &P) -> usize
+    requires filled { All IsFilled pieces.now }
+    requires fits { length (joined pieces.now ++ last.now) < 2 ^ 64 }
+    ensures bound { result ≤ length (joined pieces.now ++ last.now) }
+    ensures boundary { IsBoundary (P.passes test.now) (joined pieces.now ++ last.now) result }
+{
+    let i = pieces_passed(pieces, test);
+    let start = len_before(pieces, i);
+    if i < pieces.len() {
+        return start + items_passed(&pieces[i], test);
+    }
+    start + items_passed(last, test)
+}
