@@ -1,0 +1,134 @@
+//! The chains in one arena.
+
+ghost use Rattle.std.specs.Prelude.{◌≡◌, ◌≢◌, ◌<◌, ◌+◌, ◌++◌, ◌∷◌, [], ℕ, length, IfSome, IfOk, OnOk, OnErr, Contains, HoldsAt, slice_index_or, slice_set, All};
+ghost use Rattle.yd_chains.specs.Link.{AreSound};
+ghost use Rattle.yd_chains.specs.Chain.{IsIn, first_of, last_of, behind, before, put_behind, without};
+
+use crate::linked::{insert_in, next_in, prev_in, remove_in};
+use crate::links::{Ends, Link};
+use std::alloc::{AllocError, Global};
+use std::marker::Model;
+
+/// Places from 0 on, and chains of some of them, each place in one chain at most. It has links alone:
+/// what lies at a place is its user's, in a vector of his own.
+///
+/// Contracts see the number of places, `count`, and the places of each chain in order, `chains`.
+#[derive(Drop)]
+pub struct Chains {
+    links: Vec<Link>,
+    ends: Vec<Ends>,
+}
+
+impl Model for Chains {
+    ghost use Rattle.std.specs.Prelude.{length, map};
+    ghost use Rattle.yd_chains.specs.Link.{Chained, places_of, AreChains};
+
+    ghost Value = { Chained };
+
+    ghost view = { λ it. record { count = length it.links.items; chains = map (places_of it.links.items) it.ends.items } };
+
+    ghost invariant = { λ it. AreChains it.links.items it.ends.items };
+}
+
+impl Chains {
+    /// No place, and no chain. It takes no memory.
+    pub fn new(alloc: Global) -> Chains
+        ensures count { result.count ≡ 0 }
+        ensures chains { result.chains ≡ [] }
+    {
+        Chains {
+            links: Vec::new(alloc),
+            ends: Vec::new(alloc),
+        }
+    }
+
+    /// One place more, in no chain. Its number is how many there were before.
+    pub fn add_place(&mut self) -> Result<usize, AllocError>
+        ensures place { IfOk result (λ place. place ≡ self.old.count) }
+        ensures count { OnOk result (self.new.count ≡ self.old.count + 1) }
+        ensures unchanged { OnErr result (self.new.count ≡ self.old.count) }
+        ensures chains { self.new.chains ≡ self.old.chains }
+    {
+        let place = self.links.len();
+        self.links.push(Link {
+            chain: 0,
+            prev: None,
+            next: None,
+        })?;
+        Ok(place)
+    }
+
+    /// One chain more, which is empty. Its number is how many there were before.
+    pub fn add_chain(&mut self) -> Result<usize, AllocError>
+        ensures chain { IfOk result (λ chain. chain ≡ length self.old.chains) }
+        ensures chains { OnOk result (self.new.chains ≡ self.old.chains ++ [] ∷ []) }
+        ensures unchanged { OnErr result (self.new.chains ≡ self.old.chains) }
+        ensures count { self.new.count ≡ self.old.count }
+    {
+        let chain = self.ends.len();
+        self.ends.push(Ends {
+            first: None,
+            last: None,
+        })?;
+        Ok(chain)
+    }
+
+    /// The first place of a chain, or None where it is empty.
+    pub fn first(&self, chain: usize) -> Option<usize>
+        requires { chain < length self.now.chains }
+        ensures value { result ≡ first_of (slice_index_or self.now.chains chain []) }
+        ensures sound { AreSound self.now }
+    {
+        self.ends[chain].first
+    }
+
+    /// The last place of a chain, or None where it is empty.
+    pub fn last(&self, chain: usize) -> Option<usize>
+        requires { chain < length self.now.chains }
+        ensures { result ≡ last_of (slice_index_or self.now.chains chain []) }
+    {
+        self.ends[chain].last
+    }
+
+    /// The place behind another in its chain, or None at the end. Of a place in no chain nothing is
+    /// said.
+    pub fn next(&self, place: usize) -> Option<usize>
+        requires { place < self.now.count }
+        ensures sound { AreSound self.now }
+        ensures value { (k : ℕ) → k < length self.now.chains → IsIn place (slice_index_or self.now.chains k []) → result ≡ first_of (behind (Some place) (slice_index_or self.now.chains k [])) }
+    {
+        next_in(&self.links, &self.ends, place)
+    }
+
+    /// The place before another in its chain, or None at the front. Of a place in no chain nothing is
+    /// said.
+    pub fn prev(&self, place: usize) -> Option<usize>
+        requires { place < self.now.count }
+        ensures { (k : ℕ) → k < length self.now.chains → IsIn place (slice_index_or self.now.chains k []) → result ≡ last_of (before place (slice_index_or self.now.chains k [])) }
+    {
+        prev_in(&self.links, &self.ends, place)
+    }
+
+    /// Puts a place that is in no chain into one, behind a place of it or at the front. It takes no
+    /// memory, and a few steps.
+    pub fn insert(&mut self, chain: usize, after: Option<usize>, place: usize)
+        requires chain { chain < length self.old.chains }
+        requires after { IfSome after (λ p. IsIn p (slice_index_or self.old.chains chain [])) }
+        requires place { place < self.old.count }
+        requires loose { (k : ℕ) → k < length self.old.chains → IsIn place (slice_index_or self.old.chains k []) → ⊥ }
+        ensures count { self.new.count ≡ self.old.count }
+        ensures chains { self.new.chains ≡ slice_set self.old.chains chain (put_behind after place (slice_index_or self.old.chains chain [])) }
+    {
+        insert_in(&mut self.links, &mut self.ends, chain, after, place);
+    }
+
+    /// Takes a place out of its chain. It takes no memory, and a few steps.
+    pub fn remove(&mut self, chain: usize, place: usize)
+        requires chain { chain < length self.old.chains }
+        requires place { IsIn place (slice_index_or self.old.chains chain []) }
+        ensures count { self.new.count ≡ self.old.count }
+        ensures chains { self.new.chains ≡ slice_set self.old.chains chain (without place (slice_index_or self.old.chains chain [])) }
+    {
+        remove_in(&mut self.links, &mut self.ends, chain, place);
+    }
+}

@@ -1,0 +1,115 @@
+//! Chains over links: their neighbours, and their changes.
+
+ghost use Rattle.std.specs.Prelude.{◌≡◌, ◌≢◌, ◌<◌, ℕ, length, IfSome};
+ghost use Rattle.yd_chains.specs.Chain.{IsIn, first_of, last_of, behind, before, put_behind, without};
+ghost use Rattle.yd_chains.specs.Link.{next_of, prev_of, places_of, ends_at, widened, narrowed, IsChain, AreChains, IsLoose, Changes};
+
+use crate::linking::{link_in, link_over};
+use crate::links::{Ends, Link};
+
+/// The ends of a chain that gets one place more between two neighbours.
+fn widen(ends: Ends, before: Option<usize>, behind: Option<usize>, place: usize) -> Ends
+    ensures { result ≡ widened ends before behind place }
+{
+    Ends {
+        first: if before.is_none() {
+            Some(place)
+        } else {
+            ends.first
+        },
+        last: if behind.is_none() {
+            Some(place)
+        } else {
+            ends.last
+        },
+    }
+}
+
+/// The ends of a chain that loses what stands between two neighbours.
+fn narrow(ends: Ends, before: Option<usize>, behind: Option<usize>) -> Ends
+    ensures { result ≡ narrowed ends before behind }
+{
+    Ends {
+        first: if before.is_none() { behind } else { ends.first },
+        last: if behind.is_none() { before } else { ends.last },
+    }
+}
+
+/// What stands behind a place of a chain, or first.
+fn next_after(links: &[Link], ends: &[Ends], chain: usize, after: Option<usize>) -> Option<usize>
+    requires chains { AreChains links.now ends.now }
+    requires chain { chain < length ends.now }
+    requires after { IfSome after (λ p. IsIn p (places_of links.now (ends_at ends.now chain))) }
+    ensures { result ≡ first_of (behind after (places_of links.now (ends_at ends.now chain))) }
+{
+    match after {
+        None => ends[chain].first,
+        Some(p) => next_of_link(links, p),
+    }
+}
+
+/// What a place names as the next.
+fn next_of_link(links: &[Link], at: usize) -> Option<usize>
+    requires { at < length links.now }
+    ensures { result ≡ next_of links.now at }
+{
+    links[at].next
+}
+
+/// Links a loose place into a chain, behind a place of it or at the front.
+pub fn insert_in(
+    links: &mut Vec<Link>,
+    ends: &mut Vec<Ends>,
+    chain: usize,
+    after: Option<usize>,
+    place: usize,
+)
+    requires chains { AreChains links.old.items ends.old.items }
+    requires chain { chain < length ends.old.items }
+    requires after { IfSome after (λ p. IsIn p (places_of links.old.items (ends_at ends.old.items chain))) }
+    requires place { place < length links.old.items }
+    requires loose { IsLoose links.old.items ends.old.items place }
+    ensures { Changes links.old.items links.new.items ends.old.items ends.new.items chain (put_behind after place (places_of links.old.items (ends_at ends.old.items chain))) }
+{
+    let next = next_after(links, ends, chain, after);
+    link_in(links, chain, after, next, place);
+    ends[chain] = widen(ends[chain], after, next, place);
+}
+
+/// Takes a place of a chain out.
+pub fn remove_in(links: &mut Vec<Link>, ends: &mut Vec<Ends>, chain: usize, place: usize)
+    requires chains { AreChains links.old.items ends.old.items }
+    requires chain { chain < length ends.old.items }
+    requires place { IsIn place (places_of links.old.items (ends_at ends.old.items chain)) }
+    ensures { Changes links.old.items links.new.items ends.old.items ends.new.items chain (without place (places_of links.old.items (ends_at ends.old.items chain))) }
+{
+    let link = links[place];
+    link_over(links, link.prev, link.next);
+    ends[chain] = narrow(ends[chain], link.prev, link.next);
+}
+
+/// What stands behind a place in its chain.
+pub fn next_in(links: &[Link], ends: &[Ends], place: usize) -> Option<usize>
+    requires chains { AreChains links.now ends.now }
+    requires place { place < length links.now }
+    ensures { (k : ℕ) → k < length ends.now → IsIn place (places_of links.now (ends_at ends.now k)) → result ≡ first_of (behind (Some place) (places_of links.now (ends_at ends.now k))) }
+{
+    next_of_link(links, place)
+}
+
+/// What stands before a place in its chain.
+pub fn prev_in(links: &[Link], ends: &[Ends], place: usize) -> Option<usize>
+    requires chains { AreChains links.now ends.now }
+    requires place { place < length links.now }
+    ensures { (k : ℕ) → k < length ends.now → IsIn place (places_of links.now (ends_at ends.now k)) → result ≡ last_of (before place (places_of links.now (ends_at ends.now k))) }
+{
+    prev_of_link(links, place)
+}
+
+/// What a place names as the one before it.
+fn prev_of_link(links: &[Link], at: usize) -> Option<usize>
+    requires { at < length links.now }
+    ensures { result ≡ prev_of links.now at }
+{
+    links[at].prev
+}

@@ -1,0 +1,68 @@
+//! Single links, and how they change.
+
+ghost use Rattle.std.specs.Prelude.{◌≡◌, ◌≢◌, ◌<◌, ℕ, length, IfSome};
+ghost use Rattle.yd_chains.specs.Chain.{LinksIn, LinksOver};
+ghost use Rattle.yd_chains.specs.Link.{prev_of, next_of, chain_of, SetsNext, SetsPrev};
+
+use crate::links::Link;
+
+/// The place names another one as the next.
+fn set_next(links: &mut Vec<Link>, at: usize, next: Option<usize>)
+    requires { at < length links.old.items }
+    ensures { SetsNext links.old.items links.new.items at next }
+{
+    links[at].next = next;
+}
+
+/// The place names another one as the one before.
+fn set_prev(links: &mut Vec<Link>, at: usize, prev: Option<usize>)
+    requires { at < length links.old.items }
+    ensures { SetsPrev links.old.items links.new.items at prev }
+{
+    links[at].prev = prev;
+}
+
+/// Links a place in between two neighbours.
+pub fn link_in(
+    links: &mut Vec<Link>,
+    chain: usize,
+    before: Option<usize>,
+    behind: Option<usize>,
+    place: usize,
+)
+    requires place { place < length links.old.items }
+    requires before { IfSome before (λ p. (p < length links.old.items) × (p ≢ place)) }
+    requires behind { IfSome behind (λ p. (p < length links.old.items) × (p ≢ place)) }
+    ensures len { length links.new.items ≡ length links.old.items }
+    ensures linked { LinksIn (prev_of links.old.items) (next_of links.old.items) (prev_of links.new.items) (next_of links.new.items) before behind place }
+    ensures chain { chain_of links.new.items place ≡ chain }
+    ensures others { (i : ℕ) → i ≢ place → chain_of links.new.items i ≡ chain_of links.old.items i }
+{
+    links[place] = Link {
+        chain,
+        prev: before,
+        next: behind,
+    };
+    if let Some(p) = before {
+        set_next(links, p, Some(place));
+    }
+    if let Some(p) = behind {
+        set_prev(links, p, Some(place));
+    }
+}
+
+/// Makes two places neighbours.
+pub fn link_over(links: &mut Vec<Link>, before: Option<usize>, behind: Option<usize>)
+    requires before { IfSome before (λ p. p < length links.old.items) }
+    requires behind { IfSome behind (λ p. p < length links.old.items) }
+    ensures len { length links.new.items ≡ length links.old.items }
+    ensures linked { LinksOver (prev_of links.old.items) (next_of links.old.items) (prev_of links.new.items) (next_of links.new.items) before behind }
+    ensures chains { (i : ℕ) → chain_of links.new.items i ≡ chain_of links.old.items i }
+{
+    if let Some(p) = before {
+        set_next(links, p, behind);
+    }
+    if let Some(p) = behind {
+        set_prev(links, p, before);
+    }
+}
