@@ -1,12 +1,12 @@
 -- The links in memory, and what a contract sees of them (own).
-use Rattle.std.specs.Prelude.{◌≡◌, ◌≢◌, ◌<◌, ◌≤◌, ℕ, List, [], Option, None, length, get_or}
+use Rattle.std.specs.Prelude.{◌≡◌, ◌≢◌, ◌<◌, ◌≤◌, ℕ, List, [], Option, Some, None, length, get_or}
 use Rattle.yd_chains.specs.declared.links.Link.{Link}
 use Rattle.yd_chains.specs.declared.links.Ends.{Ends}
 use Rattle.yd_chains.specs.Chain.{IsIn, AreDistinct, first_of, last_of, first_with, last_with, first_over, IsLinked, walked}
 
 -- a place without links
 abbrev pub no_link : Link
-no_link = record { chain = 0; prev = None; next = None }
+no_link = record { chain = None; prev = None; next = None }
 
 -- the ends of a chain without places
 abbrev pub no_ends : Ends
@@ -20,9 +20,13 @@ prev_of links i = (get_or links i no_link).prev
 abbrev pub next_of : List Link → ℕ → Option ℕ
 next_of links i = (get_or links i no_link).next
 
--- the chain that it is in, or was in last
-abbrev pub chain_of : List Link → ℕ → ℕ
+-- the chain that it is in, if it is in one
+abbrev pub chain_of : List Link → ℕ → Option ℕ
 chain_of links i = (get_or links i no_link).chain
+
+-- the ends of the chain with a number
+abbrev pub ends_at : List Ends → ℕ → Ends
+ends_at ends k = get_or ends k no_ends
 
 -- the places of a chain
 abbrev pub places_of : List Link → Ends → List ℕ
@@ -32,13 +36,23 @@ places_of links ends = walked (next_of links) (length links) ends.first
 pub record IsChain (links : List Link) (chain : ℕ) (ends : Ends) (places : List ℕ) : Type 0 where
   pub linked : IsLinked (prev_of links) (next_of links) None places
   pub distinct : AreDistinct places
-  pub own : (i : ℕ) → IsIn i places → (i < length links) × (chain_of links i ≡ chain)
+  pub own : (i : ℕ) → IsIn i places → (i < length links) × (chain_of links i ≡ Some chain)
   pub first : ends.first ≡ first_of places
   pub last : ends.last ≡ last_of places
 
 -- each of the chains is one of its number, with the places that its links go through
 abbrev pub AreChains : List Link → List Ends → Type 0
 AreChains links ends = (k : ℕ) → k < length ends → IsChain links k (get_or ends k no_ends) (places_of links (get_or ends k no_ends))
+
+-- a place that names a chain is in it, and one that names none has no neighbours
+pub record AreFiled (links : List Link) (ends : List Ends) : Type 0 where
+  pub filed : (i k : ℕ) → chain_of links i ≡ Some k → (k < length ends) × IsIn i (places_of links (ends_at ends k))
+  pub loose : (i : ℕ) → chain_of links i ≡ None → (prev_of links i ≡ None) × (next_of links i ≡ None)
+
+-- the links are chains of places, and each place names its own
+pub record AreLinked (links : List Link) (ends : List Ends) : Type 0 where
+  pub chains : AreChains links ends
+  pub filed : AreFiled links ends
 
 -- what a contract sees: how many places there are, and the places of each chain in order
 pub record Chained : Type 0 where
@@ -52,6 +66,12 @@ pub record SetsNext (old new : List Link) (at : ℕ) (next : Option ℕ) : Type 
   pub prevs : (i : ℕ) → prev_of new i ≡ prev_of old i
   pub here : next_of new at ≡ next
   pub others : (i : ℕ) → i ≢ at → next_of new i ≡ next_of old i
+
+-- only one place changes, and has no chain and no neighbours
+pub record Clears (old new : List Link) (at : ℕ) : Type 0 where
+  pub len : length new ≡ length old
+  pub here : get_or new at no_link ≡ no_link
+  pub others : (i : ℕ) → i ≢ at → get_or new i no_link ≡ get_or old i no_link
 
 -- only the one before a place changes
 pub record SetsPrev (old new : List Link) (at : ℕ) (prev : Option ℕ) : Type 0 where
@@ -69,10 +89,6 @@ widened ends before behind new = record { first = first_with ends.first before n
 abbrev pub narrowed : Ends → Option ℕ → Option ℕ → Ends
 narrowed ends before behind = record { first = first_over ends.first before behind; last = first_over ends.last behind before }
 
--- the ends of the chain with a number
-abbrev pub ends_at : List Ends → ℕ → Ends
-ends_at ends k = get_or ends k no_ends
-
 -- the place is in no chain
 abbrev pub IsLoose : List Link → List Ends → ℕ → Type 0
 IsLoose links ends place = (k : ℕ) → k < length ends → IsIn place (places_of links (ends_at ends k)) → ⊥
@@ -84,6 +100,10 @@ pub record Changes (old_links new_links : List Link) (old_ends new_ends : List E
   pub here : places_of new_links (ends_at new_ends chain) ≡ places
   pub others : (k : ℕ) → k < length old_ends → k ≢ chain → places_of new_links (ends_at new_ends k) ≡ places_of old_links (ends_at old_ends k)
   pub are_chains : AreChains new_links new_ends
+
+-- the place is in no chain, as a contract sees it
+abbrev pub IsFree : Chained → ℕ → Type 0
+IsFree it place = (k : ℕ) → k < length it.chains → IsIn place (get_or it.chains k []) → ⊥
 
 -- no chain has a place twice, each place is below the count, no two chains share one, and no chain is longer than the count
 pub record AreSound (it : Chained) : Type 0 where

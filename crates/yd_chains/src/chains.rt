@@ -1,10 +1,10 @@
 //! The chains in one arena.
 
-ghost use Rattle.std.specs.Prelude.{◌≡◌, ◌≢◌, ◌<◌, ◌+◌, ◌++◌, ◌∷◌, [], ℕ, length, IfSome, IfOk, OnOk, OnErr, Contains, HoldsAt, slice_index_or, slice_set, All};
-ghost use Rattle.yd_chains.specs.Link.{AreSound};
+ghost use Rattle.std.specs.Prelude.{◌≡◌, ◌≢◌, ◌<◌, ◌+◌, ◌++◌, ◌∷◌, [], ℕ, None, Some, length, IfSome, IfOk, OnOk, OnErr, Contains, HoldsAt, slice_index_or, slice_set, All};
+ghost use Rattle.yd_chains.specs.Link.{AreSound, IsFree};
 ghost use Rattle.yd_chains.specs.Chain.{IsIn, first_of, last_of, behind, before, put_behind, without};
 
-use crate::linked::{insert_in, next_in, prev_in, remove_in};
+use crate::linked::{chain_in, insert_in, next_in, prev_in, remove_in};
 use crate::links::{Ends, Link};
 use std::alloc::{AllocError, Global};
 use std::marker::Model;
@@ -21,13 +21,13 @@ pub struct Chains {
 
 impl Model for Chains {
     ghost use Rattle.std.specs.Prelude.{length, map};
-    ghost use Rattle.yd_chains.specs.Link.{Chained, places_of, AreChains};
+    ghost use Rattle.yd_chains.specs.Link.{Chained, places_of, AreLinked};
 
     ghost Value = { Chained };
 
     ghost view = { λ it. record { count = length it.links.items; chains = map (places_of it.links.items) it.ends.items } };
 
-    ghost invariant = { λ it. AreChains it.links.items it.ends.items };
+    ghost invariant = { λ it. AreLinked it.links.items it.ends.items };
 }
 
 impl Chains {
@@ -42,6 +42,23 @@ impl Chains {
         }
     }
 
+    /// How many places there are.
+    pub fn len(&self) -> usize
+        ensures count { result ≡ self.now.count }
+        ensures sound { AreSound self.now }
+    {
+        self.links.len()
+    }
+
+    /// The chain that a place is in, or None where it is in none.
+    pub fn chain_of(&self, place: usize) -> Option<usize>
+        requires { place < self.now.count }
+        ensures member { (k : ℕ) → k < length self.now.chains → IsIn place (slice_index_or self.now.chains k []) → result ≡ Some k }
+        ensures found { IfSome result (λ k. (k < length self.now.chains) × IsIn place (slice_index_or self.now.chains k [])) }
+    {
+        chain_in(&self.links, &self.ends, place)
+    }
+
     /// One place more, in no chain. Its number is how many there were before.
     pub fn add_place(&mut self) -> Result<usize, AllocError>
         ensures place { IfOk result (λ place. place ≡ self.old.count) }
@@ -51,7 +68,7 @@ impl Chains {
     {
         let place = self.links.len();
         self.links.push(Link {
-            chain: 0,
+            chain: None,
             prev: None,
             next: None,
         })?;
@@ -90,21 +107,21 @@ impl Chains {
         self.ends[chain].last
     }
 
-    /// The place behind another in its chain, or None at the end. Of a place in no chain nothing is
-    /// said.
+    /// The place behind another in its chain. None is at the end, and behind a place in no chain.
     pub fn next(&self, place: usize) -> Option<usize>
         requires { place < self.now.count }
         ensures sound { AreSound self.now }
+        ensures loose { IsFree self.now place → result ≡ None }
         ensures value { (k : ℕ) → k < length self.now.chains → IsIn place (slice_index_or self.now.chains k []) → result ≡ first_of (behind (Some place) (slice_index_or self.now.chains k [])) }
     {
         next_in(&self.links, &self.ends, place)
     }
 
-    /// The place before another in its chain, or None at the front. Of a place in no chain nothing is
-    /// said.
+    /// The place before another in its chain. None is at the front, and before a place in no chain.
     pub fn prev(&self, place: usize) -> Option<usize>
         requires { place < self.now.count }
-        ensures { (k : ℕ) → k < length self.now.chains → IsIn place (slice_index_or self.now.chains k []) → result ≡ last_of (before place (slice_index_or self.now.chains k [])) }
+        ensures loose { IsFree self.now place → result ≡ None }
+        ensures value { (k : ℕ) → k < length self.now.chains → IsIn place (slice_index_or self.now.chains k []) → result ≡ last_of (before place (slice_index_or self.now.chains k [])) }
     {
         prev_in(&self.links, &self.ends, place)
     }
@@ -115,7 +132,7 @@ impl Chains {
         requires chain { chain < length self.old.chains }
         requires after { IfSome after (λ p. IsIn p (slice_index_or self.old.chains chain [])) }
         requires place { place < self.old.count }
-        requires loose { (k : ℕ) → k < length self.old.chains → IsIn place (slice_index_or self.old.chains k []) → ⊥ }
+        requires loose { IsFree self.old place }
         ensures count { self.new.count ≡ self.old.count }
         ensures chains { self.new.chains ≡ slice_set self.old.chains chain (put_behind after place (slice_index_or self.old.chains chain [])) }
     {

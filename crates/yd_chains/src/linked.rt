@@ -1,10 +1,10 @@
 //! Chains over links: their neighbours, and their changes.
 
-ghost use Rattle.std.specs.Prelude.{◌≡◌, ◌≢◌, ◌<◌, ℕ, length, IfSome};
+ghost use Rattle.std.specs.Prelude.{◌≡◌, ◌≢◌, ◌<◌, ℕ, None, Some, length, IfSome};
 ghost use Rattle.yd_chains.specs.Chain.{IsIn, first_of, last_of, behind, before, put_behind, without};
-ghost use Rattle.yd_chains.specs.Link.{next_of, prev_of, places_of, ends_at, widened, narrowed, IsChain, AreChains, IsLoose, Changes};
+ghost use Rattle.yd_chains.specs.Link.{next_of, prev_of, chain_of, places_of, ends_at, widened, narrowed, IsChain, AreChains, AreFiled, IsLoose, Changes};
 
-use crate::linking::{link_in, link_over};
+use crate::linking::{clear, link_in, link_over};
 use crate::links::{Ends, Link};
 
 /// The ends of a chain that gets one place more between two neighbours.
@@ -69,7 +69,9 @@ pub fn insert_in(
     requires after { IfSome after (λ p. IsIn p (places_of links.old.items (ends_at ends.old.items chain))) }
     requires place { place < length links.old.items }
     requires loose { IsLoose links.old.items ends.old.items place }
-    ensures { Changes links.old.items links.new.items ends.old.items ends.new.items chain (put_behind after place (places_of links.old.items (ends_at ends.old.items chain))) }
+    requires filed { AreFiled links.old.items ends.old.items }
+    ensures changes { Changes links.old.items links.new.items ends.old.items ends.new.items chain (put_behind after place (places_of links.old.items (ends_at ends.old.items chain))) }
+    ensures filed { AreFiled links.new.items ends.new.items }
 {
     let next = next_after(links, ends, chain, after);
     link_in(links, chain, after, next, place);
@@ -81,27 +83,34 @@ pub fn remove_in(links: &mut Vec<Link>, ends: &mut Vec<Ends>, chain: usize, plac
     requires chains { AreChains links.old.items ends.old.items }
     requires chain { chain < length ends.old.items }
     requires place { IsIn place (places_of links.old.items (ends_at ends.old.items chain)) }
-    ensures { Changes links.old.items links.new.items ends.old.items ends.new.items chain (without place (places_of links.old.items (ends_at ends.old.items chain))) }
+    requires filed { AreFiled links.old.items ends.old.items }
+    ensures changes { Changes links.old.items links.new.items ends.old.items ends.new.items chain (without place (places_of links.old.items (ends_at ends.old.items chain))) }
+    ensures filed { AreFiled links.new.items ends.new.items }
 {
     let link = links[place];
     link_over(links, link.prev, link.next);
+    clear(links, place);
     ends[chain] = narrow(ends[chain], link.prev, link.next);
 }
 
-/// What stands behind a place in its chain.
+/// What stands behind a place in its chain. Of a place in no chain it is none.
 pub fn next_in(links: &[Link], ends: &[Ends], place: usize) -> Option<usize>
     requires chains { AreChains links.now ends.now }
     requires place { place < length links.now }
-    ensures { (k : ℕ) → k < length ends.now → IsIn place (places_of links.now (ends_at ends.now k)) → result ≡ first_of (behind (Some place) (places_of links.now (ends_at ends.now k))) }
+    requires filed { AreFiled links.now ends.now }
+    ensures loose { IsLoose links.now ends.now place → result ≡ None }
+    ensures value { (k : ℕ) → k < length ends.now → IsIn place (places_of links.now (ends_at ends.now k)) → result ≡ first_of (behind (Some place) (places_of links.now (ends_at ends.now k))) }
 {
     next_of_link(links, place)
 }
 
-/// What stands before a place in its chain.
+/// What stands before a place in its chain. Of a place in no chain it is none.
 pub fn prev_in(links: &[Link], ends: &[Ends], place: usize) -> Option<usize>
     requires chains { AreChains links.now ends.now }
     requires place { place < length links.now }
-    ensures { (k : ℕ) → k < length ends.now → IsIn place (places_of links.now (ends_at ends.now k)) → result ≡ last_of (before place (places_of links.now (ends_at ends.now k))) }
+    requires filed { AreFiled links.now ends.now }
+    ensures loose { IsLoose links.now ends.now place → result ≡ None }
+    ensures value { (k : ℕ) → k < length ends.now → IsIn place (places_of links.now (ends_at ends.now k)) → result ≡ last_of (before place (places_of links.now (ends_at ends.now k))) }
 {
     prev_of_link(links, place)
 }
@@ -112,4 +121,23 @@ fn prev_of_link(links: &[Link], at: usize) -> Option<usize>
     ensures { result ≡ prev_of links.now at }
 {
     links[at].prev
+}
+
+/// The chain that a place is in.
+pub fn chain_in(links: &[Link], ends: &[Ends], place: usize) -> Option<usize>
+    requires chains { AreChains links.now ends.now }
+    requires filed { AreFiled links.now ends.now }
+    requires place { place < length links.now }
+    ensures member { (k : ℕ) → k < length ends.now → IsIn place (places_of links.now (ends_at ends.now k)) → result ≡ Some k }
+    ensures found { IfSome result (λ k. (k < length ends.now) × IsIn place (places_of links.now (ends_at ends.now k))) }
+{
+    chain_of_link(links, place)
+}
+
+/// The chain that a place names.
+fn chain_of_link(links: &[Link], at: usize) -> Option<usize>
+    requires { at < length links.now }
+    ensures { result ≡ chain_of links.now at }
+{
+    links[at].chain
 }

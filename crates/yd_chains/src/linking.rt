@@ -1,8 +1,8 @@
 //! Single links, and how they change.
 
-ghost use Rattle.std.specs.Prelude.{◌≡◌, ◌≢◌, ◌<◌, ℕ, length, IfSome};
+ghost use Rattle.std.specs.Prelude.{◌≡◌, ◌≢◌, ◌<◌, ℕ, Some, length, IfSome};
 ghost use Rattle.yd_chains.specs.Chain.{LinksIn, LinksOver};
-ghost use Rattle.yd_chains.specs.Link.{prev_of, next_of, chain_of, SetsNext, SetsPrev};
+ghost use Rattle.yd_chains.specs.Link.{prev_of, next_of, chain_of, SetsNext, SetsPrev, Clears};
 
 use crate::links::Link;
 
@@ -35,11 +35,11 @@ pub fn link_in(
     requires behind { IfSome behind (λ p. (p < length links.old.items) × (p ≢ place)) }
     ensures len { length links.new.items ≡ length links.old.items }
     ensures linked { LinksIn (prev_of links.old.items) (next_of links.old.items) (prev_of links.new.items) (next_of links.new.items) before behind place }
-    ensures chain { chain_of links.new.items place ≡ chain }
+    ensures chain { chain_of links.new.items place ≡ Some chain }
     ensures others { (i : ℕ) → i ≢ place → chain_of links.new.items i ≡ chain_of links.old.items i }
 {
     links[place] = Link {
-        chain,
+        chain: Some(chain),
         prev: before,
         next: behind,
     };
@@ -65,4 +65,16 @@ pub fn link_over(links: &mut Vec<Link>, before: Option<usize>, behind: Option<us
     if let Some(p) = behind {
         set_prev(links, p, before);
     }
+}
+
+/// Leaves a place without a chain and without neighbours.
+pub fn clear(links: &mut Vec<Link>, place: usize)
+    requires { place < length links.old.items }
+    ensures { Clears links.old.items links.new.items place }
+{
+    links[place] = Link {
+        chain: None,
+        prev: None,
+        next: None,
+    };
 }

@@ -1,10 +1,10 @@
 //! The links of a place, and the ends of a chain.
 
-/// The neighbours of a place, and the number of the chain that it is in, or was in last.
+/// The neighbours of a place in its chain. A place in no chain has none.
 #[derive(Clone, Copy, Debug)]
 pub struct Link {
-    /// Which chain.
-    pub chain: usize,
+    /// The number of its chain.
+    pub chain: Option<usize>,
     /// The place before it.
     pub prev: Option<usize>,
     /// The place behind it.
