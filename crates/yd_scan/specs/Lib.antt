@@ -1,0 +1,4 @@
+pub mod Stretches
+pub mod Scanning
+pub mod Verdicts
+pub mod Law

@@ -1,0 +1,82 @@
+//! The verdict on a scanned run.
+
+ghost use Rattle.std.specs.Prelude.{◌≡◌, Bool, IfSome, IfNone};
+ghost use Rattle.yd_origins.specs.Ids.{is_same, is_same_neighbour, is_some_and};
+ghost use Rattle.yd_scan.specs.Scanning.{verdict_on, verdict_by_left};
+ghost use Rattle.yd_scan.specs.Verdicts.{verdict_of};
+
+use crate::stretch::Stretch;
+use yd_ids::Id;
+
+/// What a scanned run does to the place of the new one.
+#[derive(Clone, Copy, Debug)]
+pub enum Verdict {
+    /// The scan ends in front of it.
+    Stops,
+    /// The place moves behind it.
+    Moves,
+    /// The scan goes on, and the place stays.
+    Stays,
+}
+
+/// Whether two ids are one.
+fn is_same_id(a: Id, b: Id) -> bool
+    ensures { result ≡ is_same a b }
+{
+    a.client.0 == b.client.0 && a.clock == b.clock
+}
+
+/// Whether both are absent, or both are there and one.
+fn is_same_origin(a: Option<Id>, b: Option<Id>) -> bool
+    ensures { result ≡ is_same_neighbour a b }
+{
+    match (a, b) {
+        (None, None) => true,
+        (Some(a), Some(b)) => is_same_id(a, b),
+        _ => false,
+    }
+}
+
+/// Whether there is an origin, and it is this id.
+fn is_origin(id: Id, origin: Option<Id>) -> bool
+    ensures { result ≡ is_some_and (is_same id) origin }
+{
+    match origin {
+        None => false,
+        Some(origin) => is_same_id(id, origin),
+    }
+}
+
+/// What a scanned run does, where its left origin does not have to be looked up.
+pub fn judge(next: &Stretch, new: &Stretch) -> Option<Verdict>
+    ensures decided { IfSome result (λ verdict. (conflicts scanned : Bool) → verdict_of verdict ≡ verdict_on next.now new.now conflicts scanned) }
+    ensures open { IfNone result ((conflicts scanned : Bool) → verdict_on next.now new.now conflicts scanned ≡ verdict_by_left conflicts scanned) }
+{
+    if is_origin(next.id, new.right) {
+        return Some(Verdict::Stops);
+    }
+    if is_same_origin(next.left, new.left) {
+        if next.id.client.0 < new.id.client.0 {
+            return Some(Verdict::Moves);
+        }
+        if is_same_origin(next.right, new.right) {
+            return Some(Verdict::Stops);
+        }
+        return Some(Verdict::Stays);
+    }
+    None
+}
+
+/// What a scanned run does, where its left origin is conflicting, or scanned, or neither.
+pub fn judge_by_left(conflicts: bool, scanned: bool) -> Verdict
+    ensures { verdict_of result ≡ verdict_by_left conflicts scanned }
+{
+    if conflicts {
+        return Verdict::Stays;
+    }
+    if scanned {
+        Verdict::Moves
+    } else {
+        Verdict::Stops
+    }
+}
