@@ -207,7 +207,7 @@ module _ (places : Id → Option ℕ) (stretches : List Stretch) (list : List �
           | inl t ↦ omega (arith, ap (λ k. get_or (set marks i (counter + 1)) k 0) t.1, same_mark marks i (counter + 1) (omega (arith, lt, s.marks_len)))
           | inr t ↦ omega (arith, other_mark marks i (counter + 1) j t.1, s.marks_low j)
         ];
-        marks_len = length-set marks i (counter + 1) ∙ s.marks_len;
+        marks_len = omega (arith, length-set marks i (counter + 1), s.marks_len);
       }
     where
       still : (j : ℕ) (xs : List ℕ) → j ≢ i → Has j (xs ++ i ∷ []) → Has j xs
@@ -260,7 +260,7 @@ module _ (places : Id → Option ℕ) (stretches : List Stretch) (list : List �
           | inl t ↦ omega (arith, ap (λ k. get_or (set marks i (counter + 1)) k 0) t.1, same_mark marks i (counter + 1) (omega (arith, lt, s.marks_len)))
           | inr t ↦ omega (arith, other_mark marks i (counter + 1) j t.1, s.marks_low j)
         ];
-        marks_len = length-set marks i (counter + 1) ∙ s.marks_len;
+        marks_len = omega (arith, length-set marks i (counter + 1), s.marks_len);
       }
     where
       above_start : (j : ℕ) → j ≢ i → Has j (s.passed ++ (s.conflicting ++ i ∷ [])) → start < get_or marks j 0
@@ -274,7 +274,7 @@ module _ (places : Id → Option ℕ) (stretches : List Stretch) (list : List �
       ]
 
   -- the scan begins
-  pub scan_starts : (start : ℕ) (marks : List ℕ) → ((i : ℕ) → get_or marks i 0 ≤ start) → length marks ≡ length stretches →
+  pub scan_starts : (start : ℕ) (marks : List ℕ) → ((i : ℕ) → get_or marks i 0 ≤ start) → length stretches ≤ length marks →
       IsScanning stretches list after new start marks start start after (first_of (places_behind after list))
   scan_starts start marks low len = record {
     passed = [];
@@ -442,7 +442,7 @@ module _ (places : Id → Option ℕ) (stretches : List Stretch) (chains : Chain
   short : length list ≤ length stretches
   short = chain.length_within (length stretches) list ready.distinct ready.within
 
-  pub begins : (start : ℕ) (marks : List ℕ) (at : Option ℕ) → ((i : ℕ) → get_or marks i 0 ≤ start) → length marks ≡ length stretches → at ≡ first_of (places_behind after list) →
+  pub begins : (start : ℕ) (marks : List ℕ) (at : Option ℕ) → ((i : ℕ) → get_or marks i 0 ≤ start) → length stretches ≤ length marks → at ≡ first_of (places_behind after list) →
       IsScanning stretches list after new start marks start start after at
   begins start marks at low same e = subst (λ z. IsScanning stretches list after new start marks start start after z) (sym e) (scan_starts places stretches list after new ready start marks low same)
 

@@ -50,7 +50,7 @@ pub record IsScanning (stretches : List Stretch) (list : List ℕ) (after : Opti
   pub counted : counter ≡ start + (length passed + length conflicting)
   pub moved_low : moved ≤ counter
   pub marks_low : (i : ℕ) → get_or marks i 0 ≤ counter
-  pub marks_len : length marks ≡ length stretches
+  pub marks_len : length stretches ≤ length marks
 
 -- the place behind which a new run goes is that of its first unit by the scan over units
 pub record IsScanPlace (stretches : List Stretch) (list : List ℕ) (new : Stretch) (place : Option ℕ) (left right : Id → Option Id) : Type 0 where

@@ -97,7 +97,7 @@ pub fn scan<I: Finds>(
 ) -> Option<usize>
     requires chain { chain < length chains.now.chains }
     requires stretches { length stretches.now ≤ chains.now.count }
-    requires marks { length marks.old.items ≡ length stretches.now }
+    requires marks { length stretches.now ≤ length marks.old.items }
     requires low { (i : ℕ) → slice_index marks.old.items i ≤ counter.old }
     requires room { counter.old + length stretches.now < 2 ^ 64 }
     requires stands { Stands (I.places index.now) stretches.now (slice_index_or chains.now.chains chain []) after new.now }

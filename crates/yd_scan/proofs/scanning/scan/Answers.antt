@@ -1,4 +1,4 @@
-use Rattle.std.proofs.Common.{◌∙◌, ap, arith, refl, ℕ, Vec, Global}
+use Rattle.std.proofs.Common.{◌∙◌, ◌+◌, ap, arith, length, length-set, refl, ℕ, Vec, Global}
 use Rattle.yd_scan.proofs.ScanningLemmas.{begins, in_place, low, ends, in_range, lower, stopped, moved_on, stayed_on}
 use Rattle.yd_scan.proofs.scanning.scan.Goals as goal
 use Rattle.yd_scan.proofs.scanning.scan.Goals.{in-Moves, in-Stays}
@@ -7,6 +7,7 @@ pub loop-at-init : goal.loop-at-init
 loop-at-init g c = record {
   sound = c.next_place-at.ensures.sound;
   started = refl;
+  kept = refl;
   scanning = begins _ c.args.stretches.now c.args.chains.now c.args.chain c.args.after c.args.new.now c.next_place-at.ensures.sound c.requires.chain c.requires.stands
       c.args.counter.now c.args.marks.now.items c.next_place-at.result c.requires.low c.requires.marks c.next_place-at.ensures.value;
 }
@@ -69,6 +70,10 @@ pub loop-at-preserved : goal.loop-at-preserved
 loop-at-preserved g c = record {
   sound = c.next_place-at.ensures.sound;
   started = refl;
+  kept = elim c.match-verdict_at.branch [
+    | in-Moves w ↦ ap (λ (v : Vec ℕ Global). length v.items) w.marks-is ∙ ap length w.mark.ensures.marks ∙ length-set c.loop-at.marks.items c.in-Some.i (c.loop-at.counter + 1) ∙ c.loop-at.invariant.kept
+    | in-Stays w ↦ ap (λ (v : Vec ℕ Global). length v.items) w.marks-is ∙ ap length w.mark-in-Stays.ensures.marks ∙ length-set c.loop-at.marks.items c.in-Some.i (c.loop-at.counter + 1) ∙ c.loop-at.invariant.kept
+  ];
   scanning = elim c.match-verdict_at.branch [
     | in-Moves w ↦ moved_on _ c.args.stretches.now c.args.chains.now c.args.chain c.args.after c.args.new.now c.next_place-at.ensures.sound c.requires.chain c.requires.stands
         c.args.counter.now c.loop-at.marks.items c.loop-at.counter c.loop-at.moved c.loop-at.place c.loop-at.at c.loop-at.invariant.scanning c.in-Some.i c.in-Some.is

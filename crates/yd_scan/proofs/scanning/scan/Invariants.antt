@@ -8,6 +8,7 @@ abbrev pub invariant-loop-at : goal.invariant-loop-at
 invariant-loop-at g l = record {
   sound : AreSound l.chains;
   started : l.start ≡ l.fn.counter;
+  kept : length l.marks.items ≡ length l.fn.marks.items;
   scanning : IsScanning l.stretches (slice_index_or l.chains.chains l.chain []) l.fn.after l.new l.start l.marks.items l.counter l.moved l.place l.at;
 }
 
