@@ -4,7 +4,7 @@ use Rattle.std.specs.Prelude.{IfSome}
 use Rattle.std.proofs.lemmas.List.{get_or_append_left, get_or_at}
 use Rattle.yd_ids.specs.declared.id.Id.{Id}
 use Rattle.yd_ids.specs.declared.id.Client.{Client}
-use Rattle.yd_origins.specs.Ids.{IsIn, AreDistinct}
+use Rattle.yd_words.specs.Member.{IsIn, AreDistinct}
 use Rattle.yd_origins.specs.Growing.{IsRun, IsNotAmong}
 use Rattle.yd_origins.specs.Scan.{after_scans}
 use Rattle.yd_origins.proofs.RunLemmas.{run_together}

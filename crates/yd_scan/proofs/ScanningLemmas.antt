@@ -3,11 +3,14 @@ use Rattle.std.proofs.Common.{◌≡◌, ◌≢◌, ℕ, ◌+◌, ◌-◌, ◌<�
 use Rattle.std.specs.Prelude.{nat_lt, IfSome, if◌then◌else◌}
 use Rattle.std.proofs.lemmas.List.{length-append, length-set, get_or-set_same, get_or-set_other}
 use Rattle.yd_ids.specs.declared.id.Id.{Id}
-use Rattle.yd_origins.specs.Ids.{is_same, is_same_neighbour, is_some_and, has_id, IsIn, up_to, behind}
+use Rattle.yd_words.specs.Member.{IsIn}
+use Rattle.yd_words.specs.Test.{is_some_and}
+use Rattle.yd_words.proofs.MemberLemmas.{in_right_part, in_parts}
+use Rattle.yd_ids.specs.Ids.{is_same, is_same_neighbour, has_id}
+use Rattle.yd_origins.specs.Parts.{up_to, behind}
 use Rattle.yd_origins.specs.Growing.{IsNotAmong, run_walk}
 use Rattle.yd_origins.specs.Scan.{Verdict, stops, moves, stays, verdict, walk}
 use Rattle.yd_origins.proofs.RunLemmas.{run_whole}
-use Rattle.yd_origins.proofs.MemberLemmas.{in_right_part, in_parts}
 use Rattle.yd_chains.specs.Chain.{IsIn as Has, AreDistinct, first_of, last_from, last_of, up_to as places_to, behind as places_behind, before}
 use Rattle.yd_chains.proofs.ChainLemmas as chain
 use Rattle.yd_scan.specs.declared.stretch.Stretch.{Stretch}

@@ -3,10 +3,13 @@ use Rattle.std.proofs.Common.{◌≡◌, ℕ, zero, suc, ◌+◌, ◌-◌, ◌<�
 use Rattle.std.proofs.lemmas.List.Concat.{flat_map-append}
 use Rattle.yd_ids.specs.declared.id.Id.{Id}
 use Rattle.yd_ids.specs.declared.id.Client.{Client}
-use Rattle.yd_origins.specs.Ids.{is_same, is_some_and, has_id, IsIn, up_to, behind}
-use Rattle.yd_origins.proofs.IdLemmas.{same_says, same_itself}
-use Rattle.yd_origins.proofs.MemberLemmas.{in_left_part, in_right_part, in_parts, has_says}
-use Rattle.yd_origins.proofs.TestLemmas.{nat_lt_says}
+use Rattle.yd_words.specs.Member.{IsIn}
+use Rattle.yd_words.specs.Test.{is_some_and}
+use Rattle.yd_words.proofs.MemberLemmas.{in_left_part, in_right_part, in_parts}
+use Rattle.yd_words.proofs.TestLemmas.{nat_lt_says}
+use Rattle.yd_ids.specs.Ids.{is_same, has_id}
+use Rattle.yd_ids.proofs.IdLemmas.{same_says, same_itself, has_says}
+use Rattle.yd_origins.specs.Parts.{up_to, behind}
 use Rattle.yd_chains.specs.Chain.{IsIn as Has, AreDistinct, last_from, last_of, up_to as places_to, behind as places_behind, before}
 use Rattle.yd_chains.proofs.ChainLemmas as chain
 use Rattle.yd_scan.specs.declared.stretch.Stretch.{Stretch}

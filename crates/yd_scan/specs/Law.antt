@@ -1,7 +1,7 @@
 -- What the place that the scan of a run's first unit finds is worth (own).
 use Rattle.std.specs.Prelude.{◌≡◌, ◌<◌, ◌++◌, ℕ, List, [], ◌∷◌, Option, None, IfSome, length}
 use Rattle.yd_ids.specs.declared.id.Id.{Id}
-use Rattle.yd_origins.specs.Ids.{IsIn}
+use Rattle.yd_words.specs.Member.{IsIn}
 use Rattle.yd_origins.specs.Growing.{IsRun}
 use Rattle.yd_origins.specs.Scan.{after_scans}
 use Rattle.yd_chains.specs.Chain.{IsIn as Has, put_behind}

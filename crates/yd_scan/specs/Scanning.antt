@@ -1,7 +1,8 @@
 -- The scan over runs, with a mark at each place (Yjs 13, `integrate`; marks in the place of sets are own).
 use Rattle.std.specs.Prelude.{◌≡◌, ◌<◌, ◌≤◌, ◌+◌, ◌++◌, ℕ, Bool, false, nat_lt, List, [], Option, Some, None, IfSome, length, get_or, if◌then◌else◌}
 use Rattle.yd_ids.specs.declared.id.Id.{Id}
-use Rattle.yd_origins.specs.Ids.{is_same, is_same_neighbour, is_some_and}
+use Rattle.yd_words.specs.Test.{is_some_and}
+use Rattle.yd_ids.specs.Ids.{is_same, is_same_neighbour}
 use Rattle.yd_origins.specs.Scan.{Verdict, stops, moves, stays, walk, scan_place}
 use Rattle.yd_origins.specs.Growing.{IsNotAmong}
 use Rattle.yd_chains.specs.Chain.{IsIn, AreDistinct, first_of, last_from, up_to, behind}

@@ -2,7 +2,7 @@
 use Rattle.std.specs.Prelude.{◌≡◌, ◌<◌, ◌+◌, ◌-◌, ℕ, zero, suc, List, [], ◌∷◌, Option, Some, None, length, get_or, flat_map}
 use Rattle.yd_ids.specs.declared.id.Id.{Id}
 use Rattle.yd_ids.specs.declared.id.Client.{Client}
-use Rattle.yd_origins.specs.Ids.{IsIn}
+use Rattle.yd_words.specs.Member.{IsIn}
 use Rattle.yd_origins.specs.Growing.{IsRun}
 use Rattle.yd_chains.specs.Chain.{IsIn as Has}
 use Rattle.yd_scan.specs.declared.stretch.Stretch.{Stretch}

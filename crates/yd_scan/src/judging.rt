@@ -1,7 +1,8 @@
 //! The verdict on a scanned run.
 
 ghost use Rattle.std.specs.Prelude.{◌≡◌, Bool, IfSome, IfNone};
-ghost use Rattle.yd_origins.specs.Ids.{is_same, is_same_neighbour, is_some_and};
+ghost use Rattle.yd_words.specs.Test.{is_some_and};
+ghost use Rattle.yd_ids.specs.Ids.{is_same, is_same_neighbour};
 ghost use Rattle.yd_scan.specs.Scanning.{verdict_on, verdict_by_left};
 ghost use Rattle.yd_scan.specs.Verdicts.{verdict_of};
 
