@@ -1,5 +1,5 @@
 #!/usr/bin/env bash
-# Compares ydoc with the real Yjs, where that can be had: README.md says how.
+# Compares cases and ydoc with the real Yjs, where that can be had: README.md says how.
 set -u
 cd "$(dirname "$0")" || exit 1
 
@@ -23,4 +23,6 @@ if ! has_yjs && ! { install >/dev/null 2>&1 && has_yjs; }; then
   echo 'interop: not run, since the packages nodejs and node-yjs cannot be had here'
   exit 0
 fi
+# The worked cases, and then the sessions; with a word only sessions whose names have it.
+[ $# -gt 0 ] || node cases.js || exit 1
 exec node interop.js "$@"

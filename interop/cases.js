@@ -1,0 +1,95 @@
+'use strict';
+
+// Plays the cases of crates/yd_cases through Yjs itself, where Yjs has the call: `node cases.js`
+// for those that the program plays, `node cases.js FILE..` for others.
+
+const fs = require('node:fs');
+const path = require('node:path');
+const Y = require('yjs');
+const { bytesOf, casesOf, wordsOf } = require('./case_file.js');
+const { APPLIED } = require('./session.js');
+
+const CASES = path.join(__dirname, '..', 'crates', 'yd_cases');
+
+/** The files that yd_cases plays, up to those that have to fail there. */
+function filesOfProgram() {
+  const words = fs.readFileSync(path.join(CASES, 'args'), 'utf8').trim().split('\n');
+  const files = words.slice(0, words.indexOf('--to-fail'));
+  return files.map((name) => path.join(CASES, 'data', name));
+}
+
+/** The text of a root, as Yjs shows it once it took the files in this order. */
+function shown(root, files) {
+  const doc = new Y.Doc({ gc: false });
+  files.forEach(([form, bytes]) => APPLIED[form](doc, bytes));
+  return Buffer.from(`${doc.getText(root)}\n`);
+}
+
+/** An update in a format, as the converters of Yjs write it. */
+function converted(to, [form, bytes]) {
+  const v2 = form === 'v1' ? Y.convertUpdateFormatV1ToV2(bytes) : bytes;
+  if (form === 'v1' && to === 'v2') {
+    return Buffer.from(v2);
+  }
+  const v1 = Y.convertUpdateFormatV2ToV1(v2);
+  return Buffer.from(to === 'v1' ? v1 : Y.convertUpdateFormatV1ToV2(v1));
+}
+
+/** What Yjs makes of words, or null where it has no such call. */
+function answer({ files }, words) {
+  const read = (file) => [file.slice(0, 2), bytesOf(files.get(file.slice(3)))];
+  if (words.some((word) => word.startsWith('log:'))) {
+    return null;
+  }
+  if (words[0] === 'show' && words[1] === '--text') {
+    return shown(words[2], words.slice(3).map(read));
+  }
+  return words[0] === 'convert' ? converted(words[1], read(words[2])) : null;
+}
+
+/** What Yjs makes of words, or what it throws, as bytes. */
+function tried(asked, words) {
+  try {
+    return answer(asked, words);
+  } catch (error) {
+    return Buffer.from(`${error}`);
+  }
+}
+
+/**
+ * Judges one run. What is wanted is what Yjs makes, unless the case says that this is one spelling of
+ * several. A case that says so, and is the same, says too much.
+ */
+function judge(file, asked, words, got) {
+  const wanted = Buffer.concat(asked.out);
+  const isSame = got.equals(wanted);
+  if (isSame !== Boolean(asked.isOwn)) {
+    return true;
+  }
+  console.log(`interop: ${path.basename(file)}: ${asked.name}: ${words.join(' ')}`);
+  console.log(`  wanted: ${isSame ? 'another spelling than that of Yjs' : wanted.toString('hex')}`);
+  console.log(`  Yjs: ${got.toString('hex')} ${got}`);
+  return false;
+}
+
+/** Plays the cases of a file, and gives for each run of which Yjs has the call whether it is right. */
+function play(file) {
+  const cases = casesOf(fs.readFileSync(file, 'utf8'));
+  const asked = cases.filter(({ status, isOfYdocAlone }) => status === 0 && !isOfYdocAlone);
+  return asked.flatMap((each) =>
+    wordsOf(each)
+      .map((words) => [words, tried(each, words)])
+      .filter(([, got]) => got !== null)
+      .map(([words, got]) => judge(file, each, words, got)),
+  );
+}
+
+const given = process.argv.slice(2);
+const judged = (given.length > 0 ? given : filesOfProgram()).flatMap(play);
+const wrong = judged.filter((isRight) => !isRight).length;
+console.log(
+  wrong === 0
+    ? `interop: ok, ${judged.length} runs of cases`
+    : `interop: ${wrong} of ${judged.length} runs of cases differ`,
+);
+process.exitCode = wrong === 0 && judged.length > 0 ? 0 : 1;
