@@ -1,11 +1,9 @@
-//! Each public call of columns once, and columns that are refused, each at its place.
+//! Each public call of columns once.
 //!
-//! What `yd_cols` promises of values and bytes is proved there. Here it is seen to answer where
-//! memory is there: the bytes are worked by hand from lib0's encoders, and the faults are those of
-//! their runs.
+//! What `yd_cols` promises of values and bytes is proved there. Here its calls are seen to answer
+//! where memory is there, and a fault to stay, which no command shows. What columns hold, and where
+//! each kind of fault is, stands in the cases of `yd_cases`.
 #![tactic(auto)]
 
 #[cfg(test)]
-mod reading;
-#[cfg(test)]
-mod writing;
+mod columns;
