@@ -3,6 +3,7 @@ pub mod ContentExpectLemmas
 pub mod DeletesExpectLemmas
 pub mod GroupLemmas
 pub mod InfoLemmas
+pub mod LimitLemmas
 pub mod ListExpectLemmas
 pub mod StructAlikeLemmas
 pub mod StructExpectLemmas

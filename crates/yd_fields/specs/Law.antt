@@ -1,5 +1,5 @@
 -- The laws of fields, whatever the format.
-use Rattle.std.specs.Prelude.{ℕ, List, Option}
+use Rattle.std.specs.Prelude.{ℕ, ◌≤◌, List, Option, Some}
 use Rattle.yd_ids.specs.declared.id.Client.{Client}
 use Rattle.yd_ids.specs.Vector.{IsVector}
 use Rattle.yd_ops.specs.Valid.{IsValidUpdate}
@@ -21,3 +21,7 @@ pub record FieldsComeBack : Type 0 where
 pub record PlacesDoNotMatter : Type 0 where
   pub wanted : (most : Option ℕ) (found : List (Found FieldValue)) (u : UpdateValue) → LeadsTo (update_plan most) found (give u) → Expects (update_plan most) (things_in found) u
   pub leads : (plan : FieldPlan UpdateValue) (found : List (Found FieldValue)) (u : UpdateValue) → Expects plan (things_in found) u → LeadsTo plan found (give u)
+
+-- under a limit, fields lead to no update that has more structs than that in all its blocks together, wherever they stand
+abbrev pub LimitsHold : Type 0
+LimitsHold = (most : ℕ) (found : List (Found FieldValue)) (u : UpdateValue) → LeadsTo (update_plan (Some most)) found (give u) → structs_in u.blocks ≤ most

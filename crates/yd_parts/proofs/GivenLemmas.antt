@@ -1,8 +1,8 @@
 -- What a plan gives, whatever is read, and what is left behind it.
-use Rattle.std.proofs.Common.{◌≡◌, ℕ, zero, suc, Result, Ok, Err, refl, ap, subst}
+use Rattle.std.proofs.Common.{◌≡◌, ℕ, zero, suc, List, [], ◌∷◌, Result, Ok, Err, refl, ap, subst}
 use Rattle.yd_num.proofs.ReadingLemmas.{ok_value}
 use Rattle.yd_parts.specs.Fault.{Fault}
-use Rattle.yd_parts.specs.Plan.{Plan, give, refuse, want, ◌>>=◌, and_then, read_by, repeated}
+use Rattle.yd_parts.specs.Plan.{Found, LeadsTo, Plan, give, refuse, want, ◌>>=◌, and_then, read_by, repeated}
 use Rattle.yd_parts.specs.declared.fault.Spot.{Spot}
 
 -- each value that the plan gives has P, where each value that is read fits its type
@@ -59,3 +59,12 @@ pub gives_only_repeated : {T : Type 0} {V : T → Type 0} {A : Type 0} (Fits : (
 unfolding repeated
 gives_only_repeated Fits P step zero now first each = first
 gives_only_repeated Fits P step (suc count) now first each = gives_only_bind Fits P P (step now) (λ a. repeated step count a) (each now first) (λ a has. gives_only_repeated Fits P step count a has each)
+
+-- whatever is found, what it leads to has P
+pub leads_only : {T : Type 0} {V : T → Type 0} {X : Type 0} (P : X → Type 0) (plan : Plan V X) (found : List (Found V)) (x : X) → GivesOnly (λ t v. Unit {0}) P plan → LeadsTo plan found (give x) → P x
+leads_only P (give y) [] x only leads = let same : y ≡ x = cc in subst P same only
+leads_only P (refuse cause spot) [] x only leads = absurd cc
+leads_only P (want t next) [] x only leads = absurd cc
+leads_only P (give y) (thing ∷ found) x only leads = absurd leads
+leads_only P (refuse cause spot) (thing ∷ found) x only leads = absurd leads
+leads_only P (want t next) (thing ∷ found) x only leads = leads_only P (next leads.0 leads.1) found x (only leads.0 leads.1 tt) leads.3

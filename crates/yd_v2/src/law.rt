@@ -3,7 +3,7 @@
 ghost use Rattle.yd_reading.specs.Files.{FilesAreOne, FilesAreRead};
 ghost use Rattle.yd_v2.specs.Columns.{FilesAreColumns};
 ghost use Rattle.yd_v2.specs.Grammar.{HasFirstFaultV2, StandsForV2};
-ghost use Rattle.yd_v2.specs.Law.{FieldsAreRead, FieldsComeBackV2};
+ghost use Rattle.yd_v2.specs.Law.{FieldsAreRead, FieldsComeBackV2, FilesAreLimited};
 ghost use Rattle.yd_v2.specs.Reading.{v2_reading};
 
 /// The fields of V2 are read as they stand, and fail just where none stands.
@@ -31,4 +31,9 @@ pub fn files_are_one()
 /// each column the values that go there.
 pub fn files_are_columns()
     ensures { FilesAreColumns }
+{}
+
+/// A file in V2 stands for no update of more than 4,194,304 structs, in however many blocks.
+pub fn files_are_limited()
+    ensures { FilesAreLimited }
 {}
