@@ -6,7 +6,8 @@ use Rattle.yd_world.specs.Shelf.{Shelf}
 use Rattle.yd_app.proofs.VerdictLemmas.{read_valid, updates_one}
 use Rattle.yd_app.proofs.WordLemmas.{asks_same}
 use Rattle.yd_app.specs.Law.{RunsConverge, Shows, ShowsConverge}
-use Rattle.yd_app.specs.Output.{output_of, text_line}
+use Rattle.yd_app.specs.Commands.Show.{text_line}
+use Rattle.yd_app.specs.Output.{output_of}
 use Rattle.yd_app.specs.Verdict.{AreRead}
 use Rattle.yd_app.specs.Words.{Command, File, show_text}
 use Rattle.yd_app.specs.Writing.{TakesAll}

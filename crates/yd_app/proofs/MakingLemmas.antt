@@ -12,7 +12,8 @@ use Rattle.yd_app.specs.Asking.{StopsAsking}
 use Rattle.yd_app.specs.Due.{IsDue, output}
 use Rattle.yd_app.specs.Ending.{Delivers, Ends, status_of}
 use Rattle.yd_app.specs.Lines.{FailsAt, refused_line}
-use Rattle.yd_app.specs.Output.{output_of, text_line}
+use Rattle.yd_app.specs.Commands.Show.{text_line}
+use Rattle.yd_app.specs.Output.{output_of}
 use Rattle.yd_app.specs.Reason.{fault_text}
 use Rattle.yd_app.specs.Receiving.{ReceivesAll}
 use Rattle.yd_app.specs.Run.{Count, RoseIn, TakesAllOf, Writes, count_of}

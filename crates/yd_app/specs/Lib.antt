@@ -1,5 +1,5 @@
 pub mod Asking
-pub mod Converted
+pub mod Commands
 pub mod Due
 pub mod Ending
 pub mod Law

@@ -4,7 +4,7 @@ ghost use Rattle.std.specs.Prelude.{◌≡◌, IfOk};
 ghost use Rattle.yd_reading.specs.Answer.{ReadsWhole};
 ghost use Rattle.yd_ops.specs.Valid.{IsValidUpdate};
 ghost use Rattle.yd_ops.specs.View.{update_value};
-ghost use Rattle.yd_app.specs.Converted.{StandsAgain, converted_bytes};
+ghost use Rattle.yd_app.specs.Commands.Convert.{StandsAgain, converted_bytes};
 ghost use Rattle.yd_app.specs.Seen.{format_of};
 ghost use Rattle.yd_app.specs.Verdict.{HasFirstFaultIn, StandsIn};
 

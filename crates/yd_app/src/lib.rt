@@ -12,7 +12,7 @@
 //! ```
 #![tactic(auto)]
 
-mod converting;
+mod commands;
 mod delivery;
 mod ending;
 mod fault;
@@ -25,7 +25,6 @@ mod reading;
 mod receiving;
 mod refusal;
 mod request;
-mod showing;
 mod status;
 mod stop;
 mod word;

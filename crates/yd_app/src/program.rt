@@ -5,11 +5,11 @@ ghost use Rattle.yd_app.specs.Run.{Comes, Completes, CutsOff, HasReason, IsOneOf
 ghost use Rattle.yd_app.specs.Seen.{command_of, files_of};
 ghost use Rattle.yd_app.specs.Stopping.{Makes, MakesAsked, ReadsAsked, ReadsCalmly};
 
-use crate::converting::convert;
+use crate::commands::convert::convert;
+use crate::commands::show::show;
 use crate::delivery::deliver;
 use crate::ending::report;
 use crate::request::{Request, request_of};
-use crate::showing::show;
 use crate::stop::Stop;
 use crate::word::Word;
 use std::alloc::Global;

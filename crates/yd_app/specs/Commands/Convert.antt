@@ -1,5 +1,5 @@
--- What `convert` writes of an update (own).
-use Rattle.std.specs.Prelude.{ℕ, ◌≤◌, List}
+-- What `convert` writes of its one update (own).
+use Rattle.std.specs.Prelude.{ℕ, ◌≤◌, List, [], ◌∷◌}
 use Rattle.yd_fields.specs.UpdateFields.{fields_of_update}
 use Rattle.yd_fields.specs.UpdatePlan.{structs_in}
 use Rattle.yd_ops.specs.Value.{UpdateValue}
@@ -19,3 +19,13 @@ converted_bytes v2 u = v2_file u
 abbrev pub StandsAgain : Format → List ℕ → UpdateValue → Type 0
 StandsAgain v1 bytes u = StandsForV1 bytes u
 StandsAgain v2 bytes u = structs_in u.blocks ≤ most_structs → StandsForV2 bytes u
+
+-- the one update in the format
+abbrev pub converted_output : Format → List UpdateValue → List ℕ
+converted_output form [] = []
+converted_output form (update ∷ more) = converted_bytes form update
+
+-- what is written stands for the update again
+abbrev pub ConvertedStandsAgain : Format → List UpdateValue → Type 0
+ConvertedStandsAgain form [] = Unit {0}
+ConvertedStandsAgain form (update ∷ more) = StandsAgain form (converted_bytes form update) update

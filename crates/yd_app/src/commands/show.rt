@@ -2,7 +2,7 @@
 
 ghost use Rattle.std.specs.Prelude.{◌≡◌, map, IfOk};
 ghost use Rattle.yd_doc.specs.Kept.{received_of};
-ghost use Rattle.yd_app.specs.Output.{root_list, text_line};
+ghost use Rattle.yd_app.specs.Commands.Show.{root_list, text_line};
 ghost use Rattle.yd_app.specs.Run.{count_of};
 ghost use Rattle.yd_app.specs.Seen.{file_of};
 ghost use Rattle.yd_app.specs.Stopping.{Makes, ReadsCalmly};

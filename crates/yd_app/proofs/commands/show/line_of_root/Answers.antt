@@ -2,8 +2,8 @@ use Rattle.std.proofs.Common.{◌∷◌, [], ◌++◌, ap, ◌∙◌}
 use Rattle.yd_meaning.specs.Text.{shown_text}
 use Rattle.yd_units.specs.Text.{text_of}
 use Rattle.yd_doc.specs.Kept.{own_document}
-use Rattle.yd_app.specs.Output.{root_list}
-use Rattle.yd_app.proofs.showing.line_of_root.Goals as goal
+use Rattle.yd_app.specs.Commands.Show.{root_list}
+use Rattle.yd_app.proofs.commands.show.line_of_root.Goals as goal
 
 pub returns : goal.returns
 returns c = c.in_ok-push.ensures.items ∙ ap (λ bytes. bytes ++ 10 ∷ []) (c.in_ok-write_text.ensures.written

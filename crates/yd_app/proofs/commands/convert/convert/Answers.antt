@@ -5,7 +5,7 @@ use Rattle.yd_app.specs.Seen.{file_of, format_of}
 use Rattle.yd_app.specs.Words.{convert}
 use Rattle.yd_app.proofs.MakingLemmas.{made_err, stopped_at}
 use Rattle.yd_app.proofs.ReceivingLemmas.{first_named}
-use Rattle.yd_app.proofs.converting.convert.Goals as goal
+use Rattle.yd_app.proofs.commands.convert.convert.Goals as goal
 
 pub returns-in_err-update-clause-makes : goal.returns-in_err-update-clause-makes
 returns-in_err-update-clause-makes g c =

@@ -2,7 +2,7 @@ use Rattle.std.proofs.Common.{map}
 use Rattle.yd_doc.specs.Kept.{received_of}
 use Rattle.yd_app.specs.Seen.{file_of}
 use Rattle.yd_app.proofs.MakingLemmas.{line_is}
-use Rattle.yd_app.proofs.showing.show.Goals as goal
+use Rattle.yd_app.proofs.commands.show.show.Goals as goal
 
 pub returns-clause-makes : goal.returns-clause-makes
 returns-clause-makes g c =

@@ -1,0 +1,4 @@
+//! The commands, each in a file of its own.
+
+pub mod convert;
+pub mod show;
