@@ -2,7 +2,7 @@
 use Rattle.std.proofs.Common.{◌≡◌, ◌≢◌, ℕ, zero, suc, ◌+◌, ◌<◌, ◌≤◌, inl, inr, List, [], ◌∷◌, Option, Some, None, length, refl, sym, ap, ap₂, subst, arith}
 use Rattle.yd_ids.specs.declared.id.Id.{Id}
 use Rattle.yd_ids.specs.declared.id.Client.{Client}
-use Rattle.yd_origins.specs.Ids.{IsIn}
+use Rattle.yd_words.specs.Member.{IsIn}
 use Rattle.yd_scan.specs.declared.stretch.Stretch.{Stretch}
 use Rattle.yd_scan.specs.Stretches.{units_from, units_of, stretch_at}
 use Rattle.yd_index.specs.declared.line.Entry.{Entry}
