@@ -3,7 +3,7 @@
 ghost use Rattle.std.specs.Prelude.{◌≡◌};
 
 use std::test::Fail;
-use yd_ids::{Client, Id, IdSet, Span, Vector};
+use yd_ids::{Client, Id, IdSet, Span, Vector, is_same, is_smaller};
 
 #[test]
 fn spans_that_touch_are_one(rt: HostRuntime) -> Result<(), Fail> {
@@ -15,10 +15,18 @@ fn spans_that_touch_are_one(rt: HostRuntime) -> Result<(), Fail> {
     set.union(&other)?;
     let set = set.copy()?;
     assert!(rt; set.has(id(1, 4)) && !set.has(id(1, 5)) && set.has(id(2, 7)));
+    assert!(rt; set.has_all(&other) && !other.has_all(&set));
     let mut spans = set.spans();
     assert_eq!(rt; spans.next(), Some(span(1, 0, 5)));
     assert_eq!(rt; spans.next(), Some(span(2, 7, 1)));
     assert_eq!(rt; spans.next(), None);
+    Ok(())
+}
+
+#[test]
+fn clients_come_before_clocks(rt: HostRuntime) -> Result<(), Fail> {
+    assert!(rt; is_smaller(id(1, 4), id(2, 0)) && is_smaller(id(2, 0), id(2, 1)));
+    assert!(rt; is_same(id(1, 4), id(1, 4)) && !is_smaller(id(1, 4), id(1, 4)));
     Ok(())
 }
 

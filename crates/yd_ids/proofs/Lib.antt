@@ -1,3 +1,4 @@
+pub mod CoveringLemmas
 pub mod EntriesLemmas
 pub mod GatheringLemmas
 pub mod IdLemmas

@@ -83,12 +83,12 @@ same_back xs ys h id = ((h id).1, (h id).0)
 pub same_through : (xs ys zs : List Span) → HaveSameIds xs ys → HaveSameIds ys zs → HaveSameIds xs zs
 same_through xs ys zs h k id = ((λ a. (k id).0 ((h id).0 a)), (λ a. (h id).1 ((k id).1 a)))
 
-has_place : (xs : List Span) (id : Id) → HasId xs id → (n : ℕ) × (n < length xs) × ((d : Span) → InSpan (get_or xs n d) id)
+pub has_place : (xs : List Span) (id : Id) → HasId xs id → (n : ℕ) × (n < length xs) × ((d : Span) → InSpan (get_or xs n d) id)
 has_place [] id h = absurd h
 has_place (x ∷ xs) id (inl i) = (0, omega arith, λ d. i)
 has_place (x ∷ xs) id (inr h) = let (n, lt, i) = has_place xs id h in (suc n, omega arith, i)
 
-place_has : (xs : List Span) (n : ℕ) (d : Span) (id : Id) → n < length xs → InSpan (get_or xs n d) id → HasId xs id
+pub place_has : (xs : List Span) (n : ℕ) (d : Span) (id : Id) → n < length xs → InSpan (get_or xs n d) id → HasId xs id
 place_has [] n d id lt i = absurd (omega arith)
 place_has (x ∷ xs) zero d id lt i = inl i
 place_has (x ∷ xs) (suc n) d id lt i = inr (place_has xs n d id (omega arith) i)

@@ -23,6 +23,6 @@ mod uniting;
 mod vector;
 
 pub use fault::NoMemory;
-pub use id::{Client, Id, Span};
+pub use id::{Client, Id, Span, is_same, is_smaller};
 pub use set::{IdSet, SpanIter};
 pub use vector::{Vector, VectorIter};

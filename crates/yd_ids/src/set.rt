@@ -3,6 +3,7 @@
 ghost use Rattle.std.specs.Prelude.{◌≡◌, ◌↔◌, ◌<◌, [], IsTrue, IfOk, OnOk, OnErr};
 ghost use Rattle.std.specs.Iterator.{YieldsFirst, item_count};
 ghost use Rattle.yd_words.specs.Each.{Each};
+ghost use Rattle.yd_ids.specs.Covering.{HasAll};
 ghost use Rattle.yd_ids.specs.Id.{IsId, IsSpan};
 ghost use Rattle.yd_ids.specs.Set.{HasId, HaveSameIds, AreMaximal, AddsSpan, AddsSpans, with_span, union_of, set_of};
 
@@ -10,7 +11,7 @@ use crate::fault::NoMemory;
 use crate::gathering::gathered;
 use crate::id::{Id, Span};
 use crate::inserting::insert_in;
-use crate::looking::has_in;
+use crate::looking::{has_in, has_spans};
 use crate::uniting::united;
 use std::alloc::Global;
 use std::marker::Model;
@@ -89,6 +90,14 @@ impl IdSet {
         ensures maximal { AreMaximal self.now }
     {
         has_in(&self.spans, id)
+    }
+
+    /// Each id of the other is in the set. It takes no memory, and for each span of the other time
+    /// with the logarithm of how many spans there are.
+    pub fn has_all(&self, other: &IdSet) -> bool
+        ensures { IsTrue result ↔ HasAll self.now other.now }
+    {
+        has_spans(&self.spans, &other.spans)
     }
 
     /// The maximal spans, in order of the clients, then of the clocks. It takes no memory.
