@@ -1,17 +1,17 @@
--- Tests of the edit rules on small sets of one list, which the checker computes.
+-- Tests of the edit rules on small sets, which the checker computes.
 use Rattle.std.proofs.Common.{◌≡◌, ◌≢◌, ◌<◌, Bool, true, false, ◌||◌, ◌&&◌, List, [], ◌∷◌, inl, inr, Some, None, Option, nat_lt, nat_eq, not, refl, sym, ap, ◌∙◌, subst, arith, tests, true≢false}
 use Rattle.std.specs.Prelude.{IfSome}
 use Rattle.yd_words.specs.Member.{IsIn}
 use Rattle.yd_words.proofs.OptionLemmas.{some_is}
+use Rattle.yd_words.proofs.TestLemmas.{both_hold}
 use Rattle.yd_ids.specs.declared.id.Id.{Id}
 use Rattle.yd_ids.specs.Ids.{is_same, HasSmallerClock, has_id}
 use Rattle.yd_ids.proofs.IdLemmas.{other_id, differs, has_is}
 use Rattle.yd_origins.specs.Table.{OriginTable, ids_of, left_of, right_of}
 use Rattle.yd_origins.specs.Before.{is_before, IsLeftFirst, IsBetween}
-use Rattle.yd_origins.specs.Operations.{table_of_all, MeetsRules, past_of, of_left, of_right, of_parent, of_clock, of_past}
-use Rattle.yd_origins.specs.Example.{of_one_list}
+use Rattle.yd_origins.specs.Operations.{ListNames, OperationSet, list_of_operation, parent_item, table_of_all, MeetsRules, past_of, of_left, of_right, of_parent, of_clock, of_past}
 
--- ---- tests of the edit rules on a set of one list
+-- ---- tests of the edit rules
 
 -- the neighbour is absent or among the ids
 abbrev is_among : List Id → Option Id → Bool
@@ -23,13 +23,14 @@ abbrev has_clocks : List Id → Id → List Id → Bool
 has_clocks seen x [] = true
 has_clocks seen x (y ∷ ys) = (not (nat_eq y.client.0 x.client.0 && nat_lt y.clock x.clock) || has_id seen y) && has_clocks seen x ys
 
--- the left, the right and the smaller clocks of x are among the ids
-abbrev has_direct : OriginTable → List Id → Id → Bool
-has_direct table seen x = is_among seen (left_of table x) && (is_among seen (right_of table x) && has_clocks seen x (ids_of table))
+-- the left, the right, the parent item and the smaller clocks of x are among the ids
+abbrev has_direct : {Name : Type 0} {names : ListNames Name} → OperationSet names → List Id → Id → Bool
+has_direct set seen x = is_among seen (left_of set.origins x)
+    && (is_among seen (right_of set.origins x) && (is_among seen (parent_item set x) && has_clocks seen x (ids_of set.origins)))
 
-abbrev have_direct : OriginTable → List Id → List Id → Bool
-have_direct table seen [] = true
-have_direct table seen (x ∷ xs) = has_direct table seen x && have_direct table seen xs
+abbrev have_direct : {Name : Type 0} {names : ListNames Name} → OperationSet names → List Id → List Id → Bool
+have_direct set seen [] = true
+have_direct set seen (x ∷ xs) = has_direct set seen x && have_direct set seen xs
 
 -- y is behind a left, and before a right
 abbrev is_behind : OriginTable → Option Id → Id → Bool
@@ -49,16 +50,20 @@ is_left_first table None right = true
 is_left_first table (Some p) None = true
 is_left_first table (Some p) (Some r) = not (is_same p r) && is_before table p r
 
--- the past of x is among the ids, its left is before its right, and none of the ids stands between them
-abbrev pub keeps_rules : OriginTable → List Id → Id → Bool
-keeps_rules table seen x = (has_direct table seen x && have_direct table seen seen)
-    && (is_left_first (table_of_all (of_one_list table)) (left_of table x) (right_of table x) && are_outside (table_of_all (of_one_list table)) (left_of table x)
-    (right_of table x) seen)
+-- the left and the right are of one list, where both are there
+abbrev are_of_one_list : {Name : Type 0} {names : ListNames Name} → OperationSet names → Option Id → Option Id → Bool
+are_of_one_list set None right = true
+are_of_one_list set (Some p) None = true
+are_of_one_list {Name} {names} set (Some p) (Some r) = names.is_same (list_of_operation set p) (list_of_operation set r)
+
+-- the past of x is among the ids, its left is before its right and of one list with it, and none of the ids stands between them
+abbrev pub keeps_rules : {Name : Type 0} {names : ListNames Name} → OperationSet names → List Id → Id → Bool
+keeps_rules set seen x = (has_direct set seen x && have_direct set seen seen)
+    && (are_of_one_list set (left_of set.origins x) (right_of set.origins x)
+    && (is_left_first (table_of_all set) (left_of set.origins x) (right_of set.origins x)
+    && are_outside (table_of_all set) (left_of set.origins x) (right_of set.origins x) seen))
 
 -- ---- what the tests say
-
-both : (a b : Bool) → (a && b) ≡ true → (a ≡ true) × (b ≡ true)
-both a b e = (grind (arith, tests), grind (arith, tests))
 
 among_is : (seen : List Id) (z : Option Id) (y : Id) → is_among seen z ≡ true → z ≡ Some y → IsIn y seen
 among_is seen None y e g = absurd (none_some g)
@@ -71,7 +76,7 @@ clocks_are : (seen : List Id) (x : Id) (ys : List Id) (y : Id) → has_clocks se
 clocks_are seen x [] y e i c = absurd i
 clocks_are seen x (z ∷ zs) y e (inl g) c = has_is seen y (subst (λ v. has_id seen v ≡ true) (sym g)
     (unless (nat_eq z.client.0 x.client.0) (nat_lt z.clock x.clock) (has_id seen z)
-    same_client_number less (both (not (nat_eq z.client.0 x.client.0 && nat_lt z.clock x.clock) || has_id seen z) (has_clocks seen x zs) e).0))
+    same_client_number less (both_hold (not (nat_eq z.client.0 x.client.0 && nat_lt z.clock x.clock) || has_id seen z) (has_clocks seen x zs) e).0))
   where
     numbers : (z.client.0 ≡ x.client.0) × (z.clock < x.clock)
     numbers = subst (λ v. (v.client.0 ≡ x.client.0) × (v.clock < x.clock)) g (ap (λ v. v.0) c.0, c.1)
@@ -84,37 +89,56 @@ clocks_are seen x (z ∷ zs) y e (inl g) c = has_is seen y (subst (λ v. has_id 
 
     unless : (s t u : Bool) → s ≡ true → t ≡ true → (not (s && t) || u) ≡ true → u ≡ true
     unless s t u p q r = grind (arith, tests)
-clocks_are seen x (z ∷ zs) y e (inr i) c = clocks_are seen x zs y (both (not (nat_eq z.client.0 x.client.0 && nat_lt z.clock x.clock) || has_id seen z)
+clocks_are seen x (z ∷ zs) y e (inr i) c = clocks_are seen x zs y (both_hold (not (nat_eq z.client.0 x.client.0 && nat_lt z.clock x.clock) || has_id seen z)
     (has_clocks seen x zs) e).1 i c
 
-direct_at : (table : OriginTable) (seen xs : List Id) (x : Id) → have_direct table seen xs ≡ true → IsIn x xs → has_direct table seen x ≡ true
-direct_at table seen [] x e i = absurd i
-direct_at table seen (z ∷ zs) x e (inl g) = ap (has_direct table seen) g ∙ (both (has_direct table seen z) (have_direct table seen zs) e).0
-direct_at table seen (z ∷ zs) x e (inr i) = direct_at table seen zs x (both (has_direct table seen z) (have_direct table seen zs) e).1 i
+direct_at : {Name : Type 0} {names : ListNames Name} (set : OperationSet names) (seen xs : List Id) (x : Id) → have_direct set seen xs ≡ true → IsIn x xs →
+    has_direct set seen x ≡ true
+direct_at set seen [] x e i = absurd i
+direct_at set seen (z ∷ zs) x e (inl g) = ap (has_direct set seen) g ∙ (both_hold (has_direct set seen z) (have_direct set seen zs) e).0
+direct_at set seen (z ∷ zs) x e (inr i) = direct_at set seen zs x (both_hold (has_direct set seen z) (have_direct set seen zs) e).1 i
+
+-- what the test of x says of each
+module _ {Name : Type 0} {names : ListNames Name} (set : OperationSet names) (seen : List Id) (x : Id) (d : has_direct set seen x ≡ true) where
+  abbrev clocks : Bool
+  clocks = has_clocks seen x (ids_of set.origins)
+
+  abbrev item : Bool
+  item = is_among seen (parent_item set x)
+
+  abbrev right : Bool
+  right = is_among seen (right_of set.origins x)
+
+  abbrev left : Bool
+  left = is_among seen (left_of set.origins x)
+
+  left_seen : left ≡ true
+  left_seen = (both_hold left (right && (item && clocks)) d).0
+
+  right_seen : right ≡ true
+  right_seen = (both_hold right (item && clocks) (both_hold left (right && (item && clocks)) d).1).0
+
+  item_seen : item ≡ true
+  item_seen = (both_hold item clocks (both_hold right (item && clocks) (both_hold left (right && (item && clocks)) d).1).1).0
+
+  clocks_seen : clocks ≡ true
+  clocks_seen = (both_hold item clocks (both_hold right (item && clocks) (both_hold left (right && (item && clocks)) d).1).1).1
 
 -- the past of an operation with this test is among the ids
-past_seen : (table : OriginTable) (seen : List Id) → have_direct table seen seen ≡ true → {x y : Id} → past_of (of_one_list table) x y →
-    has_direct table seen x ≡ true → IsIn y seen
-past_seen table seen all (of_left {x = x} {y = y} e) d = among_is seen (left_of table x) y
-    (both (is_among seen (left_of table x)) (is_among seen (right_of table x) && has_clocks seen x (ids_of table)) d).0 e
-past_seen table seen all (of_right {x = x} {y = y} e) d = among_is seen (right_of table x) y
-    (both (is_among seen (right_of table x)) (has_clocks seen x (ids_of table))
-    (both (is_among seen (left_of table x)) (is_among seen (right_of table x) && has_clocks seen x (ids_of table)) d).1).0 e
-past_seen table seen all (of_parent {y = y} e) d = absurd (none_some e)
-  where
-    none_some : ◌≡◌ {A = Option Id} None (Some y) → ⊥
-    none_some f = cc
-past_seen table seen all (of_clock {x = x} {y = y} i c) d = clocks_are seen x (ids_of table) y
-    (both (is_among seen (right_of table x)) (has_clocks seen x (ids_of table))
-    (both (is_among seen (left_of table x)) (is_among seen (right_of table x) && has_clocks seen x (ids_of table)) d).1).1 i c
-past_seen table seen all (of_past {y = z} r s) d = past_seen table seen all s (direct_at table seen seen z all (past_seen table seen all r d))
+past_seen : {Name : Type 0} {names : ListNames Name} (set : OperationSet names) (seen : List Id) → have_direct set seen seen ≡ true → {x y : Id} → past_of set x y →
+    has_direct set seen x ≡ true → IsIn y seen
+past_seen set seen all (of_left {x = x} {y = y} e) d = among_is seen (left_of set.origins x) y (left_seen set seen x d) e
+past_seen set seen all (of_right {x = x} {y = y} e) d = among_is seen (right_of set.origins x) y (right_seen set seen x d) e
+past_seen set seen all (of_parent {x = x} {y = y} e) d = among_is seen (parent_item set x) y (item_seen set seen x d) e
+past_seen set seen all (of_clock {x = x} {y = y} i c) d = clocks_are seen x (ids_of set.origins) y (clocks_seen set seen x d) i c
+past_seen set seen all (of_past {y = z} r s) d = past_seen set seen all s (direct_at set seen seen z all (past_seen set seen all r d))
 
 left_first_is : (table : OriginTable) (z w : Option Id) → is_left_first table z w ≡ true → IsLeftFirst (is_before table) z w
 left_first_is table None w e = tt
 left_first_is table (Some p) None e = tt
 left_first_is table (Some p) (Some r) e = (
-  differs p r (is_false (is_same p r) (both (not (is_same p r)) (is_before table p r) e).0),
-  (both (not (is_same p r)) (is_before table p r) e).1,
+  differs p r (is_false (is_same p r) (both_hold (not (is_same p r)) (is_before table p r) e).0),
+  (both_hold (not (is_same p r)) (is_before table p r) e).1,
 )
   where
     is_false : (t : Bool) → not t ≡ true → t ≡ false
@@ -135,31 +159,55 @@ outside_at : (table : OriginTable) (z w : Option Id) (ys : List Id) (y : Id) →
     ⊥
 outside_at table z w [] y e i between = i
 outside_at table z w (x ∷ xs) y e (inl g) between = true≢false (sym (between_passes table z w x (subst (λ v. IsBetween (is_before table) z w v) g between))
-    ∙ is_false (is_behind table z x && is_in_front table w x) (both (not (is_behind table z x && is_in_front table w x)) (are_outside table z w xs) e).0)
+    ∙ is_false (is_behind table z x && is_in_front table w x) (both_hold (not (is_behind table z x && is_in_front table w x)) (are_outside table z w xs) e).0)
   where
     is_false : (t : Bool) → not t ≡ true → t ≡ false
     is_false t f = grind (arith, tests)
 outside_at table z w (x ∷ xs) y e (inr i) between = outside_at table z w xs y
-    (both (not (is_behind table z x && is_in_front table w x)) (are_outside table z w xs) e).1 i between
+    (both_hold (not (is_behind table z x && is_in_front table w x)) (are_outside table z w xs) e).1 i between
+
+one_list_is : {Name : Type 0} {names : ListNames Name} (set : OperationSet names) (z w : Option Id) (p r : Id) → are_of_one_list set z w ≡ true →
+    z ≡ Some p → w ≡ Some r → list_of_operation set p ≡ list_of_operation set r
+one_list_is set None w p r e f g = absurd (none_some f)
+  where
+    none_some : ◌≡◌ {A = Option Id} None (Some p) → ⊥
+    none_some h = cc
+one_list_is set (Some q) None p r e f g = absurd (none_some g)
+  where
+    none_some : ◌≡◌ {A = Option Id} None (Some r) → ⊥
+    none_some h = cc
+one_list_is {Name} {names} set (Some q) (Some s) p r e f g = ap (list_of_operation set) (sym (some_is q p f))
+    ∙ (names.decides (list_of_operation set q) (list_of_operation set s)).0 e
+    ∙ ap (list_of_operation set) (some_is s r g)
 
 -- ---- lemmas for callers
 
-pub meets_rules : (table : OriginTable) (seen : List Id) (x : Id) → keeps_rules table seen x ≡ true → MeetsRules (of_one_list table) x
-meets_rules table seen x e = record {
-  one_list = λ p r f g. refl;
-  left_first = left_first_is all (left_of table x) (right_of table x) outer.0;
-  past_outside = λ y i past same between. outside_at all (left_of table x) (right_of table x) seen y outer.1 (past_seen table seen direct.1 past direct.0) between;
-}
-  where
-    all : OriginTable
-    all = table_of_all (of_one_list table)
+module _ {Name : Type 0} {names : ListNames Name} (set : OperationSet names) (seen : List Id) (x : Id) (e : keeps_rules set seen x ≡ true) where
+  abbrev all : OriginTable
+  all = table_of_all set
 
-    halves : ((has_direct table seen x && have_direct table seen seen) ≡ true) × ((is_left_first all (left_of table x) (right_of table x) && are_outside all (left_of table x) (right_of table x) seen) ≡ true)
-    halves = both (has_direct table seen x && have_direct table seen seen)
-        (is_left_first all (left_of table x) (right_of table x) && are_outside all (left_of table x) (right_of table x) seen) e
+  abbrev z : Option Id
+  z = left_of set.origins x
 
-    direct : (has_direct table seen x ≡ true) × (have_direct table seen seen ≡ true)
-    direct = both (has_direct table seen x) (have_direct table seen seen) halves.0
+  abbrev w : Option Id
+  w = right_of set.origins x
 
-    outer : (is_left_first all (left_of table x) (right_of table x) ≡ true) × (are_outside all (left_of table x) (right_of table x) seen ≡ true)
-    outer = both (is_left_first all (left_of table x) (right_of table x)) (are_outside all (left_of table x) (right_of table x) seen) halves.1
+  abbrev inner : Bool
+  inner = is_left_first all z w && are_outside all z w seen
+
+  direct : (has_direct set seen x ≡ true) × (have_direct set seen seen ≡ true)
+  direct = both_hold (has_direct set seen x) (have_direct set seen seen)
+      (both_hold (has_direct set seen x && have_direct set seen seen) (are_of_one_list set z w && inner) e).0
+
+  lists : (are_of_one_list set z w ≡ true) × (inner ≡ true)
+  lists = both_hold (are_of_one_list set z w) inner (both_hold (has_direct set seen x && have_direct set seen seen) (are_of_one_list set z w && inner) e).1
+
+  outer : (is_left_first all z w ≡ true) × (are_outside all z w seen ≡ true)
+  outer = both_hold (is_left_first all z w) (are_outside all z w seen) lists.1
+
+  pub meets_rules : MeetsRules set x
+  meets_rules = record {
+    one_list = λ p r f g. one_list_is set z w p r lists.0 f g;
+    left_first = left_first_is all z w outer.0;
+    past_outside = λ y i past same between. outside_at all z w seen y outer.1 (past_seen set seen direct.1 past direct.0) between;
+  }

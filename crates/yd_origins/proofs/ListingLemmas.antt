@@ -6,7 +6,7 @@ use Rattle.yd_words.proofs.TestLemmas.{nat_lt_says}
 use Rattle.yd_ids.specs.declared.id.Id.{Id}
 use Rattle.yd_ids.specs.Ids.{is_same}
 use Rattle.yd_ids.proofs.IdLemmas.{same_says, same_itself}
-use Rattle.yd_origins.proofs.PlacedLemmas.{IsListed}
+use Rattle.yd_origins.proofs.PlacedLemmas.{IsListed, listed_back}
 
 module _ (height : Id → ℕ) where
   -- puts an id in front of those that are no higher
@@ -152,15 +152,4 @@ rank_left left right (o ∷ rows) g x (inr i) = go (left x) (rank_left left righ
 
 pub rank_right : (left right : Id → Option Id) (l : List Id) → IsListed left right l → (x : Id) → IsIn x l →
     IfSome (right x) (λ y. IsIn y l × (rank l y < rank l x))
-rank_right left right [] g x i = absurd i
-rank_right left right (o ∷ rows) g x (inl e) = subst (λ v. IfSome (right v) (λ y. IsIn y (o ∷ rows) × (rank (o ∷ rows) y < rank (o ∷ rows) x))) (sym e) (go (right o) g.2)
-  where
-    go : (z : Option Id) → IfSome z (λ y. IsIn y rows) → IfSome z (λ y. IsIn y (o ∷ rows) × (rank (o ∷ rows) y < rank (o ∷ rows) x))
-    go None w = tt
-    go (Some y) w = (inr w, omega (arith, rank_first o rows x e, rank_other o rows y g.0 w, rank_below rows y w))
-rank_right left right (o ∷ rows) g x (inr i) = go (right x) (rank_right left right rows g.3 x i)
-  where
-    go : (z : Option Id) → IfSome z (λ y. IsIn y rows × (rank rows y < rank rows x)) →
-        IfSome z (λ y. IsIn y (o ∷ rows) × (rank (o ∷ rows) y < rank (o ∷ rows) x))
-    go None w = tt
-    go (Some y) w = (inr w.0, omega (arith, w.1, rank_other o rows x g.0 i, rank_other o rows y g.0 w.0))
+rank_right left right l g = rank_left right left l (listed_back left right l g)

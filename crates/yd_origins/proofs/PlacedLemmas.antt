@@ -141,10 +141,13 @@ listed_left left right [] g x i = absurd i
 listed_left left right (o ∷ rows) g x (inl e) = rw e (if_some_map (λ y. IsIn y rows) (λ y. IsIn y (o ∷ rows)) (left o) (λ y j. inr j) g.1)
 listed_left left right (o ∷ rows) g x (inr i) = if_some_map (λ y. IsIn y rows) (λ y. IsIn y (o ∷ rows)) (left x) (λ y j. inr j) (listed_left left right rows g.3 x i)
 
+-- lefts and rights may change their parts
+pub listed_back : (left right : Id → Option Id) (rows : List Id) → IsListed left right rows → IsListed right left rows
+listed_back left right [] g = tt
+listed_back left right (o ∷ rows) g = (g.0, g.2, g.1, listed_back left right rows g.3)
+
 listed_right : (left right : Id → Option Id) (rows : List Id) → IsListed left right rows → (x : Id) → IsIn x rows → IfSome (right x) (λ y. IsIn y rows)
-listed_right left right [] g x i = absurd i
-listed_right left right (o ∷ rows) g x (inl e) = rw e (if_some_map (λ y. IsIn y rows) (λ y. IsIn y (o ∷ rows)) (right o) (λ y j. inr j) g.2)
-listed_right left right (o ∷ rows) g x (inr i) = if_some_map (λ y. IsIn y rows) (λ y. IsIn y (o ∷ rows)) (right x) (λ y j. inr j) (listed_right left right rows g.3 x i)
+listed_right left right rows g = listed_left right left rows (listed_back left right rows g)
 
 -- a left is before a right in the line, where `IsLeftFirst` says so
 fits_at : (before : Id → Id → Bool) (P : Id → Type 0) (l : Line before P) (z w : Option Id) → IfSome z P → IfSome w P → IsLeftFirst before z w →

@@ -7,10 +7,10 @@ use Rattle.yd_origins.proofs.example.other_scans.Goals as goal
 pub returns : goal.returns
 returns c = record {
   honest = λ x i. elim i [
-    | inl e ↦ subst (λ v. MeetsRules (of_one_list unit_with_follower) v) (sym e) (meets_rules unit_with_follower [] (id_of 3 0) refl)
-    | inr (inl e) ↦ subst (λ v. MeetsRules (of_one_list unit_with_follower) v) (sym e) (meets_rules unit_with_follower (id_of 3 0 ∷ []) (id_of 2 0) refl)
-    | inr (inr (inl e)) ↦ subst (λ v. MeetsRules (of_one_list unit_with_follower) v) (sym e) (meets_rules unit_with_follower (id_of 2 0 ∷ id_of 3 0 ∷ []) (id_of 2 1) refl)
-    | inr (inr (inr (inl e))) ↦ subst (λ v. MeetsRules (of_one_list unit_with_follower) v) (sym e) (meets_rules unit_with_follower [] (id_of 1 0) refl)
+    | inl e ↦ subst (λ v. MeetsRules (of_one_list unit_with_follower) v) (sym e) (meets_rules (of_one_list unit_with_follower) [] (id_of 3 0) refl)
+    | inr (inl e) ↦ subst (λ v. MeetsRules (of_one_list unit_with_follower) v) (sym e) (meets_rules (of_one_list unit_with_follower) (id_of 3 0 ∷ []) (id_of 2 0) refl)
+    | inr (inr (inl e)) ↦ subst (λ v. MeetsRules (of_one_list unit_with_follower) v) (sym e) (meets_rules (of_one_list unit_with_follower) (id_of 2 0 ∷ id_of 3 0 ∷ []) (id_of 2 1) refl)
+    | inr (inr (inr (inl e))) ↦ subst (λ v. MeetsRules (of_one_list unit_with_follower) v) (sym e) (meets_rules (of_one_list unit_with_follower) [] (id_of 1 0) refl)
     | inr (inr (inr (inr j))) ↦ absurd j
   ];
   stops_early = refl;

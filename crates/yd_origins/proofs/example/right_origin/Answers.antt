@@ -7,9 +7,9 @@ use Rattle.yd_origins.proofs.example.right_origin.Goals as goal
 pub returns : goal.returns
 returns c = record {
   honest = λ x i. elim i [
-    | inl e ↦ subst (λ v. MeetsRules (of_one_list three_clients) v) (sym e) (meets_rules three_clients [] (id_of 0 0) refl)
-    | inr (inl e) ↦ subst (λ v. MeetsRules (of_one_list three_clients) v) (sym e) (meets_rules three_clients [] (id_of 1 0) refl)
-    | inr (inr (inl e)) ↦ subst (λ v. MeetsRules (of_one_list three_clients) v) (sym e) (meets_rules three_clients (id_of 0 0 ∷ []) (id_of 3 0) refl)
+    | inl e ↦ subst (λ v. MeetsRules (of_one_list three_clients) v) (sym e) (meets_rules (of_one_list three_clients) [] (id_of 0 0) refl)
+    | inr (inl e) ↦ subst (λ v. MeetsRules (of_one_list three_clients) v) (sym e) (meets_rules (of_one_list three_clients) [] (id_of 1 0) refl)
+    | inr (inr (inl e)) ↦ subst (λ v. MeetsRules (of_one_list three_clients) v) (sym e) (meets_rules (of_one_list three_clients) (id_of 0 0 ∷ []) (id_of 3 0) refl)
     | inr (inr (inr j)) ↦ absurd j
   ];
   order = refl;

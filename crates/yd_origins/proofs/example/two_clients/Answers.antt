@@ -7,8 +7,8 @@ use Rattle.yd_origins.proofs.example.two_clients.Goals as goal
 pub returns : goal.returns
 returns c = record {
   honest = λ x i. elim i [
-    | inl e ↦ subst (λ v. MeetsRules (of_one_list two_clients) v) (sym e) (meets_rules two_clients [] (id_of 1 0) refl)
-    | inr (inl e) ↦ subst (λ v. MeetsRules (of_one_list two_clients) v) (sym e) (meets_rules two_clients [] (id_of 2 0) refl)
+    | inl e ↦ subst (λ v. MeetsRules (of_one_list two_clients) v) (sym e) (meets_rules (of_one_list two_clients) [] (id_of 1 0) refl)
+    | inr (inl e) ↦ subst (λ v. MeetsRules (of_one_list two_clients) v) (sym e) (meets_rules (of_one_list two_clients) [] (id_of 2 0) refl)
     | inr (inr j) ↦ absurd j
   ];
   order = refl;
