@@ -1,4 +1,4 @@
--- The updates of the small documents are valid.
+-- The updates of the small documents are valid, and what is held of two of them.
 use Rattle.std.proofs.Common.{ℕ, zero, suc, ◌≡◌, ◌<◌, ◌^◌, [], ◌∷◌, Option, None, refl, arith}
 use Rattle.std.specs.Prelude.{IfSome, slice_index}
 use Rattle.yd_ids.specs.declared.id.Id.{Id}
@@ -7,7 +7,12 @@ use Rattle.yd_ops.specs.declared.lists.List.{List as DocList}
 use Rattle.yd_units.specs.Half.{AreUnits, IsWhole}
 use Rattle.yd_ops.specs.Value.{ContentValue, len_of}
 use Rattle.yd_ops.specs.Valid.{CarriesList, IsValidContent, IsValidUpdate}
-use Rattle.yd_meaning.specs.Example.{first_id, first_update}
+use Rattle.yd_origins.specs.Operations.{OperationSet}
+use Rattle.yd_meaning.specs.ListNames.{list_names}
+use Rattle.yd_meaning.specs.Received.{received_set}
+use Rattle.yd_meaning.specs.Held.{held_set}
+use Rattle.yd_meaning.specs.Order.{operation_set}
+use Rattle.yd_meaning.specs.Example.{first_id, first_update, origin_put, follower_put}
 
 -- ---- lemmas for callers
 
@@ -42,3 +47,7 @@ first_valid client left list content lt is carries one valid = record {
   );
   deletes = tt;
 }
+
+-- the held operations of two updates, as the laws of the order see them
+abbrev pub followed : OperationSet list_names
+followed = operation_set (held_set (received_set (origin_put ∷ follower_put ∷ [])).operations)

@@ -5,6 +5,7 @@ pub mod ExampleLemmas
 pub mod HeldLemmas
 pub mod HeldListLemmas
 pub mod HeldTableLemmas
+pub mod HonestLemmas
 pub mod NeedLemmas
 pub mod NestingLemmas
 pub mod OneOfLemmas

@@ -6,9 +6,12 @@ use Rattle.yd_words.specs.Test.{is_some_and}
 use Rattle.yd_ids.specs.declared.id.Client.{Client}
 use Rattle.yd_ids.specs.declared.id.Id.{Id}
 use Rattle.yd_ids.specs.Set.{HasId, AreMaximal}
-use Rattle.yd_origins.specs.Table.{IsTable}
+use Rattle.yd_origins.specs.Table.{left_of, right_of, IsTable}
+use Rattle.yd_origins.specs.Before.{is_before, IsInOrder, Fits}
+use Rattle.yd_origins.specs.Law.{IsStrict}
+use Rattle.yd_origins.specs.Growing.{GrowsByScan, IsClosed}
 use Rattle.yd_origins.specs.Deleted.{IsDeleted}
-use Rattle.yd_origins.specs.Operations.{list_by_origins}
+use Rattle.yd_origins.specs.Operations.{list_by_origins, table_of_list}
 use Rattle.yd_ops.specs.declared.lists.List.{List as DocList}
 use Rattle.yd_ops.specs.Operation.{Operation}
 use Rattle.yd_ops.specs.Valid.{IsValidUpdate}
@@ -17,7 +20,7 @@ use Rattle.yd_meaning.specs.Names.{item_of_list}
 use Rattle.yd_meaning.specs.Pairs.{is_high, is_low, is_text_and, are_partners}
 use Rattle.yd_meaning.specs.Received.{has_operation, Agree, IsWritten, Received, nothing_received, received_after, received_set, operations_of_all, DeleteId, HaveSameContents}
 use Rattle.yd_meaning.specs.Held.{needs, held_set, held_clock}
-use Rattle.yd_meaning.specs.Order.{rows_of, list_or_root, list_of, order_of, operation_set}
+use Rattle.yd_meaning.specs.Order.{rows_of, list_or_root, list_of, order_of, operation_set, AreHonest}
 use Rattle.yd_meaning.specs.Deleted.{is_overwritten, is_deleted, is_in_delete_set}
 use Rattle.yd_meaning.specs.Document.{Document, document_with, IsDocumentOf}
 use Rattle.yd_meaning.specs.Text.{shown_text}
@@ -96,6 +99,38 @@ pub record HasWholeLists (held : List Operation) : Type 0 where
 -- of a list with operations is held
 abbrev pub ListsAreWhole : Type 0
 ListsAreWhole = (received : List Operation) → IsWritten received → HasWholeLists (held_set received)
+
+-- ---- honest sets
+
+-- the held operations of one list are a table that fits, with their origins as they are
+pub record IsHonestList (held : List Operation) (list : DocList) : Type 0 where
+  pub is_table : IsTable (table_of_list (operation_set held) list)
+  pub fits : Fits (table_of_list (operation_set held) list)
+  pub lefts : (o : Operation) → IsIn o held → list_of held o.id ≡ list → left_of (table_of_list (operation_set held) list) o.id ≡ o.left_origin
+  pub rights : (o : Operation) → IsIn o held → list_of held o.id ≡ list → right_of (table_of_list (operation_set held) list) o.id ≡ o.right_origin
+
+-- so is each list of what is held, where this keeps the edit rules
+abbrev pub HonestListsFit : Type 0
+HonestListsFit = (received : List Operation) → IsWritten received → AreHonest (held_set received) → (list : DocList) → IsHonestList (held_set received) list
+
+-- each list stands in the order of its table, which is strict, and in which each operation stands between its origins
+pub record HasStrictOrder (held : List Operation) (list : DocList) : Type 0 where
+  pub strict : IsStrict (table_of_list (operation_set held) list)
+  pub in_order : IsInOrder (is_before (table_of_list (operation_set held) list)) (order_of held list)
+
+-- so does each list of what is held, where this keeps the edit rules
+abbrev pub HonestOrderIsStrict : Type 0
+HonestOrderIsStrict = (received : List Operation) → IsWritten received → AreHonest (held_set received) → (list : DocList) → HasStrictOrder (held_set received) list
+
+-- the placement of what is held, where this keeps the edit rules: a closed part of a list that is in order stays so as it
+-- grows by integration scans, in any arrangement, and once it has all operations of the list it is the list
+abbrev pub HonestListsGrowInOrder : Type 0
+HonestListsGrowInOrder = (received : List Operation) → IsWritten received → AreHonest (held_set received) → (list : DocList) (old new : List Id) →
+    IsClosed (table_of_list (operation_set (held_set received)) list) old →
+    IsInOrder (is_before (table_of_list (operation_set (held_set received)) list)) old →
+    GrowsByScan (table_of_list (operation_set (held_set received)) list) old new →
+    IsInOrder (is_before (table_of_list (operation_set (held_set received)) list)) new
+    × (((x : Id) → has_operation (held_set received) x ≡ true → list_of (held_set received) x ≡ list → IsIn x new) → new ≡ order_of (held_set received) list)
 
 -- ---- what is deleted
 

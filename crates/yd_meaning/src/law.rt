@@ -1,6 +1,6 @@
 //! The laws of what updates mean, each the contract of an empty function.
 
-ghost use Rattle.yd_meaning.specs.Law.{ReceivedKeepsPairs, ReceivedIsAll, ReceivedIsOne, RepeatsChangeNothing, HeldIsLeast, VectorCounts, HeldIsTable, ListsFollowOrigins, ListsAreWhole, DeletedFollowsItems, DocumentsConverge};
+ghost use Rattle.yd_meaning.specs.Law.{ReceivedKeepsPairs, ReceivedIsAll, ReceivedIsOne, RepeatsChangeNothing, HeldIsLeast, VectorCounts, HeldIsTable, ListsFollowOrigins, ListsAreWhole, HonestListsFit, HonestOrderIsStrict, HonestListsGrowInOrder, DeletedFollowsItems, DocumentsConverge};
 
 /// What is received of valid updates has each id once, in the order of writing, and whole pairs.
 pub fn received_keeps_pairs()
@@ -45,6 +45,21 @@ pub fn lists_follow_origins()
 /// A list has each held operation that is of it, once and no other, and the document has them all.
 pub fn lists_are_whole()
     ensures { ListsAreWhole }
+{}
+
+/// Where what is held keeps the edit rules, each of its lists is a table that fits, with the origins as they are.
+pub fn honest_lists_fit()
+    ensures { HonestListsFit }
+{}
+
+/// Where what is held keeps the edit rules, the order of each list is strict, and each operation stands between its origins.
+pub fn honest_order_is_strict()
+    ensures { HonestOrderIsStrict }
+{}
+
+/// Where what is held keeps the edit rules, integration scans give each list, in whichever arrangement its operations come.
+pub fn honest_lists_grow_in_order()
+    ensures { HonestListsGrowInOrder }
 {}
 
 /// A held operation is deleted by name, by its key, or by the item of its list.
