@@ -6,11 +6,11 @@ use Rattle.yd_ids.specs.declared.id.Id.{Id}
 use Rattle.yd_origins.specs.Before.{is_before}
 use Rattle.yd_origins.specs.Sorted.{count_before}
 use Rattle.yd_origins.specs.Table.{ids_of}
-use Rattle.yd_order.specs.declared.counting.Place.{Place}
+use Rattle.yd_order.specs.declared.counting.Rank.{Rank}
 use Rattle.yd_order.specs.declared.linking.LinkedRow.{LinkedRow}
 use Rattle.yd_order.specs.Linking.{id_at, unlinked, table_of_linked}
 use Rattle.yd_order.specs.Filling.{is_before_at}
-use Rattle.yd_order.specs.Counting.{count_at, place_in, places_of}
+use Rattle.yd_order.specs.Counting.{count_at, rank_in, ranks_of}
 use Rattle.yd_order.proofs.LinkedLemmas.{id_read, length-ids}
 
 id_in : (all rows : List LinkedRow) (at : ℕ) (d : Id) → at < length rows → get_or (ids_of (map (unlinked all) rows)) at d ≡ id_at rows at
@@ -43,29 +43,29 @@ unfolding count_from
 count_done rows at from le = ap (λ (xs : List Id). count_before (is_before (table_of_linked rows)) xs (id_at rows at))
     (drop_all from (ids_of (table_of_linked rows)) (omega (arith, length-ids rows)))
 
--- ---- all places
+-- ---- all ranks
 
--- the places of the rows from one on
-unfoldable pub places_from : List LinkedRow → ℕ → List Place
-places_from rows from = map (place_in (table_of_linked rows)) (drop from (ids_of (table_of_linked rows)))
+-- the ranks of the rows from one on
+unfoldable pub ranks_from : List LinkedRow → ℕ → List Rank
+ranks_from rows from = map (rank_in (table_of_linked rows)) (drop from (ids_of (table_of_linked rows)))
 
-pub places_from_start : (rows : List LinkedRow) → places_from rows 0 ≡ places_of rows
-unfolding places_from places_of
-places_from_start rows = refl
+pub ranks_from_start : (rows : List LinkedRow) → ranks_from rows 0 ≡ ranks_of rows
+unfolding ranks_from ranks_of
+ranks_from_start rows = refl
 
-pub places_more : (rows : List LinkedRow) (at : ℕ) → at < length rows → places_from rows at ≡ record { count = count_at rows at; id = id_at rows at } ∷ places_from rows (at + 1)
-unfolding places_from count_at
-places_more rows at lt = ap (map (place_in (table_of_linked rows))) (ids_more rows at lt)
+pub ranks_more : (rows : List LinkedRow) (at : ℕ) → at < length rows → ranks_from rows at ≡ record { count = count_at rows at; id = id_at rows at } ∷ ranks_from rows (at + 1)
+unfolding ranks_from count_at
+ranks_more rows at lt = ap (map (rank_in (table_of_linked rows))) (ids_more rows at lt)
 
--- a pushed place is the next one
-pub place_pushed : (rows : List LinkedRow) (places : List Place) (at count : ℕ) (d : LinkedRow) → at < length rows → count ≡ count_at rows at →
-    (places ++ record { count = count; id = (get_or rows at d).id } ∷ []) ++ places_from rows (at + 1) ≡ places ++ places_from rows at
-place_pushed rows places at count d lt e = append_assoc places (record { count = count; id = (get_or rows at d).id } ∷ []) (places_from rows (at + 1))
-    ∙ ap (λ (rest : List Place). places ++ rest) (place ∙ sym (places_more rows at lt))
+-- a pushed rank is the next one
+pub rank_pushed : (rows : List LinkedRow) (ranks : List Rank) (at count : ℕ) (d : LinkedRow) → at < length rows → count ≡ count_at rows at →
+    (ranks ++ record { count = count; id = (get_or rows at d).id } ∷ []) ++ ranks_from rows (at + 1) ≡ ranks ++ ranks_from rows at
+rank_pushed rows ranks at count d lt e = append_assoc ranks (record { count = count; id = (get_or rows at d).id } ∷ []) (ranks_from rows (at + 1))
+    ∙ ap (λ (rest : List Rank). ranks ++ rest) (rank ∙ sym (ranks_more rows at lt))
   where
-    place : record { count = count; id = (get_or rows at d).id } ∷ places_from rows (at + 1) ≡ record { count = count_at rows at; id = id_at rows at } ∷ places_from rows (at + 1)
-    place = λ i. record { count = e i; id = id_read rows at d lt i } ∷ places_from rows (at + 1)
+    rank : record { count = count; id = (get_or rows at d).id } ∷ ranks_from rows (at + 1) ≡ record { count = count_at rows at; id = id_at rows at } ∷ ranks_from rows (at + 1)
+    rank = λ i. record { count = e i; id = id_read rows at d lt i } ∷ ranks_from rows (at + 1)
 
-pub places_done : (rows : List LinkedRow) (at : ℕ) → length rows ≤ at → places_from rows at ≡ []
-unfolding places_from
-places_done rows at le = ap (map (place_in (table_of_linked rows))) (drop_all at (ids_of (table_of_linked rows)) (omega (arith, length-ids rows)))
+pub ranks_done : (rows : List LinkedRow) (at : ℕ) → length rows ≤ at → ranks_from rows at ≡ []
+unfolding ranks_from
+ranks_done rows at le = ap (map (rank_in (table_of_linked rows))) (drop_all at (ids_of (table_of_linked rows)) (omega (arith, length-ids rows)))

@@ -12,20 +12,20 @@ use Rattle.yd_order.proofs.LinkedLemmas.{left_read}
 module _ (rows : List LinkedRow) (order seats : List ℕ) where
   -- ---- finding heads
 
-  -- the numbers so far have their heads, and the last of these is known
-  pub record HaveHeads (heads : List ℕ) (number head : ℕ) : Type 0 where
-    pub size : length heads ≡ number
-    pub each : (j : ℕ) → j < number → IsHead rows order seats j (slice_index heads j)
-    pub up_to : head ≤ number
+  -- the positions so far have their heads, and the last of these is known
+  pub record HaveHeads (heads : List ℕ) (position head : ℕ) : Type 0 where
+    pub size : length heads ≡ position
+    pub each : (j : ℕ) → j < position → IsHead rows order seats j (slice_index heads j)
+    pub up_to : head ≤ position
     pub apart : (head ≡ 0) ⊎ (is_direct rows order seats head ≡ false)
-    pub direct : (k : ℕ) → head < k → k < number → is_direct rows order seats k ≡ true
+    pub direct : (k : ℕ) → head < k → k < position → is_direct rows order seats k ≡ true
 
-  heads_pushed : (heads : List ℕ) (number head new : ℕ) → HaveHeads heads number head → IsHead rows order seats number new → HaveHeads (heads ++ new ∷ []) (number + 1) new
-  heads_pushed heads number head new known this = record {
+  heads_pushed : (heads : List ℕ) (position head new : ℕ) → HaveHeads heads position head → IsHead rows order seats position new → HaveHeads (heads ++ new ∷ []) (position + 1) new
+  heads_pushed heads position head new known this = record {
     size = omega (arith, length-append heads (new ∷ []), known.size);
-    each = λ j lt. elim (cases_eq j number) [
+    each = λ j lt. elim (cases_eq j position) [
       | inl e ↦ subst (λ (k : ℕ). IsHead rows order seats k (slice_index (heads ++ new ∷ []) k)) (sym e)
-          (subst (IsHead rows order seats number) (sym (get_or_push heads new 0 number known.size)) this)
+          (subst (IsHead rows order seats position) (sym (get_or_push heads new 0 position known.size)) this)
       | inr ne ↦ subst (IsHead rows order seats j) (sym (get_or_append_left heads (new ∷ []) 0 j (omega (arith, known.size, ne, lt)))) (known.each j (omega (arith, ne, lt)))
     ];
     up_to = omega (arith, this.up_to);
@@ -34,21 +34,21 @@ module _ (rows : List LinkedRow) (order seats : List ℕ) where
   }
 
   -- a row that does not stand directly behind its left is a head
-  pub head_found : (heads longer : List ℕ) (number head new : ℕ) → HaveHeads heads number head → new ≡ number → is_direct rows order seats number ≡ false → longer ≡ heads ++ new ∷ [] →
-      HaveHeads longer (number + 1) new
-  head_found heads longer number head new known e apart is = subst (λ (xs : List ℕ). HaveHeads xs (number + 1) new) (sym is) (heads_pushed heads number head new known (record {
+  pub head_found : (heads longer : List ℕ) (position head new : ℕ) → HaveHeads heads position head → new ≡ position → is_direct rows order seats position ≡ false → longer ≡ heads ++ new ∷ [] →
+      HaveHeads longer (position + 1) new
+  head_found heads longer position head new known e apart is = subst (λ (xs : List ℕ). HaveHeads xs (position + 1) new) (sym is) (heads_pushed heads position head new known (record {
     up_to = omega (arith, e);
     apart = inr (subst (λ (n : ℕ). is_direct rows order seats n ≡ false) (sym e) apart);
     direct = λ k low high. absurd (omega (arith, e, low, high));
   }))
 
   -- and one that does has the head of the one in front
-  pub head_stays : (heads longer : List ℕ) (number head new : ℕ) → HaveHeads heads number head → new ≡ head → is_direct rows order seats number ≡ true → longer ≡ heads ++ new ∷ [] →
-      HaveHeads longer (number + 1) new
-  head_stays heads longer number head new known e direct is = subst (λ (xs : List ℕ). HaveHeads xs (number + 1) new) (sym is) (heads_pushed heads number head new known (record {
+  pub head_stays : (heads longer : List ℕ) (position head new : ℕ) → HaveHeads heads position head → new ≡ head → is_direct rows order seats position ≡ true → longer ≡ heads ++ new ∷ [] →
+      HaveHeads longer (position + 1) new
+  head_stays heads longer position head new known e direct is = subst (λ (xs : List ℕ). HaveHeads xs (position + 1) new) (sym is) (heads_pushed heads position head new known (record {
     up_to = omega (arith, e, known.up_to);
     apart = subst (λ (n : ℕ). (n ≡ 0) ⊎ (is_direct rows order seats n ≡ false)) (sym e) known.apart;
-    direct = λ k low high. elim (cases_eq k number) [
+    direct = λ k low high. elim (cases_eq k position) [
       | inl f ↦ subst (λ (n : ℕ). is_direct rows order seats n ≡ true) (sym f) direct
       | inr ne ↦ known.direct k (omega (arith, e, low)) (omega (arith, ne, high))
     ];
@@ -70,16 +70,16 @@ module _ (rows : List LinkedRow) (order seats : List ℕ) where
       later : (m n : ℕ) → first ≡ m → nat_eq n k ≡ true → nat_lt m n ≡ true
       later m n same there = grind (arith, tests)
 
-  -- where a head has a reason, so have the rows up to the number that it is the head of
-  pub reasons_back : (heads : List ℕ) (at first number head last : ℕ) (d : LinkedRow) → AreHeads rows order seats heads → at < length rows → first ≡ seat_of seats (get_or rows at d).left →
-      0 < number → number ≤ length order → head ≡ max first (slice_index heads (number - 1)) → has_reason rows seats (slice_index order head) at ≡ true →
-      ((k : ℕ) → number ≤ k → k < last → has_reason rows seats (slice_index order k) at ≡ true) →
+  -- where a head has a reason, so have the rows up to the position that it is the head of
+  pub reasons_back : (heads : List ℕ) (at first position head last : ℕ) (d : LinkedRow) → AreHeads rows order seats heads → at < length rows → first ≡ seat_of seats (get_or rows at d).left →
+      0 < position → position ≤ length order → head ≡ max first (slice_index heads (position - 1)) → has_reason rows seats (slice_index order head) at ≡ true →
+      ((k : ℕ) → position ≤ k → k < last → has_reason rows seats (slice_index order k) at ≡ true) →
       (k : ℕ) → head ≤ k → k < last → has_reason rows seats (slice_index order k) at ≡ true
-  reasons_back heads at first number head last d are lt e some inside is this later k low high = elim (cases_eq k head) [
+  reasons_back heads at first position head last d are lt e some inside is this later k low high = elim (cases_eq k head) [
     | inl f ↦ subst (λ (n : ℕ). has_reason rows seats (slice_index order n) at ≡ true) (sym f) this
-    | inr ne ↦ elim (split k number) [
+    | inr ne ↦ elim (split k position) [
       | inl less ↦ direct_has_reason at first k (e ∙ ap (seat_of seats) (left_read rows at d lt)) (omega (arith, ne, low, is))
-          ((are.each (number - 1) (omega (arith, some, inside))).direct k (omega (arith, ne, low, is)) (omega (arith, less)))
+          ((are.each (position - 1) (omega (arith, some, inside))).direct k (omega (arith, ne, low, is)) (omega (arith, less)))
       | inr le ↦ later k le high
     ]
   ]
@@ -87,9 +87,9 @@ module _ (rows : List LinkedRow) (order seats : List ℕ) where
       split : (m n : ℕ) → (m < n) ⊎ (n ≤ m)
       split m n = grind arith
 
-  pub reasons_all : (at first number : ℕ) (d : LinkedRow) → at < length rows → first ≡ seat_of seats (get_or rows at d).left → number ≤ first →
-      ((k : ℕ) → number ≤ k → k < slice_index seats at - 1 → has_reason rows seats (slice_index order k) at ≡ true) → HaveReasons rows order seats at
-  reasons_all at first number d lt e ended all k le less = all k (omega (arith, ended, le, e ∙ ap (seat_of seats) (left_read rows at d lt))) (omega arith)
+  pub reasons_all : (at first position : ℕ) (d : LinkedRow) → at < length rows → first ≡ seat_of seats (get_or rows at d).left → position ≤ first →
+      ((k : ℕ) → position ≤ k → k < slice_index seats at - 1 → has_reason rows seats (slice_index order k) at ≡ true) → HaveReasons rows order seats at
+  reasons_all at first position d lt e ended all k le less = all k (omega (arith, ended, le, e ∙ ap (seat_of seats) (left_read rows at d lt))) (omega arith)
 
   -- and where one head has none, not all of them have
   pub reasons_lack : (at first head : ℕ) (d : LinkedRow) (told : Bool) → at < length rows → first ≡ seat_of seats (get_or rows at d).left → first ≤ head →

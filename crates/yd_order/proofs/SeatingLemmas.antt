@@ -15,12 +15,12 @@ module _ (order seats : List ℕ) (n : ℕ) (known : AreSeatsOf order seats n) w
   is_last : (k : ℕ) → k < n + 1 → (k < n) ⊎ (k ≡ n)
   is_last k lt = grind arith
 
-  -- the next row takes this number for its seat
+  -- the next row takes this position for its seat
   pub seat_given : n < length order → slice_index order n < length seats → AreSeatsOf order (set seats (slice_index order n) (n + 1)) (n + 1)
   seat_given inside there = record {
     size = length-set seats (slice_index order n) (n + 1) ∙ known.size;
     named = named_more;
-    number = number_more;
+    position = position_more;
   }
     where
       at_row : slice_index (set seats (slice_index order n) (n + 1)) (slice_index order n) ≡ n + 1
@@ -38,11 +38,11 @@ module _ (order seats : List ℕ) (n : ℕ) (known : AreSeatsOf order seats n) w
         ]
       ]
 
-      number_more : (at k : ℕ) → at < length order → slice_index (set seats (slice_index order n) (n + 1)) at ≡ suc k → (k < n + 1) × (slice_index order k ≡ at)
-      number_more at k low e = elim (cases_eq at (slice_index order n)) [
+      position_more : (at k : ℕ) → at < length order → slice_index (set seats (slice_index order n) (n + 1)) at ≡ suc k → (k < n + 1) × (slice_index order k ≡ at)
+      position_more at k low e = elim (cases_eq at (slice_index order n)) [
         | inl f ↦ let same : k ≡ n = omega (arith, e, ap (slice_index (set seats (slice_index order n) (n + 1))) f, at_row) in
             (omega (arith, same), ap (slice_index order) same ∙ sym f)
-        | inr ne ↦ let old = known.number at k low (sym (elsewhere at ne) ∙ e) in (omega (arith, old.0), old.1)
+        | inr ne ↦ let old = known.position at k low (sym (elsewhere at ne) ∙ e) in (omega (arith, old.0), old.1)
       ]
 
   -- a place that is no row's takes none
@@ -53,7 +53,7 @@ module _ (order seats : List ℕ) (n : ℕ) (known : AreSeatsOf order seats n) w
       | inl less ↦ known.named k less low
       | inr same ↦ absurd (omega (arith, past, low, known.size, ap (slice_index order) same))
     ];
-    number = λ at k low e. let old = known.number at k low e in (omega (arith, old.0), old.1);
+    position = λ at k low e. let old = known.position at k low e in (omega (arith, old.0), old.1);
   }
 
 -- where an order has each row once, the rows have no other seats in it
@@ -67,7 +67,7 @@ seats_are count order seats other known seated = ext_get_or 0 other seats (seate
         let there = this.back (slice_index other at - 1) number in
         let low = known.named (slice_index other at - 1) (omega (arith, this.low, this.high)) (omega (arith, there, lt, seated.order_size)) in
         let taken : slice_index seats at ≡ suc (slice_index seats at - 1) = omega (arith, low, ap (slice_index seats) there) in
-        let last = known.number at (slice_index seats at - 1) (omega (arith, lt, seated.order_size)) taken in
+        let last = known.position at (slice_index seats at - 1) (omega (arith, lt, seated.order_size)) taken in
         sym (ap (slice_index other) last.1) ∙ (seated.each (slice_index seats at - 1) (omega (arith, last.0, seated.order_size))).there ∙ sym taken
 
 -- so where a test on its seats fails, the rows do not stand in it

@@ -16,10 +16,10 @@ use Rattle.yd_origins.specs.Table.{OriginTable, ids_of, IsTable}
 use Rattle.yd_origins.specs.Before.{IsInOrder}
 use Rattle.yd_origins.specs.Sorted.{goes_first, with_id, sorted, origin_order}
 use Rattle.yd_origins.proofs.SortedLemmas.{with_id_has, sorted_has, in_origin_order, origin_order_in}
-use Rattle.yd_order.specs.declared.counting.Place.{Place}
+use Rattle.yd_order.specs.declared.counting.Rank.{Rank}
 use Rattle.yd_order.specs.declared.linking.LinkedRow.{LinkedRow}
 use Rattle.yd_order.specs.Linking.{table_of_linked}
-use Rattle.yd_order.specs.Counting.{count_in, place_in, places_of, id_of_place}
+use Rattle.yd_order.specs.Counting.{count_in, rank_in, ranks_of, id_of_rank}
 use Rattle.yd_order.proofs.AscendingLemmas.{id_cmp, not_smaller}
 use Rattle.yd_order.proofs.PermutedLemmas.{distinct_permuted, member_permuted}
 
@@ -105,9 +105,9 @@ in_order_is_order table d xs o same = order_unique (goes_first table) (counts_li
 
 -- ---- from a sort
 
--- how places compare
-abbrev pub place_cmp : Place → Place → Ordering
-place_cmp p q = ordering_then (nat_cmp p.count q.count) (id_cmp p.id q.id)
+-- how ranks compare
+abbrev pub rank_cmp : Rank → Rank → Ordering
+rank_cmp p q = ordering_then (nat_cmp p.count q.count) (id_cmp p.id q.id)
 
 not_first : (m n : ℕ) (a b : Id) → is_lt (ordering_then (nat_cmp m n) (id_cmp a b)) ≡ false → (nat_lt m n || (nat_eq m n && is_smaller a b)) ≡ false
 not_first m n a b h = go (nat_lt m n) refl (nat_eq m n) refl h
@@ -118,9 +118,9 @@ not_first m n a b h = go (nat_lt m n) refl (nat_eq m n) refl h
     go false x true y e = rw (x, y) (not_smaller a b e)
     go false x false y e = rw (x, y) refl
 
--- ids whose places are sorted are in order
-in_order_from : (table : OriginTable) (xs : List Id) → ((k : ℕ) (d : Place) → suc k < length xs →
-    is_lt (place_cmp (get_or (map (place_in table) xs) (suc k) d) (get_or (map (place_in table) xs) k d)) ≡ false) → AreDistinct xs → IsInOrder (goes_first table) xs
+-- ids whose ranks are sorted are in order
+in_order_from : (table : OriginTable) (xs : List Id) → ((k : ℕ) (d : Rank) → suc k < length xs →
+    is_lt (rank_cmp (get_or (map (rank_in table) xs) (suc k) d) (get_or (map (rank_in table) xs) k d)) ≡ false) → AreDistinct xs → IsInOrder (goes_first table) xs
 in_order_from table [] h d = tt
 in_order_from table (x ∷ []) h d = ((λ y i. absurd i), tt)
 in_order_from table (x ∷ y ∷ xs) h d =
@@ -136,47 +136,47 @@ in_order_from table (x ∷ y ∷ xs) h d =
     )
   where
     first : goes_first table x y ≡ true
-    first = (counts_line table).other_way y x (λ e. d.0 (inl (sym e))) (not_first (count_in table y) (count_in table x) y x (h 0 (place_in table x) (omega arith)))
+    first = (counts_line table).other_way y x (λ e. d.0 (inl (sym e))) (not_first (count_in table y) (count_in table x) y x (h 0 (rank_in table x) (omega arith)))
 
-ids_stay : (table : OriginTable) (xs : List Id) → map id_of_place (map (place_in table) xs) ≡ xs
+ids_stay : (table : OriginTable) (xs : List Id) → map id_of_rank (map (rank_in table) xs) ≡ xs
 ids_stay table [] = refl
 ids_stay table (x ∷ xs) = ap (λ (ys : List Id). x ∷ ys) (ids_stay table xs)
 
-all_places : (table : OriginTable) (xs : List Id) → All (λ (p : Place). place_in table p.id ≡ p) (map (place_in table) xs)
-all_places table [] k d lt = absurd (omega arith)
-all_places table (x ∷ xs) zero d lt = refl
-all_places table (x ∷ xs) (suc k) d lt = all_places table xs k d (omega arith)
+all_ranks : (table : OriginTable) (xs : List Id) → All (λ (p : Rank). rank_in table p.id ≡ p) (map (rank_in table) xs)
+all_ranks table [] k d lt = absurd (omega arith)
+all_ranks table (x ∷ xs) zero d lt = refl
+all_ranks table (x ∷ xs) (suc k) d lt = all_ranks table xs k d (omega arith)
 
-places_stay : (table : OriginTable) (ps : List Place) → All (λ (p : Place). place_in table p.id ≡ p) ps → map (place_in table) (map id_of_place ps) ≡ ps
-places_stay table [] h = refl
-places_stay table (p ∷ ps) h = ap₂ (λ (q : Place) (qs : List Place). q ∷ qs) (h 0 p (omega arith)) (places_stay table ps (λ k d lt. h (suc k) d (omega arith)))
+ranks_stay : (table : OriginTable) (ps : List Rank) → All (λ (p : Rank). rank_in table p.id ≡ p) ps → map (rank_in table) (map id_of_rank ps) ≡ ps
+ranks_stay table [] h = refl
+ranks_stay table (p ∷ ps) h = ap₂ (λ (q : Rank) (qs : List Rank). q ∷ qs) (h 0 p (omega arith)) (ranks_stay table ps (λ k d lt. h (suc k) d (omega arith)))
 
-module _ (table : OriginTable) (distinct : AreDistinct (ids_of table)) (places : List Place) (moved : IsPermutation (map (place_in table) (ids_of table)) places)
-    (in_sort : IsSorted place_cmp places) where
-  ids_moved : IsPermutation (ids_of table) (map id_of_place places)
-  ids_moved = subst (λ (xs : List Id). IsPermutation xs (map id_of_place places)) (ids_stay table (ids_of table))
-      (IsPermutation-map id_of_place (map (place_in table) (ids_of table)) places moved)
+module _ (table : OriginTable) (distinct : AreDistinct (ids_of table)) (ranks : List Rank) (moved : IsPermutation (map (rank_in table) (ids_of table)) ranks)
+    (in_sort : IsSorted rank_cmp ranks) where
+  ids_moved : IsPermutation (ids_of table) (map id_of_rank ranks)
+  ids_moved = subst (λ (xs : List Id). IsPermutation xs (map id_of_rank ranks)) (ids_stay table (ids_of table))
+      (IsPermutation-map id_of_rank (map (rank_in table) (ids_of table)) ranks moved)
 
-  of_ids : map (place_in table) (map id_of_place places) ≡ places
-  of_ids = places_stay table places (All-permutation (λ (p : Place). place_in table p.id ≡ p) (map (place_in table) (ids_of table)) places moved (all_places table (ids_of table)))
+  of_ids : map (rank_in table) (map id_of_rank ranks) ≡ ranks
+  of_ids = ranks_stay table ranks (All-permutation (λ (p : Rank). rank_in table p.id ≡ p) (map (rank_in table) (ids_of table)) ranks moved (all_ranks table (ids_of table)))
 
-  ids_in_order : IsInOrder (goes_first table) (map id_of_place places)
-  ids_in_order = in_order_from table (map id_of_place places)
-      (λ k d lt. subst (λ (ps : List Place). is_lt (place_cmp (get_or ps (suc k) d) (get_or ps k d)) ≡ false) (sym of_ids)
-      (subst (λ (n : ℕ). is_lt (place_cmp (get_or places n d) (get_or places k d)) ≡ false) (add-one k)
-      (in_sort k d (omega arith) (omega (arith, length-map places id_of_place)))))
-      (distinct_permuted (ids_of table) (map id_of_place places) ids_moved distinct)
+  ids_in_order : IsInOrder (goes_first table) (map id_of_rank ranks)
+  ids_in_order = in_order_from table (map id_of_rank ranks)
+      (λ k d lt. subst (λ (ps : List Rank). is_lt (rank_cmp (get_or ps (suc k) d) (get_or ps k d)) ≡ false) (sym of_ids)
+      (subst (λ (n : ℕ). is_lt (rank_cmp (get_or ranks n d) (get_or ranks k d)) ≡ false) (add-one k)
+      (in_sort k d (omega arith) (omega (arith, length-map ranks id_of_rank)))))
+      (distinct_permuted (ids_of table) (map id_of_rank ranks) ids_moved distinct)
 
-  -- the ids of the sorted places are the origin order
-  pub sorted_places : map id_of_place places ≡ origin_order table
-  sorted_places = in_order_is_order table distinct (map id_of_place places) ids_in_order
+  -- the ids of the sorted ranks are the origin order
+  pub sorted_ranks : map id_of_rank ranks ≡ origin_order table
+  sorted_ranks = in_order_is_order table distinct (map id_of_rank ranks) ids_in_order
       (λ x. (
-        member_permuted (map id_of_place places) (ids_of table) (IsPermutation-sym (ids_of table) (map id_of_place places) ids_moved) x,
-        member_permuted (ids_of table) (map id_of_place places) ids_moved x,
+        member_permuted (map id_of_rank ranks) (ids_of table) (IsPermutation-sym (ids_of table) (map id_of_rank ranks) ids_moved) x,
+        member_permuted (ids_of table) (map id_of_rank ranks) ids_moved x,
       ))
 
 -- the same of linked rows
-pub sorted_rows : (rows : List LinkedRow) → IsTable (table_of_linked rows) → (before after : List Place) → before ≡ places_of rows → IsPermutation before after →
-    IsSorted place_cmp after → map id_of_place after ≡ origin_order (table_of_linked rows)
-unfolding places_of
-sorted_rows rows t before after e moved in_sort = sorted_places (table_of_linked rows) t.distinct after (subst (λ (ps : List Place). IsPermutation ps after) e moved) in_sort
+pub sorted_rows : (rows : List LinkedRow) → IsTable (table_of_linked rows) → (before after : List Rank) → before ≡ ranks_of rows → IsPermutation before after →
+    IsSorted rank_cmp after → map id_of_rank after ≡ origin_order (table_of_linked rows)
+unfolding ranks_of
+sorted_rows rows t before after e moved in_sort = sorted_ranks (table_of_linked rows) t.distinct after (subst (λ (ps : List Rank). IsPermutation ps after) e moved) in_sort

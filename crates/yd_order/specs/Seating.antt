@@ -1,17 +1,17 @@
--- Seats of rows: each row's number in an order of all rows, from one on, and what lefts and rights ask of seats (own).
+-- Seats of rows: each row's position in a proposed order of all rows, from one on, and what lefts and rights ask of seats (own).
 use Rattle.std.specs.Prelude.{◌≡◌, ◌<◌, ◌≤◌, ◌⊎◌, ℕ, suc, Bool, true, false, ◌||◌, ◌&&◌, List, Option, Some, None, IfSome, length, nat_eq, nat_lt, nat_le, slice_index}
 use Rattle.yd_ids.specs.Ids.{is_smaller}
 use Rattle.yd_order.specs.Linking.{id_at, left_at, right_at}
 use Rattle.yd_order.specs.declared.linking.LinkedRow.{LinkedRow}
 
--- the seats that the first so many numbers of an order give: to each row that they name the last of its numbers, from one
--- on, and to each other row 0
+-- the seats that the first so many positions of an order give: to each row that they name the last of its positions, from
+-- one on, and to each other row 0
 pub record AreSeatsOf (order seats : List ℕ) (count : ℕ) : Type 0 where
   pub size : length seats ≡ length order
   pub named : (k : ℕ) → k < count → slice_index order k < length order → k < slice_index seats (slice_index order k)
-  pub number : (at k : ℕ) → at < length order → slice_index seats at ≡ suc k → (k < count) × (slice_index order k ≡ at)
+  pub position : (at k : ℕ) → at < length order → slice_index seats at ≡ suc k → (k < count) × (slice_index order k ≡ at)
 
--- the row at a place has a seat where the order names it, and the order's row at that number has this seat
+-- the row at a place has a seat where the order names it, and the order's row at that position has this seat
 pub record IsSeated (order seats : List ℕ) (at : ℕ) : Type 0 where
   pub inside : slice_index order at < length order
   pub low : 0 < slice_index seats at
@@ -19,13 +19,13 @@ pub record IsSeated (order seats : List ℕ) (at : ℕ) : Type 0 where
   pub there : slice_index seats (slice_index order at) ≡ suc at
   pub back : (k : ℕ) → slice_index seats at ≡ suc k → slice_index order k ≡ at
 
--- the order has each row once, and the seats are their numbers in it
+-- the order has each row once, and the seats are their positions in it
 pub record AreSeated (count : ℕ) (order seats : List ℕ) : Type 0 where
   pub order_size : length order ≡ count
   pub seats_size : length seats ≡ count
   pub each : (at : ℕ) → at < count → IsSeated order seats at
 
--- the seat of a left; an absent one has the number in front of all
+-- the seat of a left; an absent one has 0, which is in front of all
 abbrev pub seat_of : List ℕ → Option ℕ → ℕ
 seat_of seats None = 0
 seat_of seats (Some at) = slice_index seats at
@@ -55,21 +55,21 @@ abbrev pub HaveReasons : List LinkedRow → List ℕ → List ℕ → ℕ → Ty
 HaveReasons rows order seats at = (k : ℕ) → seat_of seats (left_at rows at) ≤ k → suc k < slice_index seats at →
     has_reason rows seats (slice_index order k) at ≡ true
 
--- whether the row at a number of the order stands directly behind its left, or first and has none
+-- whether the row at a position of the order stands directly behind its left, or first and has none
 abbrev pub is_direct : List LinkedRow → List ℕ → List ℕ → ℕ → Bool
-is_direct rows order seats number = nat_eq (seat_of seats (left_at rows (slice_index order number))) number
+is_direct rows order seats position = nat_eq (seat_of seats (left_at rows (slice_index order position))) position
 
--- a number is the last one, no later than another, whose row does not stand directly behind its left, or there is none and
+-- a position is the last one, no later than another, whose row does not stand directly behind its left, or there is none and
 -- it is 0
-pub record IsHead (rows : List LinkedRow) (order seats : List ℕ) (number head : ℕ) : Type 0 where
-  pub up_to : head ≤ number
+pub record IsHead (rows : List LinkedRow) (order seats : List ℕ) (position head : ℕ) : Type 0 where
+  pub up_to : head ≤ position
   pub apart : (head ≡ 0) ⊎ (is_direct rows order seats head ≡ false)
-  pub direct : (k : ℕ) → head < k → k ≤ number → is_direct rows order seats k ≡ true
+  pub direct : (k : ℕ) → head < k → k ≤ position → is_direct rows order seats k ≡ true
 
--- each number has a head
+-- each position has a head
 pub record AreHeads (rows : List LinkedRow) (order seats heads : List ℕ) : Type 0 where
   pub size : length heads ≡ length order
-  pub each : (number : ℕ) → number < length order → IsHead rows order seats number (slice_index heads number)
+  pub each : (position : ℕ) → position < length order → IsHead rows order seats position (slice_index heads position)
 
 -- a row stands as its left, its right and the rows in front of it ask
 pub record Stands (rows : List LinkedRow) (order seats : List ℕ) (at : ℕ) : Type 0 where

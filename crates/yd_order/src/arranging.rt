@@ -4,7 +4,7 @@ ghost use Rattle.std.specs.Prelude.{◌≡◌, ◌↔◌, ◌*◌, length, map, 
 ghost use Rattle.yd_words.specs.Each.{Each};
 ghost use Rattle.yd_origins.specs.Sorted.{origin_order};
 ghost use Rattle.yd_origins.specs.Table.{IsTable};
-ghost use Rattle.yd_order.specs.Counting.{id_of_place};
+ghost use Rattle.yd_order.specs.Counting.{id_of_rank};
 ghost use Rattle.yd_order.specs.Filling.{AreFilled};
 ghost use Rattle.yd_order.specs.Linking.{AreLinked, id_at, table_of_linked};
 ghost use Rattle.yd_order.specs.Numbering.{IsNumbering};
@@ -12,7 +12,7 @@ ghost use Rattle.yd_order.specs.Rows.{AreAscending, table_of};
 ghost use Rattle.yd_order.specs.Seating.{AllBelow, StandIn};
 ghost use Rattle.yd_order.specs.Stretch.{EndsAtClock, rows_of_stretches, among_rows};
 
-use crate::counting::{Place, counted};
+use crate::counting::{Rank, counted};
 use crate::fault::NoMemory;
 use crate::filling::filled;
 use crate::heading::heads_of;
@@ -26,11 +26,14 @@ use std::alloc::Global;
 use yd_ids::Id;
 
 /// The ids of the stretches in the order that their origins give, where a right origin that is not
-/// the id of one of them counts as absent. Where the integration scan finds this order, as it does
-/// for units that keep the edit rules, it takes the sorting of the units, bytes with the units, and
-/// for each unit a few steps and one for each row of units, each directly behind the one before,
-/// that stands between its left origin and it: so time with the square where all were put in front
-/// of one another. Else it takes time and bytes with the square of how many units there are.
+/// the id of one of them counts as absent.
+///
+/// What it takes depends on the scan, which proposes an order. Where this is the answer, the call
+/// takes the sorting of the units, bytes with the units, and for each unit a few steps and one for
+/// each row of units, each directly behind the one before, that stands between its left origin and
+/// it: so time with the square where all were put in front of one another. Else it takes time and
+/// bytes with the square of how many units there are. For units that keep the edit rules the scan is
+/// made to propose the answer; no clause says that it does.
 pub fn arrange_stretches(alloc: Global, stretches: &[Stretch]) -> Result<Vec<Id>, NoMemory>
     requires clocks { Each EndsAtClock stretches.now }
     requires table { IsTable (among_rows (rows_of_stretches stretches.now)) }
@@ -60,55 +63,64 @@ fn arrange_linked(alloc: Global, rows: &[LinkedRow]) -> Result<Vec<Id>, NoMemory
     requires table { IsTable (table_of_linked rows.now) }
     ensures { IfOk result (λ order. order.items ≡ origin_order (table_of_linked rows.now)) }
 {
-    let numbers = numbered(alloc, rows)?;
-    let order = scanned(alloc, rows, &numbers)?;
-    if let Some(ids) = taken(alloc, rows, &order)? {
+    let by_neighbours = numbered(alloc, rows)?;
+    let proposal = scanned(alloc, rows, &by_neighbours)?;
+    if let Some(ids) = accepted(alloc, rows, &proposal)? {
         return Ok(ids);
     }
-    let ids = arrange_pairs(alloc, rows, &numbers)?;
+    let ids = arrange_pairs(alloc, rows, &by_neighbours)?;
     Ok(ids)
 }
 
-/// The ids of rows in this order, if it has each row once, and they stand there as their links ask.
-fn taken(alloc: Global, rows: &[LinkedRow], order: &[usize]) -> Result<Option<Vec<Id>>, NoMemory>
+/// The ids of the rows as they are proposed, if each row is there once, and they stand there as
+/// their links ask.
+fn accepted(
+    alloc: Global,
+    rows: &[LinkedRow],
+    proposal: &[usize],
+) -> Result<Option<Vec<Id>>, NoMemory>
     requires links { AreLinked rows.now }
     requires table { IsTable (table_of_linked rows.now) }
-    ensures told { IfOk result (λ taken. IsSome taken ↔ StandIn rows.now order.now) }
-    ensures order { IfOk result (λ taken. IfSome taken (λ ids.
+    ensures told { IfOk result (λ accepted. IsSome accepted ↔ StandIn rows.now proposal.now) }
+    ensures order { IfOk result (λ accepted. IfSome accepted (λ ids.
         ids.items ≡ origin_order (table_of_linked rows.now))) }
 {
-    let seats = seats_of(alloc, order)?;
-    if !are_seated(rows.len(), order, &seats) {
+    let seats = seats_of(alloc, proposal)?;
+    if !are_seated(rows.len(), proposal, &seats) {
         return Ok(None);
     }
-    let heads = heads_of(alloc, rows, order, &seats)?;
-    if !all_stand(rows, order, &seats, &heads) {
+    let heads = heads_of(alloc, rows, proposal, &seats)?;
+    if !all_stand(rows, proposal, &seats, &heads) {
         return Ok(None);
     }
-    let ids = ids_at(alloc, rows, order)?;
+    let ids = ids_at(alloc, rows, proposal)?;
     Ok(Some(ids))
 }
 
 /// The ids of the rows at places.
-fn ids_at(alloc: Global, rows: &[LinkedRow], order: &[usize]) -> Result<Vec<Id>, NoMemory>
-    requires { AllBelow (length rows.now) order.now }
-    ensures { IfOk result (λ ids. ids.items ≡ map (id_at rows.now) order.now) }
+fn ids_at(alloc: Global, rows: &[LinkedRow], places: &[usize]) -> Result<Vec<Id>, NoMemory>
+    requires { AllBelow (length rows.now) places.now }
+    ensures { IfOk result (λ ids. ids.items ≡ map (id_at rows.now) places.now) }
 {
     let mut ids = Vec::new(alloc);
-    for at in order {
+    for at in places {
         ids.push(rows[*at].id)?;
     }
     Ok(ids)
 }
 
 /// The ids of linked rows in the order that a table over all pairs of rows gives.
-fn arrange_pairs(alloc: Global, rows: &[LinkedRow], numbers: &[usize]) -> Result<Vec<Id>, NoMemory>
+fn arrange_pairs(
+    alloc: Global,
+    rows: &[LinkedRow],
+    by_neighbours: &[usize],
+) -> Result<Vec<Id>, NoMemory>
     requires links { AreLinked rows.now }
     requires table { IsTable (table_of_linked rows.now) }
-    requires numbering { IsNumbering rows.now numbers.now }
+    requires numbering { IsNumbering rows.now by_neighbours.now }
     ensures { IfOk result (λ order. order.items ≡ origin_order (table_of_linked rows.now)) }
 {
-    let cells = filled(alloc, rows, numbers)?;
+    let cells = filled(alloc, rows, by_neighbours)?;
     let order = sorted(alloc, rows, &cells)?;
     Ok(order)
 }
@@ -121,19 +133,19 @@ fn sorted(alloc: Global, rows: &[LinkedRow], cells: &[bool]) -> Result<Vec<Id>, 
     requires filled { AreFilled rows.now cells.now }
     ensures { IfOk result (λ order. order.items ≡ origin_order (table_of_linked rows.now)) }
 {
-    let mut places = counted(alloc, rows, cells)?;
-    places.sort_unstable();
-    let order = ids_of(alloc, &places)?;
+    let mut ranks = counted(alloc, rows, cells)?;
+    ranks.sort_unstable();
+    let order = ids_of(alloc, &ranks)?;
     Ok(order)
 }
 
-/// The ids of places.
-fn ids_of(alloc: Global, places: &[Place]) -> Result<Vec<Id>, NoMemory>
-    ensures { IfOk result (λ ids. ids.items ≡ map id_of_place places.now) }
+/// The ids of ranks.
+fn ids_of(alloc: Global, ranks: &[Rank]) -> Result<Vec<Id>, NoMemory>
+    ensures { IfOk result (λ ids. ids.items ≡ map id_of_rank ranks.now) }
 {
     let mut ids = Vec::new(alloc);
-    for place in places {
-        ids.push(place.id)?;
+    for rank in ranks {
+        ids.push(rank.id)?;
     }
     Ok(ids)
 }

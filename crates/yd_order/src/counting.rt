@@ -1,7 +1,7 @@
 //! How many rows are before each.
 
 ghost use Rattle.std.specs.Prelude.{◌≡◌, ◌<◌, ◌*◌, length, IfOk};
-ghost use Rattle.yd_order.specs.Counting.{count_at, places_of};
+ghost use Rattle.yd_order.specs.Counting.{count_at, ranks_of};
 ghost use Rattle.yd_order.specs.Filling.{AreFilled};
 
 use crate::fault::NoMemory;
@@ -10,29 +10,28 @@ use crate::linking::LinkedRow;
 use std::alloc::Global;
 use yd_ids::Id;
 
-/// An id with how many rows are before its row. Places are in order of their counts, then of their
-/// ids.
+/// How many rows are before one, and its id. Ranks are in order of their counts, then of their ids.
 #[derive(Clone, Copy, PartialEq, Eq, PartialOrd, Ord)]
-pub struct Place {
+pub struct Rank {
     pub count: usize,
     pub id: Id,
 }
 
-/// The places of the rows.
-pub fn counted(alloc: Global, rows: &[LinkedRow], cells: &[bool]) -> Result<Vec<Place>, NoMemory>
+/// The ranks of the rows.
+pub fn counted(alloc: Global, rows: &[LinkedRow], cells: &[bool]) -> Result<Vec<Rank>, NoMemory>
     requires size { length cells.now ≡ length rows.now * length rows.now }
     requires filled { AreFilled rows.now cells.now }
-    ensures { IfOk result (λ places. places.items ≡ places_of rows.now) }
+    ensures { IfOk result (λ ranks. ranks.items ≡ ranks_of rows.now) }
 {
-    let mut places = Vec::new(alloc);
+    let mut ranks = Vec::new(alloc);
     for at in 0..rows.len() {
         let count = count_before(rows, cells, at);
-        places.push(Place {
+        ranks.push(Rank {
             count,
             id: rows[at].id,
         })?;
     }
-    Ok(places)
+    Ok(ranks)
 }
 
 /// How many rows are before the one at a place.

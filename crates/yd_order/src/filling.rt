@@ -7,21 +7,25 @@ ghost use Rattle.yd_order.specs.Linking.{AreLinked, table_of_linked};
 ghost use Rattle.yd_order.specs.Numbering.{IsNumbering, IsArranged};
 
 use crate::fault::NoMemory;
-use crate::ids::is_smaller;
 use crate::linking::LinkedRow;
 use std::alloc::Global;
+use yd_ids::is_smaller;
 
 /// For each two rows, whether the first is before the second.
-pub fn filled(alloc: Global, rows: &[LinkedRow], order: &[usize]) -> Result<Vec<bool>, NoMemory>
+pub fn filled(
+    alloc: Global,
+    rows: &[LinkedRow],
+    by_neighbours: &[usize],
+) -> Result<Vec<bool>, NoMemory>
     requires links { AreLinked rows.now }
     requires table { IsTable (table_of_linked rows.now) }
-    requires numbering { IsNumbering rows.now order.now }
+    requires numbering { IsNumbering rows.now by_neighbours.now }
     ensures size { IfOk result (λ cells. length cells.items ≡ length rows.now * length rows.now) }
     ensures filled { IfOk result (λ cells. AreFilled rows.now cells.items) }
 {
     let mut cells = empty(alloc, rows.len())?;
-    for number in 0..order.len() {
-        fill_row(rows, order, &mut cells, number);
+    for number in 0..by_neighbours.len() {
+        fill_row(rows, by_neighbours, &mut cells, number);
     }
     Ok(cells)
 }
@@ -39,16 +43,16 @@ fn empty(alloc: Global, count: usize) -> Result<Vec<bool>, NoMemory>
 
 /// Fills the pairs of the row with a number and each row with a smaller one, in the order of these.
 /// So each line asks only for pairs that are filled.
-fn fill_row(rows: &[LinkedRow], order: &[usize], cells: &mut [bool], number: usize)
+fn fill_row(rows: &[LinkedRow], by_neighbours: &[usize], cells: &mut [bool], number: usize)
     requires links { AreLinked rows.now }
     requires table { IsTable (table_of_linked rows.now) }
-    requires arranged { IsArranged rows.now order.now }
-    requires inside { number < length order.now }
-    requires below { AreFilledBelow rows.now order.now cells.old number }
-    ensures { AreFilledBelow rows.now order.now cells.new (number + 1) }
+    requires arranged { IsArranged rows.now by_neighbours.now }
+    requires inside { number < length by_neighbours.now }
+    requires below { AreFilledBelow rows.now by_neighbours.now cells.old number }
+    ensures { AreFilledBelow rows.now by_neighbours.now cells.new (number + 1) }
 {
     for earlier in 0..number {
-        fill_pair(rows, cells, order[number], order[earlier]);
+        fill_pair(rows, cells, by_neighbours[number], by_neighbours[earlier]);
     }
 }
 
@@ -63,15 +67,15 @@ fn fill_pair(rows: &[LinkedRow], cells: &mut [bool], a: usize, b: usize)
     requires asked_back { IsAsked rows.now cells.old b a }
     ensures { FillsPair rows.now cells.old cells.new a b }
 {
-    let first = is_first(rows, cells, a, b);
-    let back = is_first(rows, cells, b, a);
+    let first = is_before(rows, cells, a, b);
+    let back = is_before(rows, cells, b, a);
     let count = rows.len();
     cells[a * count + b] = first;
     cells[b * count + a] = back;
 }
 
 /// The row at the first place is before that at the second: the first line that applies decides.
-fn is_first(rows: &[LinkedRow], cells: &[bool], a: usize, b: usize) -> bool
+fn is_before(rows: &[LinkedRow], cells: &[bool], a: usize, b: usize) -> bool
     requires links { AreLinked rows.now }
     requires table { IsTable (table_of_linked rows.now) }
     requires size { length cells.now ≡ length rows.now * length rows.now }

@@ -1,5 +1,6 @@
 //! The laws of the order and of the integration scan, each the contract of an empty function.
 
+ghost use Rattle.yd_meaning.specs.Law.{HonestListsFit, HonestOrderIsStrict, HonestListsGrowInOrder};
 ghost use Rattle.yd_order.specs.Law.{CountsDecide, SeatsDecide};
 ghost use Rattle.yd_origins.specs.Law.{LinesDecide, OneIsBefore, OrderIsStrict, PartKeepsOrder, ScanKeepsOrder, ScansGiveOrder, SortingGivesOrder};
 
@@ -63,4 +64,25 @@ pub fn scans_give_order()
     ensures { ScansGiveOrder }
 {
     law::scans_give_order();
+}
+
+/// Where what is held keeps the edit rules, each of its lists is a table that fits.
+pub fn honest_lists_fit()
+    ensures { HonestListsFit }
+{
+    yd_meaning::law::honest_lists_fit();
+}
+
+/// Where what is held keeps the edit rules, the order of each list is strict.
+pub fn honest_order_is_strict()
+    ensures { HonestOrderIsStrict }
+{
+    yd_meaning::law::honest_order_is_strict();
+}
+
+/// Where what is held keeps the edit rules, integration scans give each list.
+pub fn honest_lists_grow_in_order()
+    ensures { HonestListsGrowInOrder }
+{
+    yd_meaning::law::honest_lists_grow_in_order();
 }

@@ -2,10 +2,11 @@
 //!
 //! [`arrange`] takes runs, and [`arrange_stretches`] what the order sees of them. Both answer the
 //! ids exactly as `origin_order` (yd_origins) defines it, whether the units keep the edit rules or
-//! not. Where they keep them, the integration scan gives the same list ([`law`]). So the scan
-//! proposes an order, and if each unit stands there as its origins ask, it is the answer. Otherwise
-//! a table over all pairs of units gives the order, in time and bytes with the square of how many
-//! there are. A call that finds no memory answers [`NoMemory`].
+//! not. Where they keep them, the integration scan as it is defined gives the same list ([`law`]).
+//! So a scan proposes an order, and if each unit stands there as its origins ask, it is the answer.
+//! Otherwise a table over all pairs of units gives the order, in time and bytes with the square of
+//! how many there are. Which order is proposed is said by no clause, and speed alone rests on it. A
+//! call that finds no memory answers [`NoMemory`].
 //!
 //! ```rust
 //! let order = arrange_stretches(alloc, &stretches)?;
@@ -17,7 +18,6 @@ mod counting;
 mod fault;
 mod filling;
 mod heading;
-mod ids;
 pub mod law;
 mod linking;
 mod numbering;

@@ -5,10 +5,9 @@ ghost use Rattle.yd_order.specs.Rows.{AreAscending, place_of, place_of_neighbour
 ghost use Rattle.yd_order.specs.Linking.{linked_row};
 
 use crate::fault::NoMemory;
-use crate::ids::{is_same, is_smaller};
 use crate::rows::OriginRow;
 use std::alloc::Global;
-use yd_ids::Id;
+use yd_ids::{Id, is_same, is_smaller};
 
 /// A row whose left and right are told by their places among the rows.
 #[derive(Clone, Copy)]

@@ -15,30 +15,30 @@ use std::alloc::Global;
 pub fn numbered(alloc: Global, rows: &[LinkedRow]) -> Result<Vec<usize>, NoMemory>
     requires links { AreLinked rows.now }
     requires table { IsTable (table_of_linked rows.now) }
-    ensures { IfOk result (λ order. IsNumbering rows.now order.items) }
+    ensures { IfOk result (λ by_neighbours. IsNumbering rows.now by_neighbours.items) }
 {
-    let mut order = Vec::new(alloc);
+    let mut by_neighbours = Vec::new(alloc);
     let mut marks = vec![in alloc; false; rows.len()]?;
     let turns = turns_of(alloc, rows)?;
-    number_in_turns(rows, &mut marks, &mut order, &turns)?;
-    number_all(rows, &mut marks, &mut order)?;
-    Ok(order)
+    number_in_turns(rows, &mut marks, &mut by_neighbours, &turns)?;
+    number_all(rows, &mut marks, &mut by_neighbours)?;
+    Ok(by_neighbours)
 }
 
 /// Numbers rows in these turns, each if its left and right have numbers then.
 fn number_in_turns(
     rows: &[LinkedRow],
     marks: &mut [bool],
-    order: &mut Vec<usize>,
+    by_neighbours: &mut Vec<usize>,
     turns: &[usize],
 ) -> Result<(), NoMemory>
     requires links { AreLinked rows.now }
-    requires numbered { ArePartlyNumbered rows.now marks.old order.old.items }
-    ensures { OnOk result (ArePartlyNumbered rows.now marks.new order.new.items) }
+    requires numbered { ArePartlyNumbered rows.now marks.old by_neighbours.old.items }
+    ensures { OnOk result (ArePartlyNumbered rows.now marks.new by_neighbours.new.items) }
 {
     for at in turns {
         if *at < rows.len() {
-            number(rows, marks, order, *at)?;
+            number(rows, marks, by_neighbours, *at)?;
         }
     }
     Ok(())
@@ -48,15 +48,15 @@ fn number_in_turns(
 fn number_all(
     rows: &[LinkedRow],
     marks: &mut [bool],
-    order: &mut Vec<usize>,
+    by_neighbours: &mut Vec<usize>,
 ) -> Result<(), NoMemory>
     requires links { AreLinked rows.now }
     requires table { IsTable (table_of_linked rows.now) }
-    requires numbered { ArePartlyNumbered rows.now marks.old order.old.items }
-    ensures { OnOk result (IsNumbering rows.now order.new.items) }
+    requires numbered { ArePartlyNumbered rows.now marks.old by_neighbours.old.items }
+    ensures { OnOk result (IsNumbering rows.now by_neighbours.new.items) }
 {
     for _ in 0..rows.len() {
-        if number_ready(rows, marks, order)? {
+        if number_ready(rows, marks, by_neighbours)? {
             return Ok(());
         }
     }
@@ -67,16 +67,16 @@ fn number_all(
 fn number_ready(
     rows: &[LinkedRow],
     marks: &mut [bool],
-    order: &mut Vec<usize>,
+    by_neighbours: &mut Vec<usize>,
 ) -> Result<bool, NoMemory>
     requires links { AreLinked rows.now }
-    requires numbered { ArePartlyNumbered rows.now marks.old order.old.items }
+    requires numbered { ArePartlyNumbered rows.now marks.old by_neighbours.old.items }
     ensures { IfOk result (λ all.
-        NumbersReady rows.now marks.old marks.new order.new.items (length rows.now) all) }
+        NumbersReady rows.now marks.old marks.new by_neighbours.new.items (length rows.now) all) }
 {
     let mut all = true;
     for at in 0..rows.len() {
-        if !number(rows, marks, order, at)? {
+        if !number(rows, marks, by_neighbours, at)? {
             all = false;
         }
     }
@@ -87,14 +87,14 @@ fn number_ready(
 fn number(
     rows: &[LinkedRow],
     marks: &mut [bool],
-    order: &mut Vec<usize>,
+    by_neighbours: &mut Vec<usize>,
     at: usize,
 ) -> Result<bool, NoMemory>
     requires links { AreLinked rows.now }
-    requires numbered { ArePartlyNumbered rows.now marks.old order.old.items }
+    requires numbered { ArePartlyNumbered rows.now marks.old by_neighbours.old.items }
     requires inside { at < length rows.now }
     ensures { IfOk result (λ has.
-        Numbers rows.now marks.old marks.new order.new.items at has) }
+        Numbers rows.now marks.old marks.new by_neighbours.new.items at has) }
 {
     if marks[at] {
         return Ok(true);
@@ -102,7 +102,7 @@ fn number(
     if !is_ready(rows, marks, at) {
         return Ok(false);
     }
-    order.push(at)?;
+    by_neighbours.push(at)?;
     marks[at] = true;
     Ok(true)
 }

@@ -1,13 +1,17 @@
-//! An order that the integration scan proposes. It is checked before it is taken
-//! ([`crate::seating`]), so no clause says which order it is.
+//! An order that the integration scan proposes.
+//!
+//! It is checked before it is taken ([`crate::seating`]), and a table of all pairs gives the order
+//! where it fails. So no clause says which order it is, and no answer would be wrong without it:
+//! speed alone rests on this module. Ties go by the whole id, where Yjs compares clients, since the
+//! rows of one client come in any order here.
 
 ghost use Rattle.std.specs.Prelude.{◌≡◌, ◌<◌, length, IfOk};
 
 use crate::fault::NoMemory;
 use crate::filling::is_same_link;
-use crate::ids::is_smaller;
 use crate::linking::LinkedRow;
 use std::alloc::Global;
+use yd_ids::is_smaller;
 
 /// What a scanned row does to the place of the new one.
 #[derive(Clone, Copy)]
@@ -36,20 +40,24 @@ struct Scan {
     place: usize,
 }
 
-/// The places of the rows as the scan puts in one after another, in the order of `numbers`.
-pub fn scanned(alloc: Global, rows: &[LinkedRow], numbers: &[usize]) -> Result<Vec<usize>, NoMemory>
-    ensures { IfOk result (λ order. length order.items ≡ length rows.now) }
+/// The places of the rows as the scan puts in one after another, each after its neighbours.
+pub fn scanned(
+    alloc: Global,
+    rows: &[LinkedRow],
+    by_neighbours: &[usize],
+) -> Result<Vec<usize>, NoMemory>
+    ensures { IfOk result (λ proposal. length proposal.items ≡ length rows.now) }
 {
     let mut next = vec![in alloc; rows.len(); rows.len() + 1]?;
     let mut marks = vec![in alloc; 0; rows.len()]?;
     let mut step = 0;
-    for at in numbers {
+    for at in by_neighbours {
         if *at < rows.len() {
             step = put_in(rows, &mut next, &mut marks, *at, step);
         }
     }
-    let order = chained(alloc, &next, rows.len())?;
-    Ok(order)
+    let proposal = chained(alloc, &next, rows.len())?;
+    Ok(proposal)
 }
 
 /// Puts in a row after so many steps, and says how many there are then. Behind each place stands
@@ -71,7 +79,7 @@ fn put_in(
         place: rows[at].left.unwrap_or(rows.len()),
     };
     walk(rows, next, marks, &mut scan);
-    let behind = number_at(next, scan.place);
+    let behind = entry_at(next, scan.place);
     put(next, at, behind);
     put(next, scan.place, at);
     scan.step
@@ -80,7 +88,7 @@ fn put_in(
 /// Scans what stands behind the left of the new row, up to its right.
 fn walk(rows: &[LinkedRow], next: &[usize], marks: &mut [usize], scan: &mut Scan) {
     let right = scan.new.right.unwrap_or(rows.len());
-    let mut other = number_at(next, scan.place);
+    let mut other = entry_at(next, scan.place);
     for _ in 0..rows.len() {
         if other == right || other >= rows.len() {
             return;
@@ -95,7 +103,7 @@ fn walk(rows: &[LinkedRow], next: &[usize], marks: &mut [usize], scan: &mut Scan
             }
             Verdict::Stays => {}
         }
-        other = number_at(next, other);
+        other = entry_at(next, other);
     }
 }
 
@@ -106,7 +114,7 @@ fn judged(scan: Scan, other: LinkedRow, marks: &[usize]) -> Verdict {
     }
     let mark = match other.left {
         None => 0,
-        Some(left) => number_at(marks, left),
+        Some(left) => entry_at(marks, left),
     };
     if mark <= scan.begun {
         Verdict::Stops
@@ -130,25 +138,25 @@ fn at_neighbour(new: LinkedRow, other: LinkedRow) -> Verdict {
 
 /// So many links of the chain, from the front on.
 fn chained(alloc: Global, next: &[usize], count: usize) -> Result<Vec<usize>, NoMemory>
-    ensures { IfOk result (λ order. length order.items ≡ count) }
+    ensures { IfOk result (λ proposal. length proposal.items ≡ count) }
 {
-    let mut order = Vec::new(alloc);
-    let mut at = number_at(next, count);
+    let mut places = Vec::new(alloc);
+    let mut at = entry_at(next, count);
     for _ in 0..count {
-        order.push(at)?;
-        at = number_at(next, at);
+        places.push(at)?;
+        at = entry_at(next, at);
     }
-    Ok(order)
+    Ok(places)
 }
 
-/// The number at a place, and zero where there is none.
-fn number_at(numbers: &[usize], at: usize) -> usize {
-    if at < numbers.len() { numbers[at] } else { 0 }
+/// The entry at a place, and zero where there is none.
+fn entry_at(entries: &[usize], at: usize) -> usize {
+    if at < entries.len() { entries[at] } else { 0 }
 }
 
-/// Puts a number at a place, if there is one.
-fn put(numbers: &mut [usize], at: usize, number: usize) {
-    if at < numbers.len() {
-        numbers[at] = number;
+/// Puts an entry at a place, if there is one.
+fn put(entries: &mut [usize], at: usize, entry: usize) {
+    if at < entries.len() {
+        entries[at] = entry;
     }
 }

@@ -1,67 +1,67 @@
-//! Whether rows stand in an order as their lefts and rights ask, told by their seats in it.
+//! Whether rows stand in a proposal as their lefts and rights ask, told by their seats in it.
 
 ghost use Rattle.std.specs.Prelude.{◌≡◌, ◌↔◌, ◌<◌, length, IsTrue, IfSome, IfOk};
 ghost use Rattle.yd_order.specs.Linking.{AreLinked};
 ghost use Rattle.yd_order.specs.Seating.{AreSeatsOf, IsSeated, AreSeated, seat_of, is_passed, is_ahead, has_reason, AreHeads, IsBetween, HaveReasons, Stands, AllStand};
 
 use crate::fault::NoMemory;
-use crate::ids::is_smaller;
 use crate::linking::LinkedRow;
 use std::alloc::Global;
+use yd_ids::is_smaller;
 
-/// The seats in an order: for each row that it names the number there.
-pub fn seats_of(alloc: Global, order: &[usize]) -> Result<Vec<usize>, NoMemory>
-    ensures { IfOk result (λ seats. AreSeatsOf order.now seats.items (length order.now)) }
+/// The seats in a proposal: for each row that it names its position there, from one on.
+pub fn seats_of(alloc: Global, proposal: &[usize]) -> Result<Vec<usize>, NoMemory>
+    ensures { IfOk result (λ seats. AreSeatsOf proposal.now seats.items (length proposal.now)) }
 {
-    let mut seats = vec![in alloc; 0; order.len()]?;
-    for number in 0..order.len() {
-        let at = order[number];
+    let mut seats = vec![in alloc; 0; proposal.len()]?;
+    for position in 0..proposal.len() {
+        let at = proposal[position];
         if at < seats.len() {
-            seats[at] = number + 1;
+            seats[at] = position + 1;
         }
     }
     Ok(seats)
 }
 
-/// The order has each of so many rows once, and the seats are their numbers in it.
-pub fn are_seated(count: usize, order: &[usize], seats: &[usize]) -> bool
-    ensures { IsTrue result ↔ AreSeated count order.now seats.now }
+/// The proposal has each of so many rows once, and the seats are their positions in it.
+pub fn are_seated(count: usize, proposal: &[usize], seats: &[usize]) -> bool
+    ensures { IsTrue result ↔ AreSeated count proposal.now seats.now }
 {
-    if order.len() != count || seats.len() != count {
+    if proposal.len() != count || seats.len() != count {
         return false;
     }
     for at in 0..count {
-        if !is_seated(order, seats, at) {
+        if !is_seated(proposal, seats, at) {
             return false;
         }
     }
     true
 }
 
-/// The order and the seats agree at a place.
-fn is_seated(order: &[usize], seats: &[usize], at: usize) -> bool
-    requires size { length seats.now ≡ length order.now }
-    requires inside { at < length order.now }
-    ensures { IsTrue result ↔ IsSeated order.now seats.now at }
+/// The proposal and the seats agree at a place.
+fn is_seated(proposal: &[usize], seats: &[usize], at: usize) -> bool
+    requires size { length seats.now ≡ length proposal.now }
+    requires inside { at < length proposal.now }
+    ensures { IsTrue result ↔ IsSeated proposal.now seats.now at }
 {
-    let other = order[at];
+    let other = proposal[at];
     let seat = seats[at];
-    if other >= order.len() || seat == 0 || seat > order.len() {
+    if other >= proposal.len() || seat == 0 || seat > proposal.len() {
         return false;
     }
-    seats[other] == at + 1 && order[seat - 1] == at
+    seats[other] == at + 1 && proposal[seat - 1] == at
 }
 
 /// All rows stand as their lefts and rights ask. It takes a step for each head between a row and
 /// its left, so none for a row directly behind its left.
-pub fn all_stand(rows: &[LinkedRow], order: &[usize], seats: &[usize], heads: &[usize]) -> bool
+pub fn all_stand(rows: &[LinkedRow], proposal: &[usize], seats: &[usize], heads: &[usize]) -> bool
     requires links { AreLinked rows.now }
-    requires seated { AreSeated (length rows.now) order.now seats.now }
-    requires heads { AreHeads rows.now order.now seats.now heads.now }
-    ensures { IsTrue result ↔ AllStand rows.now order.now seats.now }
+    requires seated { AreSeated (length rows.now) proposal.now seats.now }
+    requires heads { AreHeads rows.now proposal.now seats.now heads.now }
+    ensures { IsTrue result ↔ AllStand rows.now proposal.now seats.now }
 {
     for at in 0..rows.len() {
-        if !stands(rows, order, seats, heads, at) {
+        if !stands(rows, proposal, seats, heads, at) {
             return false;
         }
     }
@@ -69,14 +69,20 @@ pub fn all_stand(rows: &[LinkedRow], order: &[usize], seats: &[usize], heads: &[
 }
 
 /// The row at a place stands as its left, its right and the rows in front of it ask.
-fn stands(rows: &[LinkedRow], order: &[usize], seats: &[usize], heads: &[usize], at: usize) -> bool
+fn stands(
+    rows: &[LinkedRow],
+    proposal: &[usize],
+    seats: &[usize],
+    heads: &[usize],
+    at: usize,
+) -> bool
     requires links { AreLinked rows.now }
-    requires seated { AreSeated (length rows.now) order.now seats.now }
-    requires heads { AreHeads rows.now order.now seats.now heads.now }
+    requires seated { AreSeated (length rows.now) proposal.now seats.now }
+    requires heads { AreHeads rows.now proposal.now seats.now heads.now }
     requires inside { at < length rows.now }
-    ensures { IsTrue result ↔ Stands rows.now order.now seats.now at }
+    ensures { IsTrue result ↔ Stands rows.now proposal.now seats.now at }
 {
-    is_between(rows, seats, at) && have_reasons(rows, order, seats, heads, at)
+    is_between(rows, seats, at) && have_reasons(rows, proposal, seats, heads, at)
 }
 
 /// The row at a place stands behind its left and in front of its right.
@@ -94,25 +100,25 @@ fn is_between(rows: &[LinkedRow], seats: &[usize], at: usize) -> bool
 /// directly behind its left has, where that one stands there too.
 fn have_reasons(
     rows: &[LinkedRow],
-    order: &[usize],
+    proposal: &[usize],
     seats: &[usize],
     heads: &[usize],
     at: usize,
 ) -> bool
     requires links { AreLinked rows.now }
-    requires seated { AreSeated (length rows.now) order.now seats.now }
-    requires heads { AreHeads rows.now order.now seats.now heads.now }
+    requires seated { AreSeated (length rows.now) proposal.now seats.now }
+    requires heads { AreHeads rows.now proposal.now seats.now heads.now }
     requires inside { at < length rows.now }
-    ensures { IsTrue result ↔ HaveReasons rows.now order.now seats.now at }
+    ensures { IsTrue result ↔ HaveReasons rows.now proposal.now seats.now at }
 {
     let first = seat_of(seats, rows[at].left);
-    let mut number = seats[at] - 1;
-    while number > first {
-        let head = first.max(heads[number - 1]);
-        if !has_reason(rows, seats, order[head], at) {
+    let mut position = seats[at] - 1;
+    while position > first {
+        let head = first.max(heads[position - 1]);
+        if !has_reason(rows, seats, proposal[head], at) {
             return false;
         }
-        number = head;
+        position = head;
     }
     true
 }
@@ -143,7 +149,7 @@ fn is_ahead(rows: &[LinkedRow], seats: &[usize], a: usize, b: usize) -> bool
     other_seat < seat || seat == other_seat && is_smaller(row.id, other.id)
 }
 
-/// The seat of a left, or the number in front of all seats.
+/// The seat of a left, or 0, which is in front of all seats.
 pub fn seat_of(seats: &[usize], left: Option<usize>) -> usize
     requires { IfSome left (λ at. at < length seats.now) }
     ensures { result ≡ seat_of seats.now left }

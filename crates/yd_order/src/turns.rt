@@ -14,39 +14,39 @@ pub fn turns_of(alloc: Global, rows: &[LinkedRow]) -> Result<Vec<usize>, NoMemor
     ensures { IfOk result (λ turns. Each (λ at. at < length rows.now) turns.items) }
 {
     let mut turns = Vec::new(alloc);
-    let mut taken = vec![in alloc; false; rows.len()]?;
+    let mut done = vec![in alloc; false; rows.len()]?;
     let mut due = Vec::new(alloc);
     for at in 0..rows.len() {
         due.push(at)?;
-        take_turns(rows, &mut taken, &mut due, &mut turns)?;
+        give_turns(rows, &mut done, &mut due, &mut turns)?;
     }
     Ok(turns)
 }
 
 /// Gives the rows that are due their turns, the last one first, and before it what it stands behind.
-fn take_turns(
+fn give_turns(
     rows: &[LinkedRow],
-    taken: &mut [bool],
+    done: &mut [bool],
     due: &mut Vec<usize>,
     turns: &mut Vec<usize>,
 ) -> Result<(), NoMemory>
     requires { Each (λ at. at < length rows.now) turns.old.items }
     ensures { OnOk result (Each (λ at. at < length rows.now) turns.new.items) }
 {
-    // Each row that is not taken is put back twice at most, so these steps are enough.
+    // Each row that has had no turn is put back twice at most, so these steps are enough.
     for _ in 0..rows.len().saturating_mul(4) {
         match due.pop() {
             None => return Ok(()),
-            Some(at) => take_turn(rows, taken, due, turns, at)?,
+            Some(at) => give_turn(rows, done, due, turns, at)?,
         }
     }
     Ok(())
 }
 
 /// Gives a row its turn, if none of its neighbours is to have one before.
-fn take_turn(
+fn give_turn(
     rows: &[LinkedRow],
-    taken: &mut [bool],
+    done: &mut [bool],
     due: &mut Vec<usize>,
     turns: &mut Vec<usize>,
     at: usize,
@@ -54,19 +54,19 @@ fn take_turn(
     requires { Each (λ at. at < length rows.now) turns.old.items }
     ensures { OnOk result (Each (λ at. at < length rows.now) turns.new.items) }
 {
-    if at >= rows.len() || is_taken(taken, at) {
+    if at >= rows.len() || is_done(done, at) {
         return Ok(());
     }
-    if let Some(first) = missing(taken, rows[at].left) {
+    if let Some(first) = missing(done, rows[at].left) {
         put_behind(due, at, first)?;
         return Ok(());
     }
-    if let Some(first) = missing(taken, rows[at].right) {
+    if let Some(first) = missing(done, rows[at].right) {
         put_behind(due, at, first)?;
         return Ok(());
     }
     turns.push(at)?;
-    take(taken, at);
+    mark(done, at);
     Ok(())
 }
 
@@ -78,22 +78,22 @@ fn put_behind(due: &mut Vec<usize>, at: usize, first: usize) -> Result<(), NoMem
 }
 
 /// The place of a neighbour that has had no turn.
-fn missing(taken: &[bool], link: Option<usize>) -> Option<usize> {
+fn missing(done: &[bool], link: Option<usize>) -> Option<usize> {
     let at = link?;
-    if is_taken(taken, at) {
+    if is_done(done, at) {
         return None;
     }
     Some(at)
 }
 
 /// The row at the place has had its turn, or there is none.
-fn is_taken(taken: &[bool], at: usize) -> bool {
-    at >= taken.len() || taken[at]
+fn is_done(done: &[bool], at: usize) -> bool {
+    at >= done.len() || done[at]
 }
 
 /// The row at the place has had its turn now.
-fn take(taken: &mut [bool], at: usize) {
-    if at < taken.len() {
-        taken[at] = true;
+fn mark(done: &mut [bool], at: usize) {
+    if at < done.len() {
+        done[at] = true;
     }
 }

@@ -10,4 +10,4 @@ loop-at-preserved c =
     c.in_ok-push.ensures.items
     ∙ ap₂ (λ (ids : List Id) (id : Id). ids ++ id ∷ []) c.loop-at.invariant
     (id_read c.args.rows.now _ _ (c.requires c.loop-at.at-index c.loop-at-test.true))
-    ∙ sym (map_more (id_at c.args.rows.now) c.args.order.now c.loop-at.at-index 0 c.loop-at-test.true)
+    ∙ sym (map_more (id_at c.args.rows.now) c.args.places.now c.loop-at.at-index 0 c.loop-at-test.true)

@@ -1,5 +1,5 @@
 use Rattle.yd_order.proofs.HeadLemmas.{HaveHeads}
 use Rattle.yd_order.proofs.heading.heads_of.Given as goal
 
-abbrev pub invariant-loop-number : goal.invariant-loop-number
-invariant-loop-number l = HaveHeads l.rows l.order l.seats l.heads.items l.number l.head
+abbrev pub invariant-loop-position : goal.invariant-loop-position
+invariant-loop-position l = HaveHeads l.rows l.proposal l.seats l.heads.items l.position l.head

@@ -1,6 +1,6 @@
 use Rattle.std.proofs.Common.{sym, ◌∙◌}
 use Rattle.yd_order.proofs.FillingLemmas.{lines_read, by_first, by_second, by_third, by_fourth, by_fifth, by_sixth}
-use Rattle.yd_order.proofs.filling.is_first.Goals as goal
+use Rattle.yd_order.proofs.filling.is_before.Goals as goal
 
 pub returns-then-reaches_left : goal.returns-then-reaches_left
 returns-then-reaches_left c =
