@@ -21,12 +21,12 @@ use Rattle.yd_meaning.specs.Order.{rows_of}
 use Rattle.yd_meaning.specs.Document.{operation_before, operations_at}
 use Rattle.yd_meaning.proofs.RowLemmas.{written_distinct}
 use Rattle.yd_meaning.proofs.DocumentLemmas.{found_before}
-use Rattle.yd_received.specs.declared.taken.Taken.{Taken}
-use Rattle.yd_received.specs.Taken.{units_of, list_at, operations_of_taken, IsTakenOf, AreTaken, held_in, covers}
+use Rattle.yd_received.specs.declared.entry.Entry.{Entry}
+use Rattle.yd_received.specs.Entries.{units_of, list_at, operations_of_taken, IsTakenOf, AreTaken, held_in, covers}
 use Rattle.yd_doc.specs.Lent.{Lent, lent, lent_from, lent_in, IsRow}
 use Rattle.yd_received.specs.Taking.{is_covered}
 use Rattle.yd_received.proofs.EntriesLemmas.{IsEntry}
-use Rattle.yd_doc.proofs.NamedLemmas.{named_decides}
+use Rattle.yd_state.proofs.NamedLemmas.{named_decides}
 use Rattle.yd_held.proofs.HeldUnitLemmas.{covers_less, less_covers, covers_unit}
 use Rattle.yd_received.proofs.WrittenLemmas.{held_written}
 use Rattle.yd_held.proofs.HeldEntryLemmas.{is_taken, entry_held, covers_held, id_held}
@@ -110,7 +110,7 @@ drop_here (suc k) (y ∷ ys) x e = drop_here k ys x e
 
 -- ---- operations
 
-entry_covers : (ts : List Taken) (t : Taken) (x : Id) → IsEntry t ts → covers t x ≡ true → is_covered ts x ≡ true
+entry_covers : (ts : List Entry) (t : Entry) (x : Id) → IsEntry t ts → covers t x ≡ true → is_covered ts x ≡ true
 entry_covers [] t x i e = absurd i
 entry_covers (s ∷ ss) t x (inl f) e = rw (ap (λ u. covers u x) (sym f) ∙ e) refl
 entry_covers (s ∷ ss) t x (inr i) e = or_right (covers s x) (is_covered ss x) (entry_covers ss t x i e)
@@ -153,12 +153,12 @@ lent_row held distinct deletes units deleted (suc n) k id (x ∷ order) holds ro
 
 -- ---- lemmas for callers
 
-module _ (runs : List Run) (taken : List Taken) (are : AreTaken runs taken) (id : Id) (held : has_operation (held_in runs taken) id ≡ true) where
+module _ (runs : List Run) (taken : List Entry) (are : AreTaken runs taken) (id : Id) (held : has_operation (held_in runs taken) id ≡ true) where
   -- a held id is one of those that were taken
   pub held_covered : is_covered taken id ≡ true
   held_covered = let (t, i, is, e) = id_held runs taken are.each are.in_order id held in entry_covers taken t id i e
 
-  module _ (t : Taken) (is_there : IsEntry t taken) (is_its : covers t id ≡ true) where
+  module _ (t : Entry) (is_there : IsEntry t taken) (is_its : covers t id ≡ true) where
     abbrev skipped : ℕ
     skipped = id.clock - t.id.clock
 
@@ -221,3 +221,10 @@ module _ (runs : List Run) (taken : List Taken) (are : AreTaken runs taken) (id 
         ∙ ap (λ z. lent_from id (is_named deletes id) (take n (drop (t.offset + skipped) (units_of z))) ++ lent_in runs taken deletes (drop n order)) (run_there d)
         ∙ ap (λ k. lent_from id (is_named deletes id) (take n (drop k (units_of_content (content_value (get_or runs t.run d).content)))) ++ lent_in runs taken deletes (drop n order)) (sym place)
         ∙ ap (λ b. lent_from id b (take n (drop offset (units_of_content (content_value (get_or runs t.run d).content)))) ++ lent_in runs taken deletes (drop n order)) (sym named)
+
+-- what is lent of the same runs and entries
+pub lent_of : (runs rs : List Run) (ts us : List Entry) (deletes : List Span) (order rest : List Id) (units : List Lent) → runs ≡ rs → ts ≡ us →
+    lent_in runs ts deletes order ≡ units ++ lent_in runs ts deletes rest → lent_in rs us deletes order ≡ units ++ lent_in rs us deletes rest
+lent_of runs rs ts us deletes order rest units e f same =
+    subst (λ vs. lent_in rs vs deletes order ≡ units ++ lent_in rs vs deletes rest) f
+    (subst (λ qs. lent_in qs ts deletes order ≡ units ++ lent_in qs ts deletes rest) e same)

@@ -4,14 +4,13 @@ use Rattle.yd_ids.specs.declared.id.Client.{Client}
 use Rattle.yd_ids.specs.Id.{IsClient}
 use Rattle.yd_meaning.specs.Received.{Received}
 use Rattle.yd_meaning.specs.Document.{Document}
-use Rattle.yd_doc.specs.declared.state.State.{State}
-use Rattle.yd_doc.specs.State.{received_in, document_in, IsSound}
+use Rattle.yd_state.specs.State.{StateValue, received_in, document_in, IsSound}
 
 -- whose replica it is, whether it is behind, and what it keeps
 pub record Kept : Type 0 where
   pub client : Client
   pub is_behind : Bool
-  pub state : State
+  pub state : StateValue
 
 -- what it received
 abbrev pub received_of : Kept → Received

@@ -5,13 +5,13 @@ use Rattle.yd_ids.specs.declared.id.Id.{Id}
 use Rattle.yd_ids.specs.declared.id.Span.{Span}
 use Rattle.yd_ops.specs.declared.runs.Run.{Run}
 use Rattle.yd_meaning.specs.Received.{has_operation}
-use Rattle.yd_received.specs.declared.taken.Taken.{Taken}
-use Rattle.yd_received.specs.Taken.{AreTaken, held_in}
+use Rattle.yd_received.specs.declared.entry.Entry.{Entry}
+use Rattle.yd_received.specs.Entries.{AreTaken, held_in}
 
 -- what is lent of a list: what a replica keeps for it, and the ids that are still to come
 pub record Lending : Type 0 where
   pub runs : List Run
-  pub taken : List Taken
+  pub taken : List Entry
   pub deletes : List Span
   pub order : List Id
 

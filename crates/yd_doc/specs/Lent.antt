@@ -11,9 +11,9 @@ use Rattle.yd_ops.specs.View.{content_value}
 use Rattle.yd_meaning.specs.Held.{is_named}
 use Rattle.yd_meaning.specs.Document.{Document, operations_at}
 use Rattle.yd_doc.specs.declared.listing.RunView.{RunView}
-use Rattle.yd_received.specs.declared.taken.Taken.{Taken}
+use Rattle.yd_received.specs.declared.entry.Entry.{Entry}
 use Rattle.yd_doc.specs.Lending.{Lending}
-use Rattle.yd_received.specs.Taken.{held_in}
+use Rattle.yd_received.specs.Entries.{held_in}
 
 -- a unit as it is lent: its id, what it holds, and whether it is deleted
 pub record Lent : Type 0 where
@@ -44,7 +44,7 @@ pub record IsWithin (view : RunView) : Type 0 where
   pub ids : IsClock (view.id.clock + view.len)
 
 -- the held units with these ids, in the order of the ids, as they are lent
-abbrev pub lent_in : List Run → List Taken → List Span → List Id → List Lent
+abbrev pub lent_in : List Run → List Entry → List Span → List Id → List Lent
 lent_in runs taken deletes order = map (lent (is_named deletes)) (operations_at (held_in runs taken) order)
 
 -- the units that are still to come

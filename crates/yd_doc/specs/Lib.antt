@@ -1,12 +1,5 @@
-pub mod Changing
-pub mod Deleting
 pub mod Kept
 pub mod Lending
 pub mod Lent
-pub mod Marks
-pub mod Ordered
 pub mod Replica
-pub mod Restoring
-pub mod State
-pub mod Stretches
 pub mod Waiting

@@ -12,18 +12,10 @@
 //! ```
 #![tactic(auto)]
 
-mod applying;
-mod changing;
-mod deleting;
 mod fault;
-mod finding;
 pub mod law;
 mod listing;
-mod novelty;
-mod ordering;
 mod replica;
-mod restoring;
-mod state;
 mod waiting;
 
 pub use fault::NoMemory;

@@ -7,13 +7,13 @@ ghost use Rattle.yd_ops.specs.Value.{len_of};
 ghost use Rattle.yd_ops.specs.View.{content_value};
 ghost use Rattle.yd_meaning.specs.Held.{is_named};
 ghost use Rattle.yd_meaning.specs.Received.{has_operation};
-ghost use Rattle.yd_received.specs.Taken.{AreTaken, held_in};
+ghost use Rattle.yd_received.specs.Received.{held_of};
 ghost use Rattle.yd_doc.specs.Lent.{units_left, units_of_view, lent_in, IsRow, IsWithin};
 
 use std::marker::Model;
 use yd_ids::{Id, IdSet};
-use yd_ops::{Content, Run};
-use yd_received::{Taken, entry_of};
+use yd_ops::Content;
+use yd_received::Received;
 
 /// Units of one client in a row, as they stand in a list, lent.
 #[derive(Clone, Copy)]
@@ -33,8 +33,7 @@ pub struct RunView<'a> {
 /// The units of a list in order, seen as those that are still to come.
 #[derive(Drop)]
 pub struct ListView<'a> {
-    pub(crate) runs: &'a [Run],
-    pub(crate) taken: &'a [Taken],
+    pub(crate) received: &'a Received,
     pub(crate) deletes: &'a IdSet,
     pub(crate) order: &'a [Id],
 }
@@ -50,15 +49,15 @@ impl<'a> Model for ListView<'a> {
     ghost coded = { Prim.hlevel (codes, json.the_row.coded, any_list.the_row.coded) };
 
     ghost view = { λ it. record {
-      runs = it.runs.now;
-      taken = it.taken.now;
+      runs = it.received.now.runs;
+      taken = it.received.now.entries;
       deletes = it.deletes.now;
       order = it.order.now;
     } };
 
     ghost invariant = { λ it. IsLending (record {
-      runs = it.runs.now;
-      taken = it.taken.now;
+      runs = it.received.now.runs;
+      taken = it.received.now.entries;
       deletes = it.deletes.now;
       order = it.order.now;
     }) };
@@ -75,30 +74,26 @@ impl<'a> ListView<'a> {
         ensures ended { IfNone result (units_left self.new ≡ []) }
     {
         let id = *self.order.first()?;
-        let view = view_at(self.runs, self.taken, self.deletes, self.order, id);
+        let view = view_at(self.received, self.deletes, self.order, id);
         self.order = &self.order[view.len as usize..];
         Some(view)
     }
 }
 
 /// The units of the ids from the front on that are in a row in one entry, all deleted or all live.
-fn view_at<'a>(
-    runs: &'a [Run],
-    taken: &[Taken],
-    deletes: &IdSet,
-    order: &[Id],
-    id: Id,
-) -> RunView<'a>
-    requires taken { AreTaken runs.now taken.now }
+fn view_at<'a>(received: &'a Received, deletes: &IdSet, order: &[Id], id: Id) -> RunView<'a>
     requires first { slice_get order.now 0 ≡ Some id }
-    requires held { has_operation (held_in runs.now taken.now) id ≡ true }
+    requires held { has_operation (held_of received.now) id ≡ true }
     ensures some { 0 < result.len }
     ensures bound { result.len ≤ length order.now }
     ensures within { IsWithin result }
-    ensures lends { lent_in runs.now taken.now deletes.now order.now ≡ units_of_view result
-        ++ lent_in runs.now taken.now deletes.now (drop result.len order.now) }
+    ensures lends { lent_in received.now.runs received.now.entries deletes.now order.now
+        ≡ units_of_view result ++ lent_in received.now.runs received.now.entries deletes.now
+        (drop result.len order.now) }
 {
-    let entry = taken[entry_of(taken, id)];
+    let runs = received.runs();
+    let taken = received.entries();
+    let entry = taken[received.entry_of(id)];
     let skipped = id.clock - entry.id.clock;
     let content = &runs[entry.run].content;
     let offset = place_in(content, entry.offset, skipped);

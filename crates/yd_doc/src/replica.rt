@@ -16,16 +16,14 @@ ghost use Rattle.yd_doc.specs.Lent.{lent_units, units_left};
 ghost use Rattle.yd_doc.specs.Replica.{BringsSomething, last_unit};
 ghost use Rattle.yd_doc.specs.Waiting.{counts_of};
 
-use crate::applying::apply_to;
 use crate::fault::NoMemory;
-use crate::finding::order_in;
 use crate::listing::ListView;
-use crate::state::State;
-use crate::waiting::{Waiting, count_waiting};
+use crate::waiting::Waiting;
 use std::alloc::Global;
 use std::marker::Model;
 use yd_ids::{Client, Id, IdSet, Vector};
 use yd_ops::{List, Update};
+use yd_state::State;
 
 /// What one client received, and what it holds of it. Contracts see what it received
 /// (`received_of`) and the document that it has (`own_document`). This is the one that the received
@@ -71,16 +69,7 @@ impl Replica {
         Ok(Replica {
             client,
             is_behind: false,
-            state: State {
-                runs: Vec::new(alloc),
-                taken: Vec::new(alloc),
-                named: IdSet::new(alloc),
-                vector: Vector::new(alloc),
-                lacks: Vec::new(alloc),
-                names: Vec::new(alloc),
-                orders: Vec::new(alloc),
-                deletes: IdSet::new(alloc),
-            },
+            state: State::new(alloc),
         })
     }
 
@@ -113,9 +102,10 @@ impl Replica {
         ensures shows { OnErr result (own_document self.new ≡ own_document self.old) }
         ensures behind { OnErr result (self.new.is_behind ≡ true) }
     {
-        let applied = apply_to(&mut self.state, update);
+        let applied = self.state.take(update);
         self.is_behind = applied.is_err();
-        applied
+        let brings = applied?;
+        Ok(brings)
     }
 
     /// An `apply` found no memory, and none has succeeded since.
@@ -130,14 +120,14 @@ impl Replica {
         ensures { (client : ℕ) → clock_of result.now client
             ≡ held_clock (held_set (received_of self.now).operations) client }
     {
-        &self.state.vector
+        self.state.vector()
     }
 
     /// The delete set: the held ids that are deleted.
     pub fn deletes(&self) -> &IdSet
         ensures { AreDeletedIn result.now (own_document self.now) }
     {
-        &self.state.deletes
+        self.state.deletes()
     }
 
     /// How much was received that is not held yet: units of runs, and deleted ids. It takes a
@@ -145,8 +135,10 @@ impl Replica {
     pub fn waiting(&self) -> Waiting
         ensures { counts_of result ≡ waiting_counts (received_of self.now) }
     {
-        let state = &self.state;
-        count_waiting(&state.runs, &state.taken, &state.vector, &state.named)
+        Waiting {
+            structs: self.state.waiting_units(),
+            deletes: self.state.waiting_ids(),
+        }
     }
 
     /// The units of a list in order, deleted ones too. It takes time with the number of lists, since
@@ -158,10 +150,9 @@ impl Replica {
         ensures whole { ArePaired (received_of self.now).operations }
     {
         ListView {
-            runs: &self.state.runs,
-            taken: &self.state.taken,
-            deletes: &self.state.deletes,
-            order: order_in(&self.state.names, &self.state.orders, list),
+            received: self.state.received(),
+            deletes: self.state.deletes(),
+            order: self.state.order(list),
         }
     }
 
@@ -170,8 +161,6 @@ impl Replica {
     pub fn last_of(&self, list: &List) -> Option<Id>
         ensures { result ≡ last_unit (own_document self.now) list.now }
     {
-        order_in(&self.state.names, &self.state.orders, list)
-            .last()
-            .copied()
+        self.state.order(list).last().copied()
     }
 }

@@ -7,7 +7,7 @@ use Rattle.yd_ops.specs.declared.lists.List.{List as DocList}
 use Rattle.yd_ops.specs.declared.runs.Run.{Run}
 use Rattle.yd_ops.specs.Valid.{CarriesList}
 use Rattle.yd_meaning.specs.Order.{list_or_root}
-use Rattle.yd_received.specs.Taken.{list_at}
+use Rattle.yd_received.specs.Entries.{list_at}
 
 -- units without origins are the first of their run, and carry its list
 pub carried_is : (runs : List Run) (at : ℕ) (run : Run) (offset : ℕ) (left right : Option Id) (name : DocList) → at < length runs → run ≡ get_or runs at run →

@@ -9,8 +9,8 @@ use Rattle.yd_ids.proofs.IdLemmas.{same_numbers}
 use Rattle.yd_ops.specs.declared.lists.List.{List as DocList}
 use Rattle.yd_ops.specs.declared.runs.Run.{Run}
 use Rattle.yd_ops.specs.Operation.{UnitContent, Operation, later_id, operations_from}
-use Rattle.yd_received.specs.declared.taken.Taken.{Taken}
-use Rattle.yd_received.specs.Taken.{units_of, operations_of_taken, covers, IsTakenOf}
+use Rattle.yd_received.specs.declared.entry.Entry.{Entry}
+use Rattle.yd_received.specs.Entries.{units_of, operations_of_taken, covers, IsTakenOf}
 use Rattle.yd_held.specs.Readiness.{first_list}
 
 abbrev pub id_at : Client → ℕ → Id
@@ -81,13 +81,13 @@ from_at id left right list (unit ∷ units) k le lt = elim (split k id.clock) [
 
 -- ---- the operations of an entry
 
-pub covers_less : (t : Taken) (x : Id) → covers t x ≡ true → (t.id.client.0 ≡ x.client.0) × (t.id.clock ≤ x.clock) × (x.clock < t.id.clock + t.len)
+pub covers_less : (t : Entry) (x : Id) → covers t x ≡ true → (t.id.client.0 ≡ x.client.0) × (t.id.clock ≤ x.clock) × (x.clock < t.id.clock + t.len)
 covers_less t x e = (grind (arith, tests), grind (arith, tests), grind (arith, tests))
 
-pub less_covers : (t : Taken) (x : Id) → t.id.client.0 ≡ x.client.0 → t.id.clock ≤ x.clock → x.clock < t.id.clock + t.len → covers t x ≡ true
+pub less_covers : (t : Entry) (x : Id) → t.id.client.0 ≡ x.client.0 → t.id.clock ≤ x.clock → x.clock < t.id.clock + t.len → covers t x ≡ true
 less_covers t x client low high = grind (arith, tests)
 
-module _ (runs : List Run) (t : Taken) (is_taken : IsTakenOf runs t) where
+module _ (runs : List Run) (t : Entry) (is_taken : IsTakenOf runs t) where
   abbrev units : List UnitContent
   units = take t.len (drop t.offset (units_of (slice_get runs t.run)))
 

@@ -1,6 +1,7 @@
 -- Holding one entry: that its origins have numbers, where its own number stands, and which lists stay.
-use Rattle.std.proofs.Common.{◌≡◌, ◌≢◌, ℕ, suc, ◌+◌, ◌<◌, ◌≤◌, Bool, true, false, List, [], ◌∷◌, ◌++◌, ◌⊎◌, inl, inr, Option, Some, None, length, filter, set, get_or, max, nat_eq, refl, sym, ap, ◌∙◌, subst, arith, tests, length-set}
+use Rattle.std.proofs.Common.{◌≡◌, ◌≢◌, ℕ, suc, ◌+◌, ◌<◌, ◌≤◌, Bool, true, false, List, [], ◌∷◌, ◌++◌, ◌⊎◌, inl, inr, Option, Some, None, length, filter, set, get_or, max, nat_eq, refl, sym, ap, ◌∙◌, subst, arith, tests}
 use Rattle.std.specs.Prelude.{HoldsAt, slice_get, is_some, IfSome}
+use Rattle.std.proofs.lemmas.List.{get_or_default}
 use Rattle.std.proofs.lemmas.Option.{slice_get_read, slice_get_within}
 use Rattle.yd_ids.specs.declared.id.Client.{Client}
 use Rattle.yd_ids.specs.declared.id.Id.{Id}
@@ -9,13 +10,16 @@ use Rattle.yd_ops.specs.declared.lists.List.{List as DocList}
 use Rattle.yd_ops.specs.declared.runs.Run.{Run}
 use Rattle.yd_meaning.specs.Received.{has_operation}
 use Rattle.yd_meaning.specs.Order.{list_or_root, list_of}
-use Rattle.yd_received.specs.declared.taken.Taken.{Taken}
-use Rattle.yd_received.specs.Taken.{held_in}
+use Rattle.yd_received.specs.declared.entry.Entry.{Entry}
+use Rattle.yd_received.specs.Entries.{held_in, IsTakenOf}
 use Rattle.yd_held.specs.Numbered.{number_of, is_in_list}
 use Rattle.yd_held.specs.Numbering.{NumbersList, NumbersEntry}
 use Rattle.yd_held.specs.Readiness.{first_list, is_ready}
-use Rattle.yd_held.specs.Holding.{IsHolding, HoldsMore, HoldsEntry, SetsMark, with_number, count_waiting}
-use Rattle.yd_held.proofs.NumberingLemmas.{filter-set, filter-grows, fewer_wait, operations-number}
+use Rattle.yd_received.specs.Received.{ReceivedValue, GetsNumber, with_number}
+use Rattle.yd_received.proofs.EntriesLemmas.{each_entry}
+use Rattle.yd_held.specs.Holding.{IsHolding, HoldsMore, HoldsEntry, SetsMark, count_waiting}
+use Rattle.yd_received.proofs.ChangeLemmas.{some_is, entry_got, filter-set, filter-grows, operations-number}
+use Rattle.yd_held.proofs.NumberingLemmas.{fewer_wait}
 use Rattle.yd_held.proofs.HoldingLemmas.{ready_is}
 use Rattle.yd_held.proofs.HoldListLemmas.{numbered_id}
 use Rattle.yd_held.proofs.NumberedLemmas.{got_before, no_number, holding_after}
@@ -30,10 +34,10 @@ own_number n = grind (arith, tests)
 other_number : (m n : ℕ) → m ≢ n → nat_eq n m ≡ false
 other_number m n other = grind (arith, tests)
 
-without_number : (t : Taken) (m : ℕ) → t.list ≡ None → is_in_list m t ≡ false
+without_number : (t : Entry) (m : ℕ) → t.list ≡ None → is_in_list m t ≡ false
 without_number t m e = rw e refl
 
-some_number : (P : Id → Type 0) (ts : List Taken) (z : Option Id) → ((y : Id) → P y → is_some (number_of ts y) ≡ true) → ((y : Id) → z ≡ Some y → P y) →
+some_number : (P : Id → Type 0) (ts : List Entry) (z : Option Id) → ((y : Id) → P y → is_some (number_of ts y) ≡ true) → ((y : Id) → z ≡ Some y → P y) →
     IfSome z (λ y. is_some (number_of ts y) ≡ true)
 some_number P ts None f g = tt
 some_number P ts (Some y) f g = f y (g y refl)
@@ -42,7 +46,7 @@ length-more : (xs : List DocList) (x : DocList) → length (xs ++ x ∷ []) ≡ 
 length-more [] x = refl
 length-more (y ∷ ys) x = ap suc (length-more ys x)
 
-module _ (runs : List Run) (ts : List Taken) (vector : List (Client × ℕ)) (names : List DocList) (at : ℕ) (t : Taken) (s : Setting runs ts vector names at t) where
+module _ (runs : List Run) (ts : List Entry) (vector : List (Client × ℕ)) (names : List DocList) (at : ℕ) (t : Entry) (s : Setting runs ts vector names at t) where
   -- a held id has a number, which is that of a name
   held_number : (y : Id) → has_operation (held_in runs ts) y ≡ true → is_some (number_of ts y) ≡ true
   held_number y held = let (n, number, got) = numbered_id runs ts vector names s.holding y held in ap (λ z. is_some z) number
@@ -84,72 +88,85 @@ module _ (runs : List Run) (ts : List Taken) (vector : List (Client × ℕ)) (na
 
 -- ---- lemmas for callers, of an entry that is ready at its place
 
-module _ (runs : List Run) (ts seen : List Taken) (vector : List (Client × ℕ)) (names : List DocList) (at : ℕ) (t : Taken) (same : seen ≡ ts)
-    (h : IsHolding runs ts vector names) (lt : at < length ts) (e : t ≡ get_or ts at t) (ready : HoldsAt (λ u. is_ready vector runs u ≡ true) ts at) where
+module _ (r : ReceivedValue) (seen : List Entry) (vector : List (Client × ℕ)) (names : List DocList) (at : ℕ) (d : Entry) (same : seen ≡ r.entries)
+    (h : IsHolding r.runs r.entries vector names) (lt : at < length r.entries)
+    (ready : HoldsAt (λ u. is_ready vector r.runs u ≡ true) r.entries at) where
+  abbrev runs : List Run
+  runs = r.runs
+
+  abbrev ts : List Entry
+  ts = r.entries
+
+  abbrev t : Entry
+  t = get_or seen at d
+
   s : Setting runs ts vector names at t
   s = record {
     holding = h;
-    got = slice_get_read ts (length ts) at t refl lt e;
-    ready = ready_is vector runs t (subst (λ u. is_ready vector runs u ≡ true) (sym e) (ready t));
+    got = slice_get_read ts (length ts) at t refl lt here;
+    ready = ready_is vector runs t (subst (λ u. is_ready vector runs u ≡ true) (sym here) (ready t));
   }
+    where
+      here : t ≡ get_or ts at t
+      here = ap (λ us. get_or us at d) same ∙ get_or_default ts at d t lt
 
   -- its origins have numbers
-  pub left_numbered : IfSome t.left (λ y. is_some (number_of seen y) ≡ true)
-  left_numbered = rw same (some_number (λ y. has_operation (held_in runs ts) y ≡ true) ts t.left (held_number runs ts vector names at t s)
-      (left_held runs ts vector names at t s))
+  pub left_numbered : IfSome t.left (λ y. is_some (number_of ts y) ≡ true)
+  left_numbered = some_number (λ y. has_operation (held_in runs ts) y ≡ true) ts t.left (held_number runs ts vector names at t s) (left_held runs ts vector names at t s)
 
-  pub right_numbered : IfSome t.right (λ y. is_some (number_of seen y) ≡ true)
-  right_numbered = rw same (some_number (λ y. has_operation (held_in runs ts) y ≡ true) ts t.right (held_number runs ts vector names at t s)
-      (right_held runs ts vector names at t s))
+  pub right_numbered : IfSome t.right (λ y. is_some (number_of ts y) ≡ true)
+  right_numbered = some_number (λ y. has_operation (held_in runs ts) y ≡ true) ts t.right (held_number runs ts vector names at t s) (right_held runs ts vector names at t s)
 
-  pub fewer_waiting : (n : ℕ) → count_waiting (set ts at (with_number t n)) < count_waiting ts
-  fewer_waiting n = fewer_wait t n s.ready.waits ts at s.got
+  pub is_entry : IsTakenOf runs t
+  is_entry = each_entry (IsTakenOf runs) ts h.in_order.each t (entry_got ts at t s.got)
 
   -- the list with its number has one entry more
   grows_here : (n : ℕ) → length (filter (is_in_list n) (set ts at (with_number t n))) ≡ suc (length (filter (is_in_list n) ts))
   grows_here n = filter-grows t (with_number t n) (is_in_list n) (without_number t n (no_number t.list s.ready.waits)) (own_number n) ts at s.got
 
-  pub holds_entry : (raised : List (Client × ℕ)) (n : ℕ) → RaisesOnly vector raised t.id.client.0 (t.id.clock + t.len) →
-      HoldsEntry at ts (set ts at (with_number t n)) vector raised
-  holds_entry raised n raises = record { entry = t; number = n; there = s.got; placed = refl; raises = raises }
+  pub number_within : (more : List DocList) (n : ℕ) → NumbersEntry runs ts names more t n → n ≤ length names
+  number_within more n known = omega (arith, (number_place runs ts vector names at t s more n known).0)
 
-  module _ (more : List DocList) (n : ℕ) (k : NumbersEntry runs seen names more t n) where
-    known : NumbersEntry runs ts names more t n
-    known = subst (λ us. NumbersEntry runs us names more t n) same k
+  module _ (n : ℕ) (new : ReceivedValue) (g : GetsNumber at n r new) where
+    placed_is : new ≡ record { runs = runs; entries = set ts at (with_number t n) }
+    placed_is = λ i. record { runs = g.runs_are i; entries = entries i }
+      where
+        entries : new.entries ≡ set ts at (with_number t n)
+        entries = g.placed ∙ ap (λ u. set ts at (with_number u n)) (some_is (sym g.there ∙ s.got))
 
-    pub number_within : n ≤ length names
-    number_within = omega (arith, (number_place runs ts vector names at t s more n known).0)
+    pub fewer_waiting : count_waiting new.entries < count_waiting ts
+    fewer_waiting = subst (λ (q : ReceivedValue). count_waiting q.entries < count_waiting ts) (sym placed_is) (fewer_wait t n s.ready.waits ts at s.got)
 
-    pub holding_then : (raised : List (Client × ℕ)) → RaisesOnly vector raised t.id.client.0 (t.id.clock + t.len) →
-        IsHolding runs (set ts at (with_number t n)) raised more
-    holding_then raised raises = holding_after runs ts vector names at t s n raised raises more known
+    pub holds_entry : (raised : List (Client × ℕ)) → RaisesOnly vector raised t.id.client.0 (t.id.clock + t.len) → HoldsEntry at ts new.entries vector raised
+    holds_entry raised raises = record { entry = t; number = n; there = s.got; placed = ap (λ (q : ReceivedValue). q.entries) placed_is; raises = raises }
 
-    -- more is held, and the mark tells of the list
-    pub holds_more : (marks marked : List Bool) → length marks ≡ length names → SetsMark n marks marked →
-        HoldsMore runs ts (set ts at (with_number t n)) marks marked (length more)
-    holds_more marks marked each m = record {
-      operations = operations-number t n runs ts at s.got;
-      entries = length-set ts at (with_number t n);
-      each = omega (arith, m.each, (number_place runs ts vector names at t s more n known).1, each);
-      kept = λ j f. let (other, unmarked) = m.kept j f in
-          (unmarked, filter-set t (with_number t n) (is_in_list j) (without_number t j (no_number t.list s.ready.waits)) (other_number j n other) ts at s.got);
-      more = λ j f. elim (m.set j f) [
-        | inl same ↦ inr (rw same (omega (arith, grows_here n)))
-        | inr marked ↦ inl marked
-      ];
-      no_less = λ j. elim (same_or_other j n) [
-        | inl same ↦ rw same (omega (arith, grows_here n))
-        | inr other ↦ omega (arith, ap length (filter-set t (with_number t n) (is_in_list j) (without_number t j (no_number t.list s.ready.waits)) (other_number j n other) ts at s.got))
-      ];
-      fewer = omega (arith, fewer_waiting n);
-    }
+    module _ (more : List DocList) (known : NumbersEntry runs ts names more t n) where
+      pub holding_then : (raised : List (Client × ℕ)) → RaisesOnly vector raised t.id.client.0 (t.id.clock + t.len) → IsHolding new.runs new.entries raised more
+      holding_then raised raises = subst (λ (q : ReceivedValue). IsHolding q.runs q.entries raised more) (sym placed_is)
+          (holding_after runs ts vector names at t s n raised raises more known)
+
+      -- more is held, and the mark tells of the list
+      pub holds_more : (marks marked : List Bool) → length marks ≡ length names → SetsMark n marks marked → HoldsMore r new marks marked (length more)
+      holds_more marks marked each m = subst (λ (q : ReceivedValue). HoldsMore r q marks marked (length more)) (sym placed_is) (record {
+        operations = operations-number t n runs ts at s.got;
+        each = omega (arith, m.each, (number_place runs ts vector names at t s more n known).1, each);
+        kept = λ j f. let (other, unmarked) = m.kept j f in
+            (unmarked, filter-set t (with_number t n) (is_in_list j) (without_number t j (no_number t.list s.ready.waits)) (other_number j n other) ts at s.got);
+        more = λ j f. elim (m.set j f) [
+          | inl same ↦ inr (rw same (omega (arith, grows_here n)))
+          | inr marked ↦ inl marked
+        ];
+        no_less = λ j. elim (same_or_other j n) [
+          | inl same ↦ rw same (omega (arith, grows_here n))
+          | inr other ↦ omega (arith, ap length (filter-set t (with_number t n) (is_in_list j) (without_number t j (no_number t.list s.ready.waits)) (other_number j n other) ts at s.got))
+        ];
+      })
 
 -- ---- one step after another
 
-pub more_then : (runs : List Run) (a b c : List Taken) (marks marked last : List Bool) (m n : ℕ) → HoldsMore runs a b marks marked m → HoldsMore runs b c marked last n → HoldsMore runs a c marks last n
-more_then runs a b c marks marked last m n first then = record {
+pub more_then : (a b c : ReceivedValue) (marks marked last : List Bool) (m n : ℕ) → HoldsMore a b marks marked m → HoldsMore b c marked last n → HoldsMore a c marks last n
+more_then a b c marks marked last m n first then = record {
   operations = then.operations ∙ first.operations;
-  entries = then.entries ∙ first.entries;
   each = then.each;
   kept = λ j e. let (f, same) = then.kept j e in let (g, same_first) = first.kept j f in (g, same ∙ same_first);
   more = λ j e. elim (then.more j e) [
@@ -157,5 +174,4 @@ more_then runs a b c marks marked last m n first then = record {
     | inr f ↦ inr (omega (arith, f, first.no_less j))
   ];
   no_less = λ j. omega (arith, first.no_less j, then.no_less j);
-  fewer = omega (arith, first.fewer, then.fewer);
 }

@@ -17,8 +17,8 @@ use Rattle.yd_meaning.proofs.OneOfLemmas.{operation_with}
 use Rattle.yd_meaning.proofs.NeedLemmas.{left_needed, right_needed}
 use Rattle.yd_meaning.proofs.HeldLemmas.{held_least}
 use Rattle.yd_meaning.proofs.HeldListLemmas.{list_of-one, list_of-left}
-use Rattle.yd_received.specs.declared.taken.Taken.{Taken}
-use Rattle.yd_received.specs.Taken.{operations_of_taken, held_in, covers, IsTakenOf}
+use Rattle.yd_received.specs.declared.entry.Entry.{Entry}
+use Rattle.yd_received.specs.Entries.{operations_of_taken, held_in, covers, IsTakenOf}
 use Rattle.yd_held.specs.Numbered.{number_of}
 use Rattle.yd_held.specs.Readiness.{first_list}
 use Rattle.yd_held.specs.Holding.{IsHolding}
@@ -50,7 +50,7 @@ module _ (os more : List Operation) (own : os ≡ held_set os) (t : IsTable (row
 
 -- ---- the units of an entry
 
-module _ (os : List Operation) (table : IsTable (rows_of os)) (runs : List Run) (t : Taken) (k : IsTakenOf runs t)
+module _ (os : List Operation) (table : IsTable (rows_of os)) (runs : List Run) (t : Entry) (k : IsTakenOf runs t)
     (all : (o : Operation) → IsOneOf o (operations_of_taken runs t) → IsOneOf o os) where
   list_at_clock : (j clock : ℕ) → clock ≡ t.id.clock + j → clock < t.id.clock + t.len → list_of os (id_at t.id.client clock) ≡ list_of os t.id
   list_at_clock zero clock e lt = ap (list_of os) (same_numbers (id_at t.id.client clock) t.id refl (omega (arith, e)))
@@ -97,7 +97,7 @@ has_number (Some n) e = (n, refl)
 pub number_there : (P : ℕ → Type 0) (z : Option ℕ) (n : ℕ) → z ≡ Some n → IfSome z P → P n
 number_there P z n e f = subst (λ w. IfSome w P) e f
 
-module _ (runs : List Run) (ts : List Taken) (vector : List (Client × ℕ)) (names : List DocList) (h : IsHolding runs ts vector names) where
+module _ (runs : List Run) (ts : List Entry) (vector : List (Client × ℕ)) (names : List DocList) (h : IsHolding runs ts vector names) where
   -- the name of its number is its list
   pub numbered_id : (x : Id) → has_operation (held_in runs ts) x ≡ true →
       (n : ℕ) × (number_of ts x ≡ Some n) × (slice_get names n ≡ Some (list_of (held_in runs ts) x))
@@ -109,6 +109,6 @@ module _ (runs : List Run) (ts : List Taken) (vector : List (Client × ℕ)) (na
         n,
         number_of-one ts h.in_order.in_order t x i f ∙ g,
         number_there (λ m. slice_get names m ≡ Some (list_of (held_in runs ts) t.id)) t.list n g
-            (each_entry (λ (u : Taken). IfSome u.list (λ m. slice_get names m ≡ Some (list_of (held_in runs ts) u.id))) ts h.numbered.named t i)
+            (each_entry (λ (u : Entry). IfSome u.list (λ m. slice_get names m ≡ Some (list_of (held_in runs ts) u.id))) ts h.numbered.named t i)
             ∙ ap (λ list. Some list) (sym same),
       )

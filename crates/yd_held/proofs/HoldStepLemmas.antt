@@ -15,20 +15,21 @@ use Rattle.yd_meaning.specs.Held.{needs, held_set, held_clock}
 use Rattle.yd_meaning.proofs.OneOfLemmas.{operation_with, id_is_there, id_there, ids_stay}
 use Rattle.yd_meaning.proofs.HeldLemmas.{held_set-part}
 use Rattle.yd_meaning.proofs.ClockLemmas.{AreReached, AreReady, AreFinal, raise_reached, below_held, held_clock-clocks}
-use Rattle.yd_received.specs.declared.taken.Taken.{Taken}
-use Rattle.yd_received.specs.Taken.{operations_of_taken, operations_in, held_in, is_held, IsTakenOf, AreInOrder, AreTaken}
+use Rattle.yd_received.specs.declared.entry.Entry.{Entry}
+use Rattle.yd_received.specs.Entries.{operations_of_taken, operations_in, held_in, is_held, IsTakenOf, AreInOrder, AreTaken}
 use Rattle.yd_held.specs.Numbered.{IsVectorOf}
 use Rattle.yd_held.specs.Readiness.{IsOriginOf, first_list}
-use Rattle.yd_held.specs.Holding.{IsHolding, with_number}
+use Rattle.yd_received.specs.Received.{with_number}
+use Rattle.yd_held.specs.Holding.{IsHolding}
 use Rattle.yd_received.proofs.EntriesLemmas.{IsEntry}
 use Rattle.yd_held.proofs.HeldUnitLemmas.{covers_less, less_covers, covers_unit, unit_covers}
 use Rattle.yd_received.proofs.WrittenLemmas.{taken_written, held_written}
 use Rattle.yd_held.proofs.HeldEntryLemmas.{is_taken, held_entry, entry_held, held_received, one_of_entry}
-use Rattle.yd_held.proofs.NumberingLemmas.{entry_got, set_has_new, set_has, set_is, each_taken-number, order-number, operations-number}
+use Rattle.yd_received.proofs.ChangeLemmas.{entry_got, set_has_new, set_has, set_is, each_taken-number, order-number, operations-number}
 use Rattle.yd_held.proofs.HoldingLemmas.{unit_needs, IsReady, tells, has_needs, held_of_all, reached}
 
 -- what is known where an entry is held
-pub record Setting (runs : List Run) (ts : List Taken) (vector : List (Client × ℕ)) (names : List DocList) (at : ℕ) (t : Taken) : Type 0 where
+pub record Setting (runs : List Run) (ts : List Entry) (vector : List (Client × ℕ)) (names : List DocList) (at : ℕ) (t : Entry) : Type 0 where
   pub holding : IsHolding runs ts vector names
   pub got : slice_get ts at ≡ Some t
   pub ready : IsReady vector runs t
@@ -36,9 +37,9 @@ pub record Setting (runs : List Run) (ts : List Taken) (vector : List (Client ×
 same_or_other : (m n : ℕ) → (m ≡ n) ⊎ (m ≢ n)
 same_or_other m n = grind arith
 
-module _ (runs : List Run) (ts : List Taken) (vector : List (Client × ℕ)) (names : List DocList) (at : ℕ) (t : Taken)
+module _ (runs : List Run) (ts : List Entry) (vector : List (Client × ℕ)) (names : List DocList) (at : ℕ) (t : Entry)
     (s : Setting runs ts vector names at t) (n : ℕ) where
-  abbrev pub numbered : List Taken
+  abbrev pub numbered : List Entry
   numbered = set ts at (with_number t n)
 
   abbrev received : List Operation

@@ -20,9 +20,10 @@ use Rattle.yd_meaning.proofs.HeldLemmas.{held_needs, held_grows}
 use Rattle.yd_meaning.proofs.HeldTableLemmas.{held_is_table}
 use Rattle.yd_meaning.proofs.VectorLemmas.{held_below}
 use Rattle.yd_meaning.proofs.ClockLemmas.{AreReached}
-use Rattle.yd_received.specs.declared.taken.Taken.{Taken}
-use Rattle.yd_received.specs.Taken.{operations_of_taken, operations_in, held_in, is_held, IsTakenOf}
-use Rattle.yd_held.specs.Readiness.{IsOriginOf, is_below, is_none_or_below, first_list, is_ready}
+use Rattle.yd_received.specs.declared.entry.Entry.{Entry}
+use Rattle.yd_received.specs.Entries.{operations_of_taken, operations_in, held_in, is_held, IsTakenOf}
+use Rattle.yd_received.specs.Received.{is_below}
+use Rattle.yd_held.specs.Readiness.{IsOriginOf, is_none_or_below, first_list, is_ready}
 use Rattle.yd_held.specs.Holding.{IsHolding}
 use Rattle.yd_received.proofs.WrittenLemmas.{held_written}
 use Rattle.yd_held.proofs.HeldEntryLemmas.{held_received}
@@ -56,7 +57,7 @@ some_is : {a b : Id} → ◌≡◌ {A = Option Id} (Some a) (Some b) → a ≡ b
 some_is e = cc
 
 -- an operation of an entry needs smaller clocks of its client, and what the first needs
-pub unit_needs : (runs : List Run) (t : Taken) → IsTakenOf runs t → (o : Operation) → IsOneOf o (operations_of_taken runs t) → (x : Id) → IsIn x (needs o) →
+pub unit_needs : (runs : List Run) (t : Entry) → IsTakenOf runs t → (o : Operation) → IsOneOf o (operations_of_taken runs t) → (x : Id) → IsIn x (needs o) →
     HasSmallerClock x o.id ⊎ IsOriginOf x t.left t.right (first_list runs t)
 unit_needs runs t k o i x j = elim (need_cases o x j) [
   | inl smaller ↦ inl smaller
@@ -93,7 +94,7 @@ some_below vector None f = refl
 some_below vector (Some x) f = less_below vector x (f x refl)
 
 -- the entry waits, begins at its client's clock, and has what its first unit needs below the vector
-pub record IsReady (vector : List (Client × ℕ)) (runs : List Run) (t : Taken) : Type 0 where
+pub record IsReady (vector : List (Client × ℕ)) (runs : List Run) (t : Entry) : Type 0 where
   pub waits : is_held t ≡ false
   pub begins : t.id.clock ≡ clock_of vector t.id.client.0
   pub origins : (x : Id) → IsOriginOf x t.left t.right (first_list runs t) → x.clock < clock_of vector x.client.0
@@ -105,7 +106,7 @@ waits_is : (b : Bool) → not b ≡ true → b ≡ false
 waits_is false e = refl
 waits_is true e = absurd (true≢false (sym e))
 
-pub ready_is : (vector : List (Client × ℕ)) (runs : List Run) (t : Taken) → is_ready vector runs t ≡ true → IsReady vector runs t
+pub ready_is : (vector : List (Client × ℕ)) (runs : List Run) (t : Entry) → is_ready vector runs t ≡ true → IsReady vector runs t
 ready_is vector runs t e =
     let (waits, a) = both_hold (not (is_held t)) (nat_eq t.id.clock (clock_of vector t.id.client.0) && (is_none_or_below vector t.left
     && (is_none_or_below vector t.right && is_none_or_below vector (item_carried (first_list runs t))))) e in
@@ -125,7 +126,7 @@ ready_is vector runs t e =
 
 -- ---- lemmas for callers
 
-module _ (runs : List Run) (ts : List Taken) (vector : List (Client × ℕ)) (names : List DocList) (h : IsHolding runs ts vector names) where
+module _ (runs : List Run) (ts : List Entry) (vector : List (Client × ℕ)) (names : List DocList) (h : IsHolding runs ts vector names) where
   abbrev held : List Operation
   held = held_in runs ts
 

@@ -5,8 +5,8 @@ use Rattle.yd_words.specs.Each.{Each}
 use Rattle.yd_words.proofs.EachLemmas.{each_weaker}
 use Rattle.yd_ids.specs.declared.id.Id.{Id}
 use Rattle.yd_ids.proofs.IdLemmas.{same_numbers}
-use Rattle.yd_received.specs.declared.taken.Taken.{Taken}
-use Rattle.yd_received.specs.Taken.{covers}
+use Rattle.yd_received.specs.declared.entry.Entry.{Entry}
+use Rattle.yd_received.specs.Entries.{covers}
 use Rattle.yd_held.specs.declared.noting.Lack.{Lack}
 use Rattle.yd_held.specs.Noted.{StandsIn, stands_before, same_lack, first_lack, AreSorted, with_lack}
 
@@ -123,7 +123,7 @@ sorted_kept test (l ∷ ls) sorted = go (test l) (sorted_kept test ls sorted.1)
     go true rest = (each_kept (λ m. stands_before l m ≡ true) test ls sorted.0, rest)
     go false rest = rest
 
-module _ (held : Taken) where
+module _ (held : Entry) where
   -- the id behind the units
   abbrev pub end_of : Id
   end_of = record { client = held.id.client; clock = held.id.clock + held.len }

@@ -1,3 +1,4 @@
+pub mod BackLemmas
 pub mod CarriedLemmas
 pub mod HeldEntryLemmas
 pub mod HeldUnitLemmas
@@ -5,6 +6,7 @@ pub mod HoldAtLemmas
 pub mod HoldListLemmas
 pub mod HoldStepLemmas
 pub mod HoldingLemmas
+pub mod KeptLemmas
 pub mod LackLemmas
 pub mod NamingLemmas
 pub mod NotedLemmas

@@ -8,17 +8,18 @@ use Rattle.yd_ids.specs.declared.id.Id.{Id}
 use Rattle.yd_ids.specs.Vector.{clock_of}
 use Rattle.yd_ids.proofs.IdLemmas.{same_numbers}
 use Rattle.yd_ops.specs.declared.runs.Run.{Run}
-use Rattle.yd_received.specs.declared.taken.Taken.{Taken}
-use Rattle.yd_received.specs.Taken.{covers, is_held, IsTakenOf, AreInOrder}
+use Rattle.yd_received.specs.declared.entry.Entry.{Entry}
+use Rattle.yd_received.specs.Entries.{covers, is_held, IsTakenOf, AreInOrder}
 use Rattle.yd_received.proofs.EntriesLemmas.{IsEntry, each_entry, entry_each, one_entry}
 use Rattle.yd_meaning.specs.Held.{item_carried}
 use Rattle.yd_held.specs.declared.noting.Lack.{Lack}
-use Rattle.yd_held.specs.Readiness.{IsOriginOf, is_below, is_none_or_below, missing_of, first_of, lack_of, first_list, is_ready}
+use Rattle.yd_received.specs.Received.{is_below, with_number}
+use Rattle.yd_held.specs.Readiness.{IsOriginOf, is_none_or_below, missing_of, first_of, lack_of, first_list, is_ready}
 use Rattle.yd_held.specs.Noted.{StandsIn, AreSorted, with_lack, Wakes, IsNoted, IsNotedOrTried, AreNoted, AreMissing}
-use Rattle.yd_held.specs.Holding.{with_number, HoldsEntry}
+use Rattle.yd_held.specs.Holding.{HoldsEntry}
 use Rattle.yd_held.specs.Trying.{IsNext}
 use Rattle.yd_held.proofs.HeldUnitLemmas.{covers_first, less_covers}
-use Rattle.yd_held.proofs.NumberingLemmas.{set_is}
+use Rattle.yd_received.proofs.ChangeLemmas.{set_is}
 use Rattle.yd_held.proofs.LackLemmas.{kept_in, sorted_kept, with_has, with_stays, with_sorted, each_with}
 
 -- ---- standing in a list
@@ -75,7 +76,7 @@ none_missing vector (Some y) e = go (is_below vector y) e
     go true f = refl
     go false f = absurd cc
 
-module _ (vector : List (Client × ℕ)) (runs : List Run) (t : Taken) where
+module _ (vector : List (Client × ℕ)) (runs : List Run) (t : Entry) where
   abbrev lefts : Option Id
   lefts = missing_of vector t.left
 
@@ -110,7 +111,7 @@ module _ (vector : List (Client × ℕ)) (runs : List Run) (t : Taken) where
           (hold_both _ _ (none_missing vector t.left f) (hold_both _ _ (none_missing vector t.right g) (none_missing vector (item_carried (first_list runs t)) h))))
 
 -- what is noted of them is missing
-pub missing_with : (vector : List (Client × ℕ)) (runs : List Run) (t : Taken) (x : Id) (client : Client) (lacks : List Lack) → lack_of vector runs t ≡ Some x →
+pub missing_with : (vector : List (Client × ℕ)) (runs : List Run) (t : Entry) (x : Id) (client : Client) (lacks : List Lack) → lack_of vector runs t ≡ Some x →
     AreMissing vector lacks → AreMissing vector (with_lack (record { id = x; client = client }) lacks)
 missing_with vector runs t x client lacks lacked missing =
     each_with (record { id = x; client = client }) (λ (l : Lack). is_below vector l.id ≡ false) lacks missing (lack_is vector runs t x lacked).1
@@ -118,7 +119,7 @@ missing_with vector runs t x client lacks lacked missing =
 -- ---- the clients that are to be tried
 
 -- only which clients are to be tried counts
-pub noted_among : (vector : List (Client × ℕ)) (runs : List Run) (lacks : List Lack) (tries more : List Client) (ts : List Taken) →
+pub noted_among : (vector : List (Client × ℕ)) (runs : List Run) (lacks : List Lack) (tries more : List Client) (ts : List Entry) →
     ((client : Client) → StandsIn client tries → StandsIn client more) → AreNoted vector runs lacks tries ts → AreNoted vector runs lacks more ts
 noted_among vector runs lacks tries more ts stay noted = record {
   sorted = noted.sorted;
@@ -129,7 +130,7 @@ noted_among vector runs lacks tries more ts stay noted = record {
 }
 
 -- a client without next units need not be tried
-pub noted_without : (vector : List (Client × ℕ)) (runs : List Run) (lacks : List Lack) (client : Client) (tries : List Client) (ts : List Taken) →
+pub noted_without : (vector : List (Client × ℕ)) (runs : List Run) (lacks : List Lack) (client : Client) (tries : List Client) (ts : List Entry) →
     Each (λ t. IsNext vector client t → ⊥) ts → AreNoted vector runs lacks (client ∷ tries) ts → AreNoted vector runs lacks tries ts
 noted_without vector runs lacks client tries ts none noted = record {
   sorted = noted.sorted;
@@ -141,8 +142,8 @@ noted_without vector runs lacks client tries ts none noted = record {
 }
 
 -- nor one whose next units lack something, once that is noted
-pub noted_more : (vector : List (Client × ℕ)) (runs : List Run) (lacks : List Lack) (client : Client) (tries : List Client) (ts : List Taken) →
-    Each (IsTakenOf runs) ts → AreInOrder ts → (t : Taken) → IsEntry t ts → IsNext vector client t → (x : Id) → lack_of vector runs t ≡ Some x →
+pub noted_more : (vector : List (Client × ℕ)) (runs : List Run) (lacks : List Lack) (client : Client) (tries : List Client) (ts : List Entry) →
+    Each (IsTakenOf runs) ts → AreInOrder ts → (t : Entry) → IsEntry t ts → IsNext vector client t → (x : Id) → lack_of vector runs t ≡ Some x →
     AreNoted vector runs lacks (client ∷ tries) ts → AreNoted vector runs (with_lack (record { id = x; client = client }) lacks) tries ts
 noted_more vector runs lacks client tries ts each order t here next x lacked noted = record {
   sorted = with_sorted lack lacks noted.sorted;
@@ -157,7 +158,7 @@ noted_more vector runs lacks client tries ts each order t here next x lacked not
     lack : Lack
     lack = record { id = x; client = client }
 
-    one : (s : Taken) → IsEntry s ts → s.id ≡ t.id → s ≡ t
+    one : (s : Entry) → IsEntry s ts → s.id ≡ t.id → s ≡ t
     one s i same = one_entry ts order s t t.id i here (subst (λ y. covers s y ≡ true) same (covers_first runs s (each_entry (IsTakenOf runs) ts each s i)))
         (covers_first runs t (each_entry (IsTakenOf runs) ts each t here))
 
@@ -171,7 +172,7 @@ noted_more vector runs lacks client tries ts each order t here next x lacked not
 
 -- ---- units are held
 
-module _ (vector : List (Client × ℕ)) (runs : List Run) (lacks left : List Lack) (tries more : List Client) (at : ℕ) (ts new : List Taken)
+module _ (vector : List (Client × ℕ)) (runs : List Run) (lacks left : List Lack) (tries more : List Client) (at : ℕ) (ts new : List Entry)
     (raised : List (Client × ℕ)) (h : HoldsEntry at ts new vector raised) (wakes : Wakes h.entry lacks left tries more) (begins : h.entry.id.clock ≡ clock_of vector h.entry.id.client.0) where
   this_tried : StandsIn h.entry.id.client more
   this_tried = subst (StandsIn h.entry.id.client) (sym wakes.tried)
@@ -223,7 +224,7 @@ module _ (vector : List (Client × ℕ)) (runs : List Run) (lacks left : List La
     each = entry_each (IsNotedOrTried raised runs left more) new (λ t i at_clock. elim (same_or_other t.id.client.0 h.entry.id.client.0) [
       | inl same ↦ inl (subst (λ c. StandsIn c more) (sym (one_client t.id.client h.entry.id.client same)) this_tried)
       | inr other ↦ elim (set_is h.entry (with_number h.entry h.number) ts at t (subst (IsEntry t) h.placed i)) [
-        | inl e ↦ absurd (other (ap (λ (u : Taken). u.id.client.0) e))
+        | inl e ↦ absurd (other (ap (λ (u : Entry). u.id.client.0) e))
         | inr j ↦ elim (each_entry (IsNotedOrTried vector runs lacks (h.entry.id.client ∷ tries)) ts noted.each t j (at_clock ∙ h.raises.other_clients t.id.client.0 other)) [
           | inl (inl same) ↦ absurd (other (ap (λ (c : Client). c.0) same))
           | inl (inr tried) ↦ inl (tried_stays t.id.client tried)

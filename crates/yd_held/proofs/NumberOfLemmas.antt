@@ -3,15 +3,15 @@ use Rattle.std.proofs.Common.{◌≡◌, ℕ, zero, suc, ◌<◌, Bool, true, fa
 use Rattle.std.specs.Prelude.{is_some}
 use Rattle.yd_words.proofs.EachLemmas.{each_at}
 use Rattle.yd_ids.specs.declared.id.Id.{Id}
-use Rattle.yd_received.specs.declared.taken.Taken.{Taken}
-use Rattle.yd_received.specs.Taken.{covers, StandsBefore, AreInOrder}
+use Rattle.yd_received.specs.declared.entry.Entry.{Entry}
+use Rattle.yd_received.specs.Entries.{covers, StandsBefore, AreInOrder}
 use Rattle.yd_received.specs.Taking.{is_covered}
 use Rattle.yd_received.proofs.EntriesLemmas.{IsEntry, each_entry, apart}
 use Rattle.yd_received.proofs.LookupLemmas.{covered_begins, behind_covered}
 use Rattle.yd_held.specs.Numbered.{number_of}
 
 -- the number of an id is that of its entry
-pub number_of-one : (ts : List Taken) → AreInOrder ts → (t : Taken) (x : Id) → IsEntry t ts → covers t x ≡ true → number_of ts x ≡ t.list
+pub number_of-one : (ts : List Entry) → AreInOrder ts → (t : Entry) (x : Id) → IsEntry t ts → covers t x ≡ true → number_of ts x ≡ t.list
 number_of-one [] order t x i e = absurd i
 number_of-one (s ∷ ss) order t x (inl a) e = subst (λ u. number_of (u ∷ ss) x ≡ t.list) a (rw e refl)
 number_of-one (s ∷ ss) order t x (inr i) e = go (covers s x) refl (number_of-one ss order.1 t x i e)
@@ -21,7 +21,7 @@ number_of-one (s ∷ ss) order t x (inr i) e = go (covers s x) refl (number_of-o
     go false f rest = rest
 
 -- the number of an id is that of the entry that has it
-pub number_of-entry : (ts : List Taken) (x : Id) (k : ℕ) (d : Taken) → AreInOrder ts → k < length ts → covers (get_or ts k d) x ≡ true →
+pub number_of-entry : (ts : List Entry) (x : Id) (k : ℕ) (d : Entry) → AreInOrder ts → k < length ts → covers (get_or ts k d) x ≡ true →
     number_of ts x ≡ (get_or ts k d).list
 number_of-entry [] x k d order lt e = absurd (omega arith)
 number_of-entry (t ∷ ts) x zero d order lt e = rw e refl
@@ -33,7 +33,7 @@ number_of-entry (t ∷ ts) x (suc k) d order lt e = go (covers t x) refl
     go false f rest = rest
 
 -- an id with a number is covered
-pub numbered_covered : (ts : List Taken) (x : Id) → is_some (number_of ts x) ≡ true → is_covered ts x ≡ true
+pub numbered_covered : (ts : List Entry) (x : Id) → is_some (number_of ts x) ≡ true → is_covered ts x ≡ true
 numbered_covered [] x e = e
 numbered_covered (t ∷ ts) x e = go (covers t x) e (numbered_covered ts x)
   where

@@ -17,16 +17,18 @@ use Rattle.yd_meaning.specs.Received.{has_operation}
 use Rattle.yd_meaning.specs.Held.{item_carried}
 use Rattle.yd_meaning.specs.Order.{rows_of, list_or_root, list_of}
 use Rattle.yd_meaning.proofs.HeldTableLemmas.{held_is_table}
-use Rattle.yd_received.specs.declared.taken.Taken.{Taken}
-use Rattle.yd_received.specs.Taken.{held_in}
+use Rattle.yd_received.specs.declared.entry.Entry.{Entry}
+use Rattle.yd_received.specs.Entries.{held_in}
 use Rattle.yd_held.specs.Numbered.{number_of}
 use Rattle.yd_held.specs.Numbering.{NumbersList, NumbersEntry}
 use Rattle.yd_held.specs.Readiness.{first_list}
-use Rattle.yd_held.specs.Holding.{IsHolding, with_number}
+use Rattle.yd_received.specs.Received.{with_number}
+use Rattle.yd_held.specs.Holding.{IsHolding}
 use Rattle.yd_received.proofs.EntriesLemmas.{IsEntry, each_entry, entry_each}
 use Rattle.yd_held.proofs.HeldUnitLemmas.{covers_first}
 use Rattle.yd_held.proofs.HeldEntryLemmas.{is_taken, held_id}
-use Rattle.yd_held.proofs.NumberingLemmas.{set_is, number_of-stays}
+use Rattle.yd_received.proofs.ChangeLemmas.{set_is}
+use Rattle.yd_held.proofs.NumberingLemmas.{number_of-stays}
 use Rattle.yd_held.proofs.HoldingLemmas.{is_table}
 use Rattle.yd_held.proofs.HoldListLemmas.{list_stays, entry_list, numbered_id}
 use Rattle.yd_held.proofs.HoldStepLemmas.{Setting, numbered, this_taken, written_after, stays_held, is_held_now, origin_held, own_after, taken_after, counted_after}
@@ -64,7 +66,7 @@ one_more names name one fresh m n other e f = elim (got_before name names m othe
 abbrev Grows : Option Id → Option Id → DocList → List DocList → List DocList → Type 0
 Grows z w name old new = (new ≡ old) ⊎ ((z ≡ None) × (w ≡ None) × (new ≡ old ++ name ∷ []) × ((m : ℕ) → slice_get old m ≢ Some name))
 
-grows : (z w : Option Id) (name : DocList) (ts : List Taken) (old new : List DocList) (n : ℕ) → NumbersList z w name ts old new n → Grows z w name old new
+grows : (z w : Option Id) (name : DocList) (ts : List Entry) (old new : List DocList) (n : ℕ) → NumbersList z w name ts old new n → Grows z w name old new
 grows (Some y) w name ts old new n k = inl k.1
 grows None (Some y) name ts old new n k = inl k.1
 grows None None name ts old new n k = elim k.grown [ inl e ↦ inl e | inr f ↦ inr (refl, refl, f.0, f.1) ]
@@ -78,7 +80,7 @@ pub no_number : (z : Option ℕ) → is_some z ≡ false → z ≡ None
 no_number None e = refl
 no_number (Some n) e = absurd cc
 
-module _ (runs : List Run) (ts : List Taken) (vector : List (Client × ℕ)) (names : List DocList) (at : ℕ) (t : Taken)
+module _ (runs : List Run) (ts : List Entry) (vector : List (Client × ℕ)) (names : List DocList) (at : ℕ) (t : Entry)
     (s : Setting runs ts vector names at t) (n : ℕ) (raised : List (Client × ℕ)) (raises : RaisesOnly vector raised t.id.client.0 (t.id.clock + t.len))
     (new : List DocList) (k : NumbersEntry runs ts names new t n) where
   abbrev before : List Operation
@@ -124,14 +126,14 @@ module _ (runs : List Run) (ts : List Taken) (vector : List (Client × ℕ)) (na
       go None (Some y) j f g = of_origin y (g y refl) j.0 j.1
       go None None j f g = j.there
 
-  named_after : Each (λ (u : Taken). IfSome u.list (λ m. slice_get new m ≡ Some (list_of after u.id))) (numbered runs ts vector names at t s n)
-  named_after = entry_each (λ (u : Taken). IfSome u.list (λ m. slice_get new m ≡ Some (list_of after u.id))) (numbered runs ts vector names at t s n) (λ u i.
+  named_after : Each (λ (u : Entry). IfSome u.list (λ m. slice_get new m ≡ Some (list_of after u.id))) (numbered runs ts vector names at t s n)
+  named_after = entry_each (λ (u : Entry). IfSome u.list (λ m. slice_get new m ≡ Some (list_of after u.id))) (numbered runs ts vector names at t s n) (λ u i.
       elim (set_is t (with_number t n) ts at u i) [
-        | inl e ↦ subst (λ (v : Taken). IfSome v.list (λ m. slice_get new m ≡ Some (list_of after v.id))) (sym e) this_list
-        | inr j ↦ old u j u.list refl (each_entry (λ (v : Taken). IfSome v.list (λ m. slice_get names m ≡ Some (list_of before v.id))) ts s.holding.numbered.named u j)
+        | inl e ↦ subst (λ (v : Entry). IfSome v.list (λ m. slice_get new m ≡ Some (list_of after v.id))) (sym e) this_list
+        | inr j ↦ old u j u.list refl (each_entry (λ (v : Entry). IfSome v.list (λ m. slice_get names m ≡ Some (list_of before v.id))) ts s.holding.numbered.named u j)
       ])
     where
-      old : (u : Taken) → IsEntry u ts → (z : Option ℕ) → u.list ≡ z → IfSome z (λ m. slice_get names m ≡ Some (list_of before u.id)) →
+      old : (u : Entry) → IsEntry u ts → (z : Option ℕ) → u.list ≡ z → IfSome z (λ m. slice_get names m ≡ Some (list_of before u.id)) →
           IfSome z (λ m. slice_get new m ≡ Some (list_of after u.id))
       old u j None e f = tt
       old u j (Some m) e f = name_stays m (list_of after u.id) (f ∙ ap (λ list. Some list) (sym (lists_stay u.id

@@ -18,8 +18,8 @@ use Rattle.yd_meaning.proofs.HeldLemmas.{held_in as held_is_received}
 use Rattle.yd_meaning.proofs.VectorLemmas.{held_written as held_set_written}
 use Rattle.yd_meaning.proofs.WritingLemmas.{written_alone}
 use Rattle.yd_meaning.proofs.ClockLemmas.{AreFinal, held_is_below}
-use Rattle.yd_received.specs.declared.taken.Taken.{Taken}
-use Rattle.yd_received.specs.Taken.{operations_of_taken, operations_in, held_in, is_held}
+use Rattle.yd_received.specs.declared.entry.Entry.{Entry}
+use Rattle.yd_received.specs.Entries.{operations_of_taken, operations_in, held_in, is_held}
 use Rattle.yd_held.specs.Readiness.{first_list, is_ready}
 use Rattle.yd_held.specs.Holding.{IsHolding, AreUnready}
 use Rattle.yd_received.proofs.EntriesLemmas.{IsEntry, each_entry}
@@ -31,7 +31,7 @@ use Rattle.yd_held.proofs.HoldingLemmas.{some_below, tells, held_of_all, reached
 same_clock : (m n : ℕ) → m ≡ n → nat_eq m n ≡ true
 same_clock m n e = grind (arith, tests)
 
-module _ (runs : List Run) (ts : List Taken) (vector : List (Client × ℕ)) (names : List DocList) (h : IsHolding runs ts vector names)
+module _ (runs : List Run) (ts : List Entry) (vector : List (Client × ℕ)) (names : List DocList) (h : IsHolding runs ts vector names)
     (unready : AreUnready vector runs ts) where
   abbrev received : List Operation
   received = operations_in runs ts
@@ -43,7 +43,7 @@ module _ (runs : List Run) (ts : List Taken) (vector : List (Client × ℕ)) (na
   below x = (tells runs ts vector names h x).0
 
   -- a first unit at its client's clock has not all that it needs
-  first_lacks : (t : Taken) → IsEntry t ts → is_held t ≡ false → (o : Operation) → IsFirst t.id t.left t.right (first_list runs t) o →
+  first_lacks : (t : Entry) → IsEntry t ts → is_held t ≡ false → (o : Operation) → IsFirst t.id t.left t.right (first_list runs t) o →
       o.id.clock ≡ clock_of vector o.id.client.0 → ((x : Id) → IsIn x (needs o) → x.clock < clock_of vector x.client.0) → ⊥
   first_lacks t i waits o first at_clock below = true≢false (sym ready ∙ each_entry (λ u. is_ready vector runs u ≡ false) ts unready t i)
     where
@@ -57,7 +57,7 @@ module _ (runs : List Run) (ts : List Taken) (vector : List (Client × ℕ)) (na
   final : AreFinal received (clock_of vector)
   final o i at_clock needed = let (t, j, k) = entry_of_one runs ts o i in go t j k (is_held t) refl
     where
-      go : (t : Taken) → IsEntry t ts → IsOneOf o (operations_of_taken runs t) → (b : Bool) → is_held t ≡ b → ⊥
+      go : (t : Entry) → IsEntry t ts → IsOneOf o (operations_of_taken runs t) → (b : Bool) → is_held t ≡ b → ⊥
       go t j k true e = omega (arith, at_clock, below o.id (id_is_there held o (entry_held runs ts h.in_order.each h.in_order.in_order t j e o k)))
       go t j k false e = elim (unit_cases runs t (is_taken runs ts h.in_order.each h.in_order.in_order t j) o k) [
         | inl first ↦ first_lacks t j e o first at_clock needed

@@ -7,8 +7,8 @@ use Rattle.yd_ids.specs.declared.id.Client.{Client}
 use Rattle.yd_ids.specs.declared.id.Id.{Id}
 use Rattle.yd_ids.specs.Vector.{clock_of}
 use Rattle.yd_ops.specs.declared.runs.Run.{Run}
-use Rattle.yd_received.specs.declared.taken.Taken.{Taken}
-use Rattle.yd_received.specs.Taken.{is_held, IsTakenOf, AreInOrder}
+use Rattle.yd_received.specs.declared.entry.Entry.{Entry}
+use Rattle.yd_received.specs.Entries.{is_held, IsTakenOf, AreInOrder}
 use Rattle.yd_received.proofs.EntriesLemmas.{entry_at, each_entry}
 use Rattle.yd_held.specs.declared.noting.Lack.{Lack}
 use Rattle.yd_held.specs.Readiness.{lack_of, is_ready}
@@ -52,7 +52,7 @@ got_in (y ∷ ys) (suc n) x e = inr (got_in ys n x e)
 
 -- ---- the client that is tried
 
-module _ (vector : List (Client × ℕ)) (runs : List Run) (ts : List Taken) (each : Each (IsTakenOf runs) ts) (order : AreInOrder ts) (waiting : AreWaiting vector ts)
+module _ (vector : List (Client × ℕ)) (runs : List Run) (ts : List Entry) (each : Each (IsTakenOf runs) ts) (order : AreInOrder ts) (waiting : AreWaiting vector ts)
     (lacks : List Lack) (tries rest : List Client) (client : Client) (popped : tries ≡ rest ++ client ∷ []) (noted : AreNoted vector runs lacks tries ts) where
   -- it stands last
   noted_popped : AreNoted vector runs lacks (client ∷ rest) ts
@@ -65,7 +65,7 @@ module _ (vector : List (Client × ℕ)) (runs : List Run) (ts : List Taken) (ea
   pub tried_without : Each (λ t. IsNext vector client t → ⊥) ts → AreNoted vector runs lacks rest ts
   tried_without none = noted_without vector runs lacks client rest ts none noted_popped
 
-  module _ (at : ℕ) (lt : at < length ts) (next : HoldsAt (IsNext vector client) ts at) (d : Taken) where
+  module _ (at : ℕ) (lt : at < length ts) (next : HoldsAt (IsNext vector client) ts at) (d : Entry) where
     there : IsNext vector client (get_or ts at d)
     there = next d
 

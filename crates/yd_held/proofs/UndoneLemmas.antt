@@ -4,9 +4,9 @@ use Rattle.std.specs.Prelude.{slice_get}
 use Rattle.yd_ids.specs.declared.id.Client.{Client}
 use Rattle.yd_ids.specs.declared.id.Id.{Id}
 use Rattle.yd_ids.specs.Vector.{clock_of}
-use Rattle.yd_received.specs.declared.taken.Taken.{Taken}
-use Rattle.yd_held.specs.Readiness.{is_below}
-use Rattle.yd_held.specs.Holding.{with_number, HoldsEntry, undone}
+use Rattle.yd_received.specs.declared.entry.Entry.{Entry}
+use Rattle.yd_received.specs.Received.{is_below, with_number, undone}
+use Rattle.yd_held.specs.Holding.{HoldsEntry}
 
 some_is : {X : Type 0} (a b : X) → ◌≡◌ {A = Option X} (Some a) (Some b) → a ≡ b
 some_is a b e = cc
@@ -19,13 +19,13 @@ map-set f (z ∷ zs) (suc at) x y e same = ap (λ ws. f z ∷ ws) (map-set f zs 
 above_not : (vector : List (Client × ℕ)) (x : Id) → clock_of vector x.client.0 ≤ x.clock → is_below vector x ≡ false
 above_not vector x le = grind (arith, tests)
 
-undone_number : (vector : List (Client × ℕ)) (t : Taken) (n : ℕ) → is_below vector t.id ≡ false → undone vector (with_number t n) ≡ undone vector t
+undone_number : (vector : List (Client × ℕ)) (t : Entry) (n : ℕ) → is_below vector t.id ≡ false → undone vector (with_number t n) ≡ undone vector t
 undone_number vector t n e = rw e refl
 
 same_or_other : (m n : ℕ) → (m ≡ n) ⊎ (m ≢ n)
 same_or_other m n = grind arith
 
-module _ (first : List (Client × ℕ)) (at : ℕ) (ts new : List Taken) (vector raised : List (Client × ℕ)) (h : HoldsEntry at ts new vector raised)
+module _ (first : List (Client × ℕ)) (at : ℕ) (ts new : List Entry) (vector raised : List (Client × ℕ)) (h : HoldsEntry at ts new vector raised)
     (rises : (client : ℕ) → clock_of first client ≤ clock_of vector client) where
   pub undone_after : h.entry.id.clock ≡ clock_of vector h.entry.id.client.0 → map (undone first) new ≡ map (undone first) ts
   undone_after begins = ap (map (undone first)) h.placed

@@ -7,8 +7,8 @@ use Rattle.yd_ids.specs.declared.id.Client.{Client}
 use Rattle.yd_ids.specs.Vector.{clock_of}
 use Rattle.yd_ops.specs.declared.lists.List.{List as DocList}
 use Rattle.yd_ops.specs.declared.runs.Run.{Run}
-use Rattle.yd_received.specs.declared.taken.Taken.{Taken}
-use Rattle.yd_received.specs.Taken.{is_held, is_of_first, IsTakenOf}
+use Rattle.yd_received.specs.declared.entry.Entry.{Entry}
+use Rattle.yd_received.specs.Entries.{is_held, is_of_first, IsTakenOf}
 use Rattle.yd_received.proofs.EntriesLemmas.{IsEntry, each_entry, entry_each, entry_kept}
 use Rattle.yd_held.specs.declared.noting.Lack.{Lack}
 use Rattle.yd_held.specs.Holding.{IsHolding, AreUnready}
@@ -20,8 +20,8 @@ use Rattle.yd_held.proofs.HeldEntryLemmas.{is_taken, held_id}
 use Rattle.yd_held.proofs.HoldingLemmas.{tells, ready_is}
 use Rattle.yd_held.proofs.NotedLemmas.{not_below}
 
-module _ (runs : List Run) (ts : List Taken) (vector : List (Client × ℕ)) (names : List DocList) (h : IsHolding runs ts vector names) where
-  waits : (t : Taken) → IsEntry t ts → t.id.clock ≡ clock_of vector t.id.client.0 → is_held t ≡ false
+module _ (runs : List Run) (ts : List Entry) (vector : List (Client × ℕ)) (names : List DocList) (h : IsHolding runs ts vector names) where
+  waits : (t : Entry) → IsEntry t ts → t.id.clock ≡ clock_of vector t.id.client.0 → is_held t ≡ false
   waits t i at_clock = false_from_ne_true (is_held t) (λ held.
       let there = held_id runs ts h.in_order.each h.in_order.in_order t t.id i held (covers_first runs t (is_taken runs ts h.in_order.each h.in_order.in_order t i)) in
       omega (arith, (tells runs ts vector names h t.id).0 there, at_clock))
@@ -31,11 +31,11 @@ module _ (runs : List Run) (ts : List Taken) (vector : List (Client × ℕ)) (na
   are_waiting = entry_each (λ t. t.id.clock ≡ clock_of vector t.id.client.0 → is_held t ≡ false) ts waits
 
 -- ready units lack nothing, so nothing is noted of them
-pub ready_lacks_nothing : (runs : List Run) (vector : List (Client × ℕ)) (lacks : List Lack) (t : Taken) → IsNoted vector runs lacks t → is_ready vector runs t ≡ true → ⊥
+pub ready_lacks_nothing : (runs : List Run) (vector : List (Client × ℕ)) (lacks : List Lack) (t : Entry) → IsNoted vector runs lacks t → is_ready vector runs t ≡ true → ⊥
 ready_lacks_nothing runs vector lacks t noted e =
     omega (arith, (ready_is vector runs t e).origins noted.id noted.needed, not_below vector noted.id noted.missing)
 
-pub none_ready : (runs : List Run) (ts : List Taken) (vector : List (Client × ℕ)) (lacks : List Lack) → AreNoted vector runs lacks [] ts → AreUnready vector runs ts
+pub none_ready : (runs : List Run) (ts : List Entry) (vector : List (Client × ℕ)) (lacks : List Lack) → AreNoted vector runs lacks [] ts → AreUnready vector runs ts
 none_ready runs ts vector lacks noted = entry_each (λ t. is_ready vector runs t ≡ false) ts (λ t i. false_from_ne_true (is_ready vector runs t) (λ e.
     elim (each_entry (IsNotedOrTried vector runs lacks []) ts noted.each t i (ready_is vector runs t e).begins) [
       | inl none ↦ none
@@ -55,10 +55,10 @@ each_behind P (y ∷ ys) zero (suc at) x each le e = each_behind P ys zero at x 
 each_behind P (y ∷ ys) (suc from) zero x each le e = absurd (omega arith)
 each_behind P (y ∷ ys) (suc from) (suc at) x each le e = each_behind P ys from at x each (omega arith) e
 
-module _ (runs : List Run) (from : ℕ) (ts : List Taken) (each : Each (IsTakenOf runs) ts) (clients : List Client)
+module _ (runs : List Run) (from : ℕ) (ts : List Entry) (each : Each (IsTakenOf runs) ts) (clients : List Client)
     (all : Each (λ (run : Run). StandsIn run.id.client clients) (drop from runs)) where
   -- the client of units of a new run is to be tried
-  new_tried : (t : Taken) → IsEntry t ts → from ≤ t.run → StandsIn t.id.client clients
+  new_tried : (t : Entry) → IsEntry t ts → from ≤ t.run → StandsIn t.id.client clients
   new_tried t i le = go (slice_get runs t.run) refl (each_entry (IsTakenOf runs) ts each t i).client (each_entry (IsTakenOf runs) ts each t i).run_there
     where
       none_there : (rs : List Run) (k : ℕ) → k < length rs → slice_get rs k ≡ None → ⊥

@@ -1,3 +1,5 @@
+pub mod Changing
+pub mod Held
 pub mod Holding
 pub mod Noted
 pub mod Numbered

@@ -6,10 +6,11 @@ use Rattle.yd_ids.specs.declared.id.Id.{Id}
 use Rattle.yd_ids.specs.Vector.{clock_of}
 use Rattle.yd_ids.specs.Ids.{is_same, is_smaller}
 use Rattle.yd_ops.specs.declared.runs.Run.{Run}
-use Rattle.yd_received.specs.declared.taken.Taken.{Taken}
-use Rattle.yd_received.specs.Taken.{covers}
+use Rattle.yd_received.specs.declared.entry.Entry.{Entry}
+use Rattle.yd_received.specs.Entries.{covers}
 use Rattle.yd_held.specs.declared.noting.Lack.{Lack}
-use Rattle.yd_held.specs.Readiness.{IsOriginOf, is_below, first_list, is_ready}
+use Rattle.yd_received.specs.Received.{is_below}
+use Rattle.yd_held.specs.Readiness.{IsOriginOf, first_list, is_ready}
 
 -- the element stands in the list
 abbrev pub StandsIn : {X : Type 0} → X → List X → Type 0
@@ -41,26 +42,26 @@ with_lack l [] = l ∷ []
 with_lack l (m ∷ ms) = if stands_before m l then m ∷ with_lack l ms else if same_lack m l then m ∷ ms else l ∷ m ∷ ms
 
 -- what lacks none of the units stays; the clients that lacked one are to be tried, each once, and then the units' own client
-pub record Wakes (held : Taken) (old left : List Lack) (tries more : List Client) : Type 0 where
+pub record Wakes (held : Entry) (old left : List Lack) (tries more : List Client) : Type 0 where
   pub stays : left ≡ filter (λ l. not (covers held l.id)) old
   pub tried : more ≡ (tries ++ map (λ l. l.client) (filter (λ l. covers held l.id) old)) ++ held.id.client ∷ []
 
 -- ---- what is noted
 
 -- it is noted that the client's next units lack an id: they need it, and it is not held
-pub record IsNoted (vector : List (Client × ℕ)) (runs : List Run) (lacks : List Lack) (t : Taken) : Type 0 where
+pub record IsNoted (vector : List (Client × ℕ)) (runs : List Run) (lacks : List Lack) (t : Entry) : Type 0 where
   pub id : Id
   pub needed : IsOriginOf id t.left t.right (first_list runs t)
   pub missing : is_below vector id ≡ false
   pub there : StandsIn (record { id = id; client = t.id.client }) lacks
 
 -- units at their client's clock lack something, which is noted, or their client is still to be tried
-abbrev pub IsNotedOrTried : List (Client × ℕ) → List Run → List Lack → List Client → Taken → Type 0
+abbrev pub IsNotedOrTried : List (Client × ℕ) → List Run → List Lack → List Client → Entry → Type 0
 IsNotedOrTried vector runs lacks tries t =
     t.id.clock ≡ clock_of vector t.id.client.0 → StandsIn t.id.client tries ⊎ IsNoted vector runs lacks t
 
 -- so it is with all that was taken
-pub record AreNoted (vector : List (Client × ℕ)) (runs : List Run) (lacks : List Lack) (tries : List Client) (taken : List Taken) : Type 0 where
+pub record AreNoted (vector : List (Client × ℕ)) (runs : List Run) (lacks : List Lack) (tries : List Client) (taken : List Entry) : Type 0 where
   pub sorted : AreSorted lacks
   pub each : Each (IsNotedOrTried vector runs lacks tries) taken
 
@@ -73,7 +74,7 @@ abbrev pub StayMissing : List (Client × ℕ) → List Lack → List (Client × 
 StayMissing vector lacks raised left = AreMissing vector lacks → AreMissing raised left
 
 -- where units are found that are ready, their client is still to be tried; where none are, no client is, and all that waits is noted
-abbrev pub Finds : List (Client × ℕ) → List Run → List Taken → List Lack → List Client → Option ℕ → Type 0
+abbrev pub Finds : List (Client × ℕ) → List Run → List Entry → List Lack → List Client → Option ℕ → Type 0
 Finds vector runs taken lacks tries (Some at) =
     (at < length taken) × HoldsAt (λ t. (is_ready vector runs t ≡ true) × AreNoted vector runs lacks (t.id.client ∷ tries) taken) taken at
 Finds vector runs taken lacks tries None = AreNoted vector runs lacks [] taken

@@ -4,7 +4,7 @@ use Rattle.yd_ids.specs.declared.id.Id.{Id}
 use Rattle.yd_ops.specs.declared.lists.List.{List as DocList}
 use Rattle.yd_ops.specs.declared.runs.Run.{Run}
 use Rattle.yd_meaning.specs.Order.{list_or_root}
-use Rattle.yd_received.specs.declared.taken.Taken.{Taken}
+use Rattle.yd_received.specs.declared.entry.Entry.{Entry}
 use Rattle.yd_held.specs.Numbered.{number_of}
 use Rattle.yd_held.specs.Readiness.{first_list}
 
@@ -14,11 +14,11 @@ pub record NumbersName (name : DocList) (old new : List DocList) (n : ℕ) : Typ
   pub grown : (new ≡ old) ⊎ ((new ≡ old ++ name ∷ []) × ((m : ℕ) → slice_get old m ≢ Some name))
 
 -- the number is that of the left origin's list, else of the right origin's, else of the list that is carried
-abbrev pub NumbersList : Option Id → Option Id → DocList → List Taken → List DocList → List DocList → ℕ → Type 0
+abbrev pub NumbersList : Option Id → Option Id → DocList → List Entry → List DocList → List DocList → ℕ → Type 0
 NumbersList (Some y) right name taken old new n = (number_of taken y ≡ Some n) × (new ≡ old)
 NumbersList None (Some y) name taken old new n = (number_of taken y ≡ Some n) × (new ≡ old)
 NumbersList None None name taken old new n = NumbersName name old new n
 
 -- the number is that of the list which the units are of
-abbrev pub NumbersEntry : List Run → List Taken → List DocList → List DocList → Taken → ℕ → Type 0
+abbrev pub NumbersEntry : List Run → List Entry → List DocList → List DocList → Entry → ℕ → Type 0
 NumbersEntry runs taken old new t n = NumbersList t.left t.right (list_or_root (first_list runs t)) taken old new n

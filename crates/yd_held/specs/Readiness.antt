@@ -1,17 +1,14 @@
 -- Which units have all that they need, by the state vector (own).
-use Rattle.std.specs.Prelude.{◌≡◌, ◌⊎◌, ℕ, Bool, true, not, ◌&&◌, List, Option, Some, None, slice_get, nat_eq, nat_lt, if◌then◌else◌}
+use Rattle.std.specs.Prelude.{◌≡◌, ◌⊎◌, ℕ, Bool, true, not, ◌&&◌, List, Option, Some, None, slice_get, nat_eq, if◌then◌else◌}
 use Rattle.yd_ids.specs.declared.id.Client.{Client}
 use Rattle.yd_ids.specs.declared.id.Id.{Id}
 use Rattle.yd_ids.specs.Vector.{clock_of}
 use Rattle.yd_ops.specs.declared.lists.List.{List as DocList}
 use Rattle.yd_ops.specs.declared.runs.Run.{Run}
 use Rattle.yd_meaning.specs.Held.{item_carried}
-use Rattle.yd_received.specs.declared.taken.Taken.{Taken}
-use Rattle.yd_received.specs.Taken.{list_at, is_held}
-
--- whether the id's clock is below its client's in the vector
-abbrev pub is_below : List (Client × ℕ) → Id → Bool
-is_below vector x = nat_lt x.clock (clock_of vector x.client.0)
+use Rattle.yd_received.specs.declared.entry.Entry.{Entry}
+use Rattle.yd_received.specs.Received.{is_below}
+use Rattle.yd_received.specs.Entries.{list_at, is_held}
 
 -- the id is an origin, or the item of a list
 abbrev pub IsOriginOf : Id → Option Id → Option Id → Option DocList → Type 0
@@ -28,7 +25,7 @@ is_none_or_below vector None = true
 is_none_or_below vector (Some x) = is_below vector x
 
 -- the list that the first of the units carries
-abbrev pub first_list : List Run → Taken → Option DocList
+abbrev pub first_list : List Run → Entry → Option DocList
 first_list runs t = list_at (slice_get runs t.run) t.offset
 
 -- the one id, or where it is absent the other
@@ -37,11 +34,11 @@ first_of None other = other
 first_of (Some x) other = Some x
 
 -- what units at their client's clock lack: an origin, or the item of the list that the first of them carries
-abbrev pub lack_of : List (Client × ℕ) → List Run → Taken → Option Id
+abbrev pub lack_of : List (Client × ℕ) → List Run → Entry → Option Id
 lack_of vector runs t = first_of (missing_of vector t.left) (first_of (missing_of vector t.right) (missing_of vector (item_carried (first_list runs t))))
 
 -- whether the units wait, begin at their client's clock, and have their origins and the item of their list below the vector
-abbrev pub is_ready : List (Client × ℕ) → List Run → Taken → Bool
+abbrev pub is_ready : List (Client × ℕ) → List Run → Entry → Bool
 is_ready vector runs t =
     not (is_held t) && (nat_eq t.id.clock (clock_of vector t.id.client.0) && (is_none_or_below vector t.left
     && (is_none_or_below vector t.right && is_none_or_below vector (item_carried (first_list runs t)))))

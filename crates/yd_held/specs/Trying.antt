@@ -3,8 +3,8 @@ use Rattle.std.specs.Prelude.{◌≡◌, ◌-◌, ℕ, false, List, Some, length
 use Rattle.yd_words.specs.Each.{Each}
 use Rattle.yd_ids.specs.declared.id.Client.{Client}
 use Rattle.yd_ids.specs.Vector.{clock_of}
-use Rattle.yd_received.specs.declared.taken.Taken.{Taken}
-use Rattle.yd_received.specs.Taken.{is_held}
+use Rattle.yd_received.specs.declared.entry.Entry.{Entry}
+use Rattle.yd_received.specs.Entries.{is_held}
 use Rattle.yd_held.specs.Noted.{StandsIn}
 
 -- the client stands last
@@ -17,10 +17,10 @@ pub record Tries (client : Client) (old new : List Client) : Type 0 where
   pub stay : (other : Client) → StandsIn other old → StandsIn other new
 
 -- the units are the client's next ones
-pub record IsNext (vector : List (Client × ℕ)) (client : Client) (t : Taken) : Type 0 where
+pub record IsNext (vector : List (Client × ℕ)) (client : Client) (t : Entry) : Type 0 where
   pub of_client : t.id.client ≡ client
   pub at_clock : t.id.clock ≡ clock_of vector client.0
 
 -- units at their client's clock wait
-abbrev pub AreWaiting : List (Client × ℕ) → List Taken → Type 0
+abbrev pub AreWaiting : List (Client × ℕ) → List Entry → Type 0
 AreWaiting vector taken = Each (λ t. t.id.clock ≡ clock_of vector t.id.client.0 → is_held t ≡ false) taken

@@ -1,25 +1,30 @@
 //! What is held of what was received: each unit whose origins, item and unit before it are held.
 //!
-//! Holding gives exactly the set that `yd_meaning` defines, however the operations came
-//! ([`hold_all`]). It keeps the clock that each client has reached, and numbers the lists by their
-//! names ([`is_same_list`]). What waits is noted by what it lacks ([`Lack`]), and tried again when
-//! that is held. A call that finds no memory may have added names and held some units, and has
-//! changed nothing else of what was taken.
+//! Taking an update in gives exactly the held set that `yd_meaning` defines, however the operations
+//! came ([`Held::take`]). It keeps the clock that each client has reached, and numbers the lists by
+//! their names ([`is_same_list`]). What waits is noted by what it lacks, and tried again when that is
+//! held. A call that finds no memory has changed nothing.
 //!
 //! ```rust
-//! let changed = hold_all(alloc, &runs, from, &mut taken, &mut vector, &mut names, &mut lacks)?;
+//! let mut held = Held::new(alloc);
+//! let taken = held.take(&update)?;
+//! held.put_back(taken.before);
 //! ```
 #![tactic(auto)]
 
+mod changing;
 mod fault;
+mod held;
 mod holding;
 mod names;
 mod noting;
 mod numbering;
+mod parts;
 mod readiness;
 mod trying;
 
 pub use fault::NoMemory;
-pub use holding::hold_all;
+pub use held::{Held, Taken};
 pub use names::is_same_list;
 pub use noting::Lack;
+pub use parts::Before;

@@ -9,7 +9,7 @@ ghost use Rattle.yd_held.specs.Noted.{stands_before, same_lack, first_lack, with
 
 use crate::fault::NoMemory;
 use yd_ids::{Client, Id};
-use yd_received::Taken;
+use yd_received::Entry;
 
 /// An id that a client's next units lack: they need it, and it is not held.
 #[derive(Clone, Copy)]
@@ -40,7 +40,7 @@ pub(crate) fn note(lacks: &mut Vec<Lack>, lack: Lack) -> Result<(), NoMemory>
 pub(crate) fn wake(
     lacks: &mut Vec<Lack>,
     tries: &mut Vec<Client>,
-    held: Taken,
+    held: Entry,
 ) -> Result<(), NoMemory>
     requires sorted { AreSorted lacks.old.items }
     requires end { IsClock (held.id.clock + held.len) }

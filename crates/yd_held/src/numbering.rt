@@ -3,7 +3,7 @@
 ghost use Rattle.std.specs.Prelude.{◌≡◌, true, None, Some, is_some, IfSome, IfOk, position};
 ghost use Rattle.yd_meaning.specs.Names.{same_list};
 ghost use Rattle.yd_meaning.specs.Order.{list_or_root};
-ghost use Rattle.yd_received.specs.Taken.{AreInOrder, IsTakenOf, GrowBy};
+ghost use Rattle.yd_received.specs.Entries.{IsTakenOf, GrowBy};
 ghost use Rattle.yd_held.specs.Numbered.{number_of};
 ghost use Rattle.yd_held.specs.Numbering.{NumbersName, NumbersEntry};
 ghost use Rattle.yd_held.specs.Readiness.{first_list};
@@ -13,48 +13,47 @@ use crate::fault::NoMemory;
 use crate::names::is_same_list;
 use yd_ids::Id;
 use yd_ops::{List, Run};
-use yd_received::{Taken, entry_of};
+use yd_received::{Entry, Received};
 
 /// The number of the list of units whose origins are held: that of the left origin, else of the
 /// right origin, else the one that they carry. A list whose name is new is added at the end.
 pub(crate) fn number_for(
-    runs: &[Run],
-    taken: &[Taken],
+    received: &Received,
     names: &mut Vec<List>,
-    entry: Taken,
+    entry: Entry,
 ) -> Result<usize, NoMemory>
-    requires entry { IsTakenOf runs.now entry }
-    requires in_order { AreInOrder taken.now }
-    requires left { IfSome entry.left (λ y. is_some (number_of taken.now y) ≡ true) }
-    requires right { IfSome entry.right (λ y. is_some (number_of taken.now y) ≡ true) }
-    ensures number { IfOk result (λ n. NumbersEntry runs.now taken.now
+    requires entry { IsTakenOf received.now.runs entry }
+    requires left { IfSome entry.left
+        (λ y. is_some (number_of received.now.entries y) ≡ true) }
+    requires right { IfSome entry.right
+        (λ y. is_some (number_of received.now.entries y) ≡ true) }
+    ensures number { IfOk result (λ n. NumbersEntry received.now.runs received.now.entries
         names.old.items names.new.items entry n) }
     ensures grows { GrowBy names.old.items names.new.items }
 {
     if let Some(left) = entry.left {
-        return Ok(number_at(taken, left));
+        return Ok(number_at(received, left));
     }
     if let Some(right) = entry.right {
-        return Ok(number_at(taken, right));
+        return Ok(number_at(received, right));
     }
-    let number = number_carried(runs, names, entry)?;
+    let number = number_carried(received.runs(), names, entry)?;
     Ok(number)
 }
 
 /// The number of the list in which an id is held.
-fn number_at(taken: &[Taken], id: Id) -> usize
-    requires in_order { AreInOrder taken.now }
-    requires held { is_some (number_of taken.now id) ≡ true }
-    ensures { number_of taken.now id ≡ Some result }
+fn number_at(received: &Received, id: Id) -> usize
+    requires { is_some (number_of received.now.entries id) ≡ true }
+    ensures { number_of received.now.entries id ≡ Some result }
 {
-    match taken[entry_of(taken, id)].list {
+    match received.entries()[received.entry_of(id)].list {
         Some(number) => number,
         None => unreachable!(),
     }
 }
 
 /// The number of the list that units without origins carry.
-fn number_carried(runs: &[Run], names: &mut Vec<List>, entry: Taken) -> Result<usize, NoMemory>
+fn number_carried(runs: &[Run], names: &mut Vec<List>, entry: Entry) -> Result<usize, NoMemory>
     requires entry { IsTakenOf runs.now entry }
     requires left { entry.left ≡ None }
     requires right { entry.right ≡ None }

@@ -4,17 +4,17 @@ ghost use Rattle.std.specs.Prelude.{◌≡◌, IfSome};
 ghost use Rattle.yd_ids.specs.Id.{IsId};
 ghost use Rattle.yd_meaning.specs.Names.{item_of_parent};
 ghost use Rattle.yd_meaning.specs.Held.{item_carried};
-ghost use Rattle.yd_received.specs.Taken.{IsTakenOf};
+ghost use Rattle.yd_received.specs.Entries.{IsTakenOf};
 ghost use Rattle.yd_held.specs.Readiness.{missing_of, lack_of, first_list};
 
 use yd_ids::{Id, Vector};
 use yd_ops::{List, Parent, Run};
-use yd_received::Taken;
+use yd_received::Entry;
 
 /// What units at their client's clock lack: an origin of the first, or the item of the list that it
 /// carries, which is not held. The later ones need the one before them and the same right origin.
 /// It takes time with the logarithm of how many clients there are.
-pub(crate) fn lack_of(runs: &[Run], vector: &Vector, entry: Taken) -> Option<Id>
+pub(crate) fn lack_of(runs: &[Run], vector: &Vector, entry: Entry) -> Option<Id>
     requires { IsTakenOf runs.now entry }
     ensures { result ≡ lack_of vector.now runs.now entry }
 {
@@ -40,7 +40,7 @@ fn missing_of(vector: &Vector, id: Option<Id>) -> Option<Id>
 }
 
 /// The item of the list that the first of the units carries.
-fn first_item(runs: &[Run], entry: Taken) -> Option<Id>
+fn first_item(runs: &[Run], entry: Entry) -> Option<Id>
     requires { IsTakenOf runs.now entry }
     ensures item { result ≡ item_carried (first_list runs.now entry) }
     ensures is_id { IfSome result IsId }

@@ -7,8 +7,6 @@ ghost use Rattle.yd_ids.specs.declared.id.Client.{Client};
 ghost use Rattle.yd_ids.specs.Vector.{clock_of};
 ghost use Rattle.yd_ops.specs.declared.runs.Run.{Run};
 ghost use Rattle.yd_ids.specs.Id.{IsId};
-ghost use Rattle.yd_received.specs.Taken.{AreInOrder, IsTakenOf};
-ghost use Rattle.yd_received.specs.Taking.{HasUnits};
 ghost use Rattle.yd_held.specs.Noted.{AreNoted, Finds, StandsIn, StayMissing};
 ghost use Rattle.yd_held.specs.Trying.{StandsLast, Tries, IsNext, AreWaiting};
 
@@ -18,7 +16,7 @@ use crate::readiness::lack_of;
 use std::alloc::Global;
 use yd_ids::{Client, Id, Vector};
 use yd_ops::Run;
-use yd_received::{Taken, entry_at};
+use yd_received::Received;
 
 /// No client has this number or a greater one.
 const CLIENTS_END: u64 = 1 << 53;
@@ -66,25 +64,24 @@ fn is_last(clients: &[Client], client: Client) -> bool
 /// The place of units that have all that they need, and are the next of a client that is to be tried.
 /// Those that lack something are noted by it.
 pub(crate) fn next_ready(
-    runs: &[Run],
-    taken: &[Taken],
+    received: &Received,
     vector: &Vector,
     lacks: &mut Vec<Lack>,
     tries: &mut Vec<Client>,
 ) -> Result<Option<usize>, NoMemory>
-    requires each { Each (IsTakenOf runs.now) taken.now }
-    requires in_order { AreInOrder taken.now }
-    requires waiting { AreWaiting vector.now taken.now }
-    requires noted { AreNoted vector.now runs.now lacks.old.items tries.old.items taken.now }
-    ensures finds { IfOk result (Finds vector.now runs.now taken.now
+    requires waiting { AreWaiting vector.now received.now.entries }
+    requires noted { AreNoted vector.now received.now.runs lacks.old.items tries.old.items
+        received.now.entries }
+    ensures finds { IfOk result (Finds vector.now received.now.runs received.now.entries
         lacks.new.items tries.new.items) }
     ensures missing { OnOk result (StayMissing vector.now lacks.old.items
         vector.now lacks.new.items) }
 {
+    let entries = received.entries();
     while let Some(client) = tries.pop() {
-        if let Some(at) = next_of(taken, vector, client) {
-            let entry = taken[at];
-            match lack_of(runs, vector, entry) {
+        if let Some(at) = next_of(received, vector, client) {
+            let entry = entries[at];
+            match lack_of(received.runs(), vector, entry) {
                 None => return Ok(Some(at)),
                 Some(id) => note(lacks, Lack { id, client })?,
             }
@@ -95,12 +92,12 @@ pub(crate) fn next_ready(
 
 /// The place of the units at the client's clock, and none where they were not received. It takes time
 /// with the logarithm of how many entries there are.
-fn next_of(taken: &[Taken], vector: &Vector, client: Client) -> Option<usize>
-    requires units { Each HasUnits taken.now }
-    requires ids { Each (λ t. IsId t.id) taken.now }
-    requires in_order { AreInOrder taken.now }
-    ensures { MatchOption result (Each (λ t. IsNext vector.now client t → ⊥) taken.now)
-        (λ at. (at < length taken.now) × HoldsAt (IsNext vector.now client) taken.now at) }
+fn next_of(received: &Received, vector: &Vector, client: Client) -> Option<usize>
+    requires { Each (λ t. IsId t.id) received.now.entries }
+    ensures { MatchOption result
+        (Each (λ t. IsNext vector.now client t → ⊥) received.now.entries)
+        (λ at. (at < length received.now.entries)
+        × HoldsAt (IsNext vector.now client) received.now.entries at) }
 {
     if client.0 >= CLIENTS_END {
         return None;
@@ -109,5 +106,5 @@ fn next_of(taken: &[Taken], vector: &Vector, client: Client) -> Option<usize>
         client,
         clock: vector.get(client),
     };
-    entry_at(taken, id)
+    received.entry_at(id)
 }

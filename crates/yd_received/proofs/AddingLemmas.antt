@@ -7,7 +7,7 @@ use Rattle.std.proofs.lemmas.Option.{slice_get_within}
 use Rattle.yd_words.specs.Each.{Each}
 use Rattle.yd_words.specs.Member.{IsIn as IsOneOf}
 use Rattle.yd_words.proofs.EachLemmas.{each_append}
-use Rattle.yd_words.proofs.MemberLemmas.{in_left_part as one_of_front, in_right_part as one_of_back, in_parts as one_of_parts}
+use Rattle.yd_words.proofs.MemberLemmas.{in_left_part, in_right_part, in_parts}
 use Rattle.yd_ids.specs.Id.{IsId}
 use Rattle.yd_ops.specs.declared.runs.Run.{Run}
 use Rattle.yd_ops.specs.Operation.{UnitContent, Operation, later_id, units_of_content, operations_from}
@@ -15,8 +15,8 @@ use Rattle.yd_ops.specs.Value.{RunValue, len_of}
 use Rattle.yd_ops.specs.Valid.{CarriesList}
 use Rattle.yd_ops.specs.View.{run_value, content_value}
 use Rattle.yd_ops.proofs.OperationLemmas.{length-units_of_content}
-use Rattle.yd_received.specs.declared.taken.Taken.{Taken}
-use Rattle.yd_received.specs.Taken.{units_of, list_at, operations_of_taken, operations_in, IsTakenOf, StandsBefore, AreInOrder}
+use Rattle.yd_received.specs.declared.entry.Entry.{Entry}
+use Rattle.yd_received.specs.Entries.{units_of, list_at, operations_of_taken, operations_in, IsTakenOf, StandsBefore, AreInOrder}
 use Rattle.yd_received.specs.Taking.{left_at, list_from, half_at, entry_of, IsRun, IsKept, Adds, operations_of_piece, IsRoom}
 use Rattle.yd_received.proofs.TakenLemmas.{operations_in-append, grow_none}
 use Rattle.yd_received.proofs.UnitLemmas.{part_from}
@@ -28,22 +28,22 @@ each_parts P [] ys e = (tt, e)
 each_parts P (x ∷ xs) ys e = let (front, back) = each_parts P xs ys e.1 in ((e.0, front), back)
 
 -- what holds of each entry and of one more holds of each with it
-pub each_with : (P : Taken → Type 0) (ts : List Taken) (at : ℕ) (t : Taken) → Each P ts → P t → Each P (take at ts ++ t ∷ drop at ts)
+pub each_with : (P : Entry → Type 0) (ts : List Entry) (at : ℕ) (t : Entry) → Each P ts → P t → Each P (take at ts ++ t ∷ drop at ts)
 each_with P ts at t each here =
     let (front, back) = each_parts P (take at ts) (drop at ts) (subst (Each P) (sym (take-append-drop at ts)) each) in
     each_append P (take at ts) (t ∷ drop at ts) front (here, back)
 
-order_with : (ts : List Taken) (at : ℕ) (t : Taken) → AreInOrder ts → Each (λ s. StandsBefore s t) (take at ts) → Each (StandsBefore t) (drop at ts) → AreInOrder (take at ts ++ t ∷ drop at ts)
+order_with : (ts : List Entry) (at : ℕ) (t : Entry) → AreInOrder ts → Each (λ s. StandsBefore s t) (take at ts) → Each (StandsBefore t) (drop at ts) → AreInOrder (take at ts ++ t ∷ drop at ts)
 order_with ts zero t order before behind = (behind, order)
 order_with [] (suc at) t order before behind = (behind, tt)
 order_with (s ∷ ts) (suc at) t order before behind = (each_with (StandsBefore s) ts at t order.0 before.0, order_with ts at t order.1 before.1 behind)
 
 -- one that goes into its room keeps the order
-pub room_order : (ts : List Taken) (at : ℕ) (t : Taken) → AreInOrder ts → IsRoom ts at t.id t.len → AreInOrder (take at ts ++ t ∷ drop at ts)
+pub room_order : (ts : List Entry) (at : ℕ) (t : Entry) → AreInOrder ts → IsRoom ts at t.id t.len → AreInOrder (take at ts ++ t ∷ drop at ts)
 room_order ts at t order room = order_with ts at t order room.before room.behind
 
 -- one that fails a test changes nothing of what passes it
-pub filter_with : (test : Taken → Bool) (ts : List Taken) (at : ℕ) (t : Taken) → test t ≡ false → filter test (take at ts ++ t ∷ drop at ts) ≡ filter test ts
+pub filter_with : (test : Entry → Bool) (ts : List Entry) (at : ℕ) (t : Entry) → test t ≡ false → filter test (take at ts ++ t ∷ drop at ts) ≡ filter test ts
 filter_with test ts at t fails =
     filter-append test (take at ts) (t ∷ drop at ts)
     ∙ ap (λ us. filter test (take at ts) ++ us) (rw fails refl)
@@ -51,11 +51,11 @@ filter_with test ts at t fails =
     ∙ ap (λ us. filter test us) (take-append-drop at ts)
 
 -- the operations with one more are those and its own
-pub one_with : (runs : List Run) (ts : List Taken) (at : ℕ) (t : Taken) (o : Operation) → IsOneOf o (operations_in runs (take at ts ++ t ∷ drop at ts)) →
+pub one_with : (runs : List Run) (ts : List Entry) (at : ℕ) (t : Entry) (o : Operation) → IsOneOf o (operations_in runs (take at ts ++ t ∷ drop at ts)) →
     IsOneOf o (operations_in runs ts) ⊎ IsOneOf o (operations_of_taken runs t)
-one_with runs ts at t o i = elim (one_of_parts o front (operations_of_taken runs t ++ back) (subst (IsOneOf o) (operations_in-append runs (take at ts) (t ∷ drop at ts)) i)) [
-  | inl j ↦ inl (whole (one_of_front o front back j))
-  | inr j ↦ elim (one_of_parts o (operations_of_taken runs t) back j) [ inl k ↦ inr k | inr k ↦ inl (whole (one_of_back o front back k)) ]
+one_with runs ts at t o i = elim (in_parts o front (operations_of_taken runs t ++ back) (subst (IsOneOf o) (operations_in-append runs (take at ts) (t ∷ drop at ts)) i)) [
+  | inl j ↦ inl (whole (in_left_part o front back j))
+  | inr j ↦ elim (in_parts o (operations_of_taken runs t) back j) [ inl k ↦ inr k | inr k ↦ inl (whole (in_right_part o front back k)) ]
 ]
   where
     front : List Operation
@@ -67,10 +67,10 @@ one_with runs ts at t o i = elim (one_of_parts o front (operations_of_taken runs
     whole : IsOneOf o (front ++ back) → IsOneOf o (operations_in runs ts)
     whole j = subst (λ us. IsOneOf o (operations_in runs us)) (take-append-drop at ts) (subst (IsOneOf o) (sym (operations_in-append runs (take at ts) (drop at ts))) j)
 
-pub one_stays : (runs : List Run) (ts : List Taken) (at : ℕ) (t : Taken) (o : Operation) → IsOneOf o (operations_in runs ts) → IsOneOf o (operations_in runs (take at ts ++ t ∷ drop at ts))
-one_stays runs ts at t o i = subst (IsOneOf o) (sym (operations_in-append runs (take at ts) (t ∷ drop at ts))) (elim (one_of_parts o front back parts) [
-  | inl j ↦ one_of_front o front (operations_of_taken runs t ++ back) j
-  | inr j ↦ one_of_back o front (operations_of_taken runs t ++ back) (one_of_back o (operations_of_taken runs t) back j)
+pub one_stays : (runs : List Run) (ts : List Entry) (at : ℕ) (t : Entry) (o : Operation) → IsOneOf o (operations_in runs ts) → IsOneOf o (operations_in runs (take at ts ++ t ∷ drop at ts))
+one_stays runs ts at t o i = subst (IsOneOf o) (sym (operations_in-append runs (take at ts) (t ∷ drop at ts))) (elim (in_parts o front back parts) [
+  | inl j ↦ in_left_part o front (operations_of_taken runs t ++ back) j
+  | inr j ↦ in_right_part o front (operations_of_taken runs t ++ back) (in_right_part o (operations_of_taken runs t) back j)
 ])
   where
     front : List Operation
@@ -82,9 +82,9 @@ one_stays runs ts at t o i = subst (IsOneOf o) (sym (operations_in-append runs (
     parts : IsOneOf o (front ++ back)
     parts = subst (IsOneOf o) (operations_in-append runs (take at ts) (drop at ts)) (subst (λ us. IsOneOf o (operations_in runs us)) (sym (take-append-drop at ts)) i)
 
-pub one_new : (runs : List Run) (ts : List Taken) (at : ℕ) (t : Taken) (o : Operation) → IsOneOf o (operations_of_taken runs t) → IsOneOf o (operations_in runs (take at ts ++ t ∷ drop at ts))
+pub one_new : (runs : List Run) (ts : List Entry) (at : ℕ) (t : Entry) (o : Operation) → IsOneOf o (operations_of_taken runs t) → IsOneOf o (operations_in runs (take at ts ++ t ∷ drop at ts))
 one_new runs ts at t o i = subst (IsOneOf o) (sym (operations_in-append runs (take at ts) (t ∷ drop at ts)))
-    (one_of_back o (operations_in runs (take at ts)) (operations_of_taken runs t ++ operations_in runs (drop at ts)) (one_of_front o (operations_of_taken runs t) (operations_in runs (drop at ts)) i))
+    (in_right_part o (operations_in runs (take at ts)) (operations_of_taken runs t ++ operations_in runs (drop at ts)) (in_left_part o (operations_of_taken runs t) (operations_in runs (drop at ts)) i))
 
 -- ---- units of a run
 
@@ -127,8 +127,8 @@ entry_operations runs run n index offset count kept units there same list =
 
 -- ---- lemmas for callers: what a piece adds
 
-module _ (runs : List Run) (ts : List Taken) (run : RunValue) (at from : ℕ) (is : IsRun run) where
-  pub whole_adds : (index count : ℕ) (new : List Taken) → IsKept runs index run → 0 < count → from + count ≤ len_of run.content →
+module _ (runs : List Run) (ts : List Entry) (run : RunValue) (at from : ℕ) (is : IsRun run) where
+  pub whole_adds : (index count : ℕ) (new : List Entry) → IsKept runs index run → 0 < count → from + count ≤ len_of run.content →
       new ≡ take at ts ++ entry_of run from index from count ∷ drop at ts → Adds runs ts runs new at (later_id run.id from) count (operations_of_piece run from count false)
   whole_adds index count new kept some le placed =
       let content : content_value kept.kept.content ≡ run.content = ap (λ (r : RunValue). r.content) kept.same in
@@ -154,7 +154,7 @@ module _ (runs : List Run) (ts : List Taken) (run : RunValue) (at from : ℕ) (i
       go [] = refl
       go (r ∷ rs) = go rs
 
-  pub half_adds : (half : Run) (all : List Run) (new : List Taken) → from < len_of run.content → all ≡ runs ++ half ∷ [] → run_value half ≡ half_at run from →
+  pub half_adds : (half : Run) (all : List Run) (new : List Entry) → from < len_of run.content → all ≡ runs ++ half ∷ [] → run_value half ≡ half_at run from →
       new ≡ take at ts ++ entry_of run from (length runs) 0 1 ∷ drop at ts → Adds runs ts all new at (later_id run.id from) 1 (operations_of_piece run from 1 true)
   half_adds half all new lt grown same placed =
       let content : content_value half.content ≡ (half_at run from).content = ap (λ (r : RunValue). r.content) same in

@@ -13,8 +13,8 @@ use Rattle.yd_ops.specs.View.{run_value}
 use Rattle.yd_ops.proofs.OperationLemmas.{length-units_of_content, length-operations_of_run}
 use Rattle.yd_meaning.specs.Received.{has_operation, with_runs}
 use Rattle.yd_meaning.specs.Law.{ArePaired}
-use Rattle.yd_received.specs.declared.taken.Taken.{Taken}
-use Rattle.yd_received.specs.Taken.{AreTaken, operations_in, GrowBy}
+use Rattle.yd_received.specs.declared.entry.Entry.{Entry}
+use Rattle.yd_received.specs.Entries.{AreTaken, operations_in, GrowBy}
 use Rattle.yd_received.specs.Taking.{BringsOne, is_covered, AreCovered, IsRun, IsKept, TakesIn}
 use Rattle.yd_received.proofs.PieceLemmas.{part_unit}
 use Rattle.yd_received.proofs.StepLemmas.{walk_known, walk_ends}
@@ -34,7 +34,7 @@ kept_last runs new kept run at grown last same = record {
     go [] = refl
     go (r ∷ rs) = go rs
 
-pub grown_are : (runs new : List Run) (ts : List Taken) → GrowBy runs new → AreTaken runs ts → AreTaken new ts
+pub grown_are : (runs new : List Run) (ts : List Entry) → GrowBy runs new → AreTaken runs ts → AreTaken new ts
 grown_are runs new ts grows are = record {
   each = grown_each runs new ts grows are.each;
   in_order = are.in_order;
@@ -42,7 +42,7 @@ grown_are runs new ts grows are = record {
 }
 
 -- what is taken in beside more runs is taken in
-pub takes_behind : (runs mid new : List Run) (old taken : List Taken) (more : List RunValue) (os : List Operation) → GrowBy runs mid → AreTaken runs old →
+pub takes_behind : (runs mid new : List Run) (old taken : List Entry) (more : List RunValue) (os : List Operation) → GrowBy runs mid → AreTaken runs old →
     TakesIn mid old new taken more os → TakesIn runs old new taken more os
 takes_behind runs mid new old taken more os grows are takes =
     let same : operations_in mid old ≡ operations_in runs old = grown_in runs mid old grows are.each in
@@ -55,7 +55,7 @@ takes_behind runs mid new old taken more os grows are takes =
 
 -- ---- a run of which nothing is new, or something
 
-module _ (runs : List Run) (taken : List Taken) (run : RunValue) (are : AreTaken runs taken) (is : IsRun run) (known : ℕ) (covered : AreCovered taken run.id known) where
+module _ (runs : List Run) (taken : List Entry) (run : RunValue) (are : AreTaken runs taken) (is : IsRun run) (known : ℕ) (covered : AreCovered taken run.id known) where
   pub known_takes : len_of run.content ≤ known → known ≤ len_of run.content → TakesIn runs taken runs taken (run ∷ []) (operations_of_run run)
   known_takes all le = walk_ends run runs taken runs taken known is are (walk_known run runs taken known are le covered) all
 
@@ -73,7 +73,7 @@ unit_there id left right list (unit ∷ units) (suc n) lt =
     let (o, i, e) = unit_there (later_id id 1) (Some id) right None units n (omega arith) in
     (o, inr i, e ∙ later_later id 1 n ∙ later_same id (1 + n) (suc n) (omega arith))
 
-pub new_brings : (runs : List Run) (taken : List Taken) (run : RunValue) (n : ℕ) → AreTaken runs taken → n < len_of run.content → is_covered taken (later_id run.id n) ≡ false →
+pub new_brings : (runs : List Run) (taken : List Entry) (run : RunValue) (n : ℕ) → AreTaken runs taken → n < len_of run.content → is_covered taken (later_id run.id n) ≡ false →
     BringsOne (operations_of_run run) (operations_in runs taken)
 new_brings runs taken run n are lt free =
     let (o, i, e) = unit_there run.id run.left run.right run.list (units_of_content run.content) n (omega (arith, length-units_of_content run.content)) in

@@ -5,7 +5,7 @@ use Rattle.std.proofs.lemmas.List.{length-map}
 use Rattle.std.proofs.lemmas.Option.{same_Some}
 use Rattle.yd_any.specs.Tree.{AnyTree, AnyTrees, no_trees, tree}
 use Rattle.yd_units.specs.Half.{IsHigh}
-use Rattle.yd_ops.specs.Value.{ContentValue, json, binary, string, embed, format, nested, any}
+use Rattle.yd_ops.specs.Value.{ContentValue, json, binary, string, embed, nested, any, format}
 use Rattle.yd_ops.specs.Operation.{UnitContent, text_unit, json_unit, bytes, embedded, mark, nested_type, units_of_trees, units_of_content, IsHighUnit, IsLowUnit}
 use Rattle.yd_ops.specs.Valid.{IsValidContent}
 use Rattle.yd_meaning.proofs.PartnerLemmas.{IsHalf}

@@ -1,11 +1,13 @@
 pub mod AddingLemmas
 pub mod BringingLemmas
+pub mod ChangeLemmas
 pub mod CutLemmas
 pub mod EntriesLemmas
 pub mod EntryLemmas
 pub mod FirstLemmas
 pub mod LookupLemmas
 pub mod PieceLemmas
+pub mod RestoringLemmas
 pub mod SequenceLemmas
 pub mod StepLemmas
 pub mod TakenLemmas

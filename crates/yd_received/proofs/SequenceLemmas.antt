@@ -5,7 +5,7 @@ use Rattle.std.specs.Bool.{OnFalse}
 use Rattle.std.proofs.lemmas.Bool.{cases_Bool, or_parts, or_from, or_cases, or_left, or_right}
 use Rattle.std.proofs.lemmas.List.{map_more}
 use Rattle.yd_words.specs.Each.{Each}
-use Rattle.yd_words.proofs.MemberLemmas.{in_left_part as one_of_front, in_right_part as one_of_back, in_parts as one_of_parts}
+use Rattle.yd_words.proofs.MemberLemmas.{in_left_part, in_right_part, in_parts}
 use Rattle.yd_ids.specs.declared.id.Client.{Client}
 use Rattle.yd_ids.specs.declared.id.Id.{Id}
 use Rattle.yd_ids.specs.Id.{IsClient, IsClock}
@@ -19,15 +19,15 @@ use Rattle.yd_ops.specs.declared.updates.Struct.{Struct}
 use Rattle.yd_meaning.specs.Received.{has_operation, with_runs, runs_of_structs, runs_of_blocks}
 use Rattle.yd_meaning.proofs.OneOfLemmas.{operation_with}
 use Rattle.yd_meaning.proofs.RunsLemmas.{with_runs-append}
-use Rattle.yd_received.specs.declared.taken.Taken.{Taken}
-use Rattle.yd_received.specs.Taken.{operations_in, GrowBy}
+use Rattle.yd_received.specs.declared.entry.Entry.{Entry}
+use Rattle.yd_received.specs.Entries.{operations_in, GrowBy}
 use Rattle.yd_received.specs.Taking.{BringsOne, IsRun, IsTakeable, AreUnchanged, TakesIn}
 use Rattle.yd_received.proofs.TakenLemmas.{grow_more}
 use Rattle.yd_received.proofs.UnitLemmas.{has_parts}
 
 -- ---- one after another
 
-pub takes_more : (a b c : List Run) (x y z : List Taken) (rs ss : List RunValue) (os ps : List Operation) → TakesIn a x b y rs os → TakesIn b y c z ss ps → TakesIn a x c z (rs ++ ss) (os ++ ps)
+pub takes_more : (a b c : List Run) (x y z : List Entry) (rs ss : List RunValue) (os ps : List Operation) → TakesIn a x b y rs os → TakesIn b y c z ss ps → TakesIn a x c z (rs ++ ss) (os ++ ps)
 takes_more a b c x y z rs ss os ps first second = record {
   received = second.received ∙ ap (λ qs. with_runs ss qs) first.received ∙ sym (with_runs-append rs ss (operations_in a x));
   ids = λ i. second.ids i ∙ ap (λ t. t || has_operation ps i) (first.ids i) ∙ or_or (has_operation (operations_in a x) i) (has_operation os i) (has_operation ps i)
@@ -46,7 +46,7 @@ pub brings_more : (old new os ps : List Operation) → ((i : Id) → has_operati
 brings_more old new os ps ids = (there, back)
   where
     there : BringsOne (os ++ ps) old → BringsOne os old ⊎ BringsOne ps new
-    there (o, i, none) = elim (one_of_parts o os ps i) [
+    there (o, i, none) = elim (in_parts o os ps i) [
       | inl j ↦ inl (o, j, none)
       | inr j ↦ elim (cases_Bool (has_operation os o.id)) [
         | inl e ↦ let (p, k, same) = operation_with os o.id e in inl (p, k, ap (λ x. has_operation old x) same ∙ none)
@@ -55,11 +55,11 @@ brings_more old new os ps ids = (there, back)
     ]
 
     back : BringsOne os old ⊎ BringsOne ps new → BringsOne (os ++ ps) old
-    back (inl (o, i, none)) = (o, one_of_front o os ps i, none)
-    back (inr (o, i, none)) = (o, one_of_back o os ps i, (or_parts (has_operation old o.id) (has_operation os o.id) (sym (ids o.id) ∙ none)).0)
+    back (inl (o, i, none)) = (o, in_left_part o os ps i, none)
+    back (inr (o, i, none)) = (o, in_right_part o os ps i, (or_parts (has_operation old o.id) (has_operation os o.id) (sym (ids o.id) ∙ none)).0)
 
 -- where neither brings an operation nothing changes
-pub unchanged_more : (a b c : List Run) (x y z : List Taken) (s t : Bool) → OnFalse s (AreUnchanged a x b y) → OnFalse t (AreUnchanged b y c z) → OnFalse (s || t) (AreUnchanged a x c z)
+pub unchanged_more : (a b c : List Run) (x y z : List Entry) (s t : Bool) → OnFalse s (AreUnchanged a x b y) → OnFalse t (AreUnchanged b y c z) → OnFalse (s || t) (AreUnchanged a x c z)
 unchanged_more a b c x y z true t first second = tt
 unchanged_more a b c x y z false true first second = tt
 unchanged_more a b c x y z false false first second = (second.0 ∙ first.0, second.1 ∙ first.1)
@@ -67,12 +67,12 @@ unchanged_more a b c x y z false false first second = (second.0 ∙ first.0, sec
 -- ---- lists of structs and of blocks
 
 -- what is taken in so far, and whether it brings an operation
-pub record IsTakenIn (old_runs : List Run) (old : List Taken) (runs : List Run) (taken : List Taken) (more : List RunValue) (os : List Operation) (brings : Bool) : Type 0 where
+pub record IsTakenIn (old_runs : List Run) (old : List Entry) (runs : List Run) (taken : List Entry) (more : List RunValue) (os : List Operation) (brings : Bool) : Type 0 where
   pub takes : TakesIn old_runs old runs taken more os
   pub brings_some : IsTrue brings ↔ BringsOne os (operations_in old_runs old)
   pub grows : GrowBy old_runs runs
 
-pub taken_more : (a b c : List Run) (x y z : List Taken) (rs ss : List RunValue) (os ps : List Operation) (s t : Bool) → IsTakenIn a x b y rs os s → TakesIn b y c z ss ps →
+pub taken_more : (a b c : List Run) (x y z : List Entry) (rs ss : List RunValue) (os ps : List Operation) (s t : Bool) → IsTakenIn a x b y rs os s → TakesIn b y c z ss ps →
     IsTrue t ↔ BringsOne ps (operations_in b y) → GrowBy b c → IsTakenIn a x c z (rs ++ ss) (os ++ ps) (s || t)
 taken_more a b c x y z rs ss os ps s t first takes some grows = record {
   takes = takes_more a b c x y z rs ss os ps first.takes takes;
@@ -108,7 +108,7 @@ operations_of_blocks-push (c ∷ bs) b =
     ap (λ os. operations_of_structs c.structs ++ os) (operations_of_blocks-push bs b)
     ∙ sym (append_assoc (operations_of_structs c.structs) (operations_of_blocks bs) (operations_of_structs b.structs))
 
-module _ (a b c : List Run) (x y z : List Taken) (s t : Bool) where
+module _ (a b c : List Run) (x y z : List Entry) (s t : Bool) where
   -- one struct more of a list
   pub struct_more : (xs : List Struct) (n : ℕ) (d : Struct) → n < length xs → d ≡ get_or xs n d →
       IsTakenIn a x b y (runs_of_structs (map struct_value (take n xs))) (operations_of_structs (map struct_value (take n xs))) s →

@@ -17,8 +17,8 @@ use Rattle.yd_meaning.specs.Law.{ArePaired}
 use Rattle.yd_meaning.proofs.OneOfLemmas.{operation_with, id_there, ids_stay}
 use Rattle.yd_meaning.proofs.TakingLemmas.{IsTakenFrom, as_taken-id, with_run_is, with_run_alone, with_run_ids, with_run_stays}
 use Rattle.yd_meaning.proofs.PairingLemmas.{with_run_paired}
-use Rattle.yd_received.specs.declared.taken.Taken.{Taken}
-use Rattle.yd_received.specs.Taken.{IsTakenOf, AreInOrder, AreTaken, operations_in, is_held, GrowBy}
+use Rattle.yd_received.specs.declared.entry.Entry.{Entry}
+use Rattle.yd_received.specs.Entries.{IsTakenOf, AreInOrder, AreTaken, operations_in, is_held, GrowBy}
 use Rattle.yd_received.specs.Taking.{is_covered, AreCovered, BeginsBehind, IsRoom, IsPiece, IsRun, IsKept, operations_of_piece, IsPassed, IsTakenNext, TakesIn}
 use Rattle.yd_received.proofs.AddingLemmas.{each_with, room_order, filter_with, one_with, one_stays, one_new}
 use Rattle.yd_received.proofs.CutLemmas.{cut_inside}
@@ -28,7 +28,7 @@ use Rattle.yd_received.proofs.TakenLemmas.{grown_get, grown_each, grown_in, grow
 use Rattle.yd_received.proofs.UnitLemmas.{later_none, later_later, later_same}
 use Rattle.yd_received.proofs.WalkLemmas.{IsWalked, covered_known, free_unknown, front_more, part_more, parts_of, walk_passed}
 
-room_less : (taken : List Taken) (at : ℕ) (id : Id) (count new : ℕ) → count ≤ new → IsRoom taken at id new → IsRoom taken at id count
+room_less : (taken : List Entry) (at : ℕ) (id : Id) (count new : ℕ) → count ≤ new → IsRoom taken at id new → IsRoom taken at id count
 room_less taken at id count new le room = record {
   bound = room.bound;
   before = room.before;
@@ -37,9 +37,9 @@ room_less taken at id count new le room = record {
 
 -- ---- a piece is taken
 
-module _ (run : RunValue) (old_runs : List Run) (old_taken : List Taken) (runs : List Run) (taken : List Taken) (from count : ℕ) (is : IsRun run)
+module _ (run : RunValue) (old_runs : List Run) (old_taken : List Entry) (runs : List Run) (taken : List Entry) (from count : ℕ) (is : IsRun run)
     (paired : ArePaired (operations_in old_runs old_taken)) (walked : IsWalked run old_runs old_taken runs taken from) (lt : from < len_of run.content)
-    (new_runs : List Run) (new_taken : List Taken) (next : IsTakenNext runs taken new_runs new_taken run from count) where
+    (new_runs : List Run) (new_taken : List Entry) (next : IsTakenNext runs taken new_runs new_taken run from count) where
   -- the operations that were there before the run, and those of the run
   abbrev old : List Operation
   old = operations_in old_runs old_taken
@@ -124,7 +124,7 @@ module _ (run : RunValue) (old_runs : List Run) (old_taken : List Taken) (runs :
 
 -- ---- the beginning
 
-walk_begins : (run : RunValue) (runs : List Run) (taken : List Taken) → AreTaken runs taken → IsWalked run runs taken runs taken 0
+walk_begins : (run : RunValue) (runs : List Run) (taken : List Entry) → AreTaken runs taken → IsWalked run runs taken runs taken 0
 walk_begins run runs taken are = record {
   bound = omega arith;
   grows = grow_none runs;
@@ -136,7 +136,7 @@ walk_begins run runs taken are = record {
 }
 
 -- where the first units of a run were there, the walk begins behind them
-pub walk_known : (run : RunValue) (runs : List Run) (taken : List Taken) (known : ℕ) → AreTaken runs taken → known ≤ len_of run.content → AreCovered taken run.id known →
+pub walk_known : (run : RunValue) (runs : List Run) (taken : List Entry) (known : ℕ) → AreTaken runs taken → known ≤ len_of run.content → AreCovered taken run.id known →
     IsWalked run runs taken runs taken known
 walk_known run runs taken zero are le covered = walk_begins run runs taken are
 walk_known run runs taken (suc n) are le covered =
@@ -149,8 +149,8 @@ walk_known run runs taken (suc n) are le covered =
 
 -- ---- one step more
 
-pub walk_on : (run : RunValue) (old_runs : List Run) (old_taken : List Taken) (runs : List Run) (taken : List Taken) (from next : ℕ) → IsRun run → ArePaired (operations_in old_runs old_taken) →
-    IsWalked run old_runs old_taken runs taken from → from < next → next ≤ len_of run.content → (new_runs : List Run) (new_taken : List Taken) →
+pub walk_on : (run : RunValue) (old_runs : List Run) (old_taken : List Entry) (runs : List Run) (taken : List Entry) (from next : ℕ) → IsRun run → ArePaired (operations_in old_runs old_taken) →
+    IsWalked run old_runs old_taken runs taken from → from < next → next ≤ len_of run.content → (new_runs : List Run) (new_taken : List Entry) →
     IsPassed runs taken new_runs new_taken run from (next - from) ⊎ IsTakenNext runs taken new_runs new_taken run from (next - from) →
     IsWalked run old_runs old_taken new_runs new_taken next
 walk_on run old_runs old_taken runs taken from next is paired walked lt le new_runs new_taken (inl passed) =
@@ -193,7 +193,7 @@ run_ids run old x written = elim (cases_Bool (has_operation (with_run run old) x
         ]
 
 -- where all units are taken in, so is the run
-pub walk_ends : (run : RunValue) (old_runs : List Run) (old_taken : List Taken) (runs : List Run) (taken : List Taken) (from : ℕ) → IsRun run → AreTaken old_runs old_taken →
+pub walk_ends : (run : RunValue) (old_runs : List Run) (old_taken : List Entry) (runs : List Run) (taken : List Entry) (from : ℕ) → IsRun run → AreTaken old_runs old_taken →
     IsWalked run old_runs old_taken runs taken from → len_of run.content ≤ from → TakesIn old_runs old_taken runs taken (run ∷ []) (operations_of_run run)
 walk_ends run old_runs old_taken runs taken from is are walked all = record {
   received = received;

@@ -4,7 +4,7 @@ use Rattle.std.specs.Prelude.{slice_get, IfSome}
 use Rattle.yd_words.specs.Each.{Each}
 use Rattle.yd_words.specs.Member.{IsIn as IsOneOf}
 use Rattle.yd_words.proofs.EachLemmas.{each_weaker}
-use Rattle.yd_words.proofs.MemberLemmas.{in_parts as one_of_parts}
+use Rattle.yd_words.proofs.MemberLemmas.{in_parts}
 use Rattle.yd_ids.specs.declared.id.Id.{Id}
 use Rattle.yd_ids.specs.Ids.{is_written_before}
 use Rattle.yd_ops.specs.declared.lists.List.{List as DocList}
@@ -12,53 +12,53 @@ use Rattle.yd_ops.specs.declared.runs.Run.{Run}
 use Rattle.yd_ops.specs.Valid.{CarriesList}
 use Rattle.yd_ops.specs.Operation.{UnitContent, Operation, later_id, operations_from}
 use Rattle.yd_meaning.specs.Received.{has_operation, IsWritten}
-use Rattle.yd_received.specs.declared.taken.Taken.{Taken}
-use Rattle.yd_received.specs.Taken.{units_of, list_at, operations_of_taken, operations_in, IsTakenOf, StandsBefore, AreInOrder, covers, GrowBy}
+use Rattle.yd_received.specs.declared.entry.Entry.{Entry}
+use Rattle.yd_received.specs.Entries.{units_of, list_at, operations_of_taken, operations_in, IsTakenOf, StandsBefore, AreInOrder, covers, GrowBy}
 use Rattle.yd_received.specs.Taking.{is_covered, HasUnits}
 use Rattle.yd_received.proofs.UnitLemmas.{from_unit, has_from, has_parts}
 
 -- ---- its ids
 
 -- an entry has as many units as it says
-pub units_taken : (runs : List Run) (t : Taken) → IsTakenOf runs t → length (take t.len (drop t.offset (units_of (slice_get runs t.run)))) ≡ t.len
+pub units_taken : (runs : List Run) (t : Entry) → IsTakenOf runs t → length (take t.len (drop t.offset (units_of (slice_get runs t.run)))) ≡ t.len
 units_taken runs t is =
     length-take t.len (drop t.offset (units_of (slice_get runs t.run)))
     ∙ ap (λ n. min t.len n) (length-drop t.offset (units_of (slice_get runs t.run)))
     ∙ omega (arith, is.within)
 
 -- the ids of an entry are those of its operations
-pub has_taken : (runs : List Run) (t : Taken) (x : Id) → IsTakenOf runs t → has_operation (operations_of_taken runs t) x ≡ covers t x
+pub has_taken : (runs : List Run) (t : Entry) (x : Id) → IsTakenOf runs t → has_operation (operations_of_taken runs t) x ≡ covers t x
 has_taken runs t x is =
     has_from t.id t.left t.right (list_at (slice_get runs t.run) t.offset) (take t.len (drop t.offset (units_of (slice_get runs t.run)))) x
     ∙ ap (λ n. nat_eq t.id.client.0 x.client.0 && (nat_le t.id.clock x.clock && nat_lt x.clock (t.id.clock + n))) (units_taken runs t is)
 
 -- an operation of an entry has one of its ids
-pub taken_id : (runs : List Run) (t : Taken) (o : Operation) → IsTakenOf runs t → IsOneOf o (operations_of_taken runs t) → (i : ℕ) × (i < t.len) × (o.id ≡ later_id t.id i)
+pub taken_id : (runs : List Run) (t : Entry) (o : Operation) → IsTakenOf runs t → IsOneOf o (operations_of_taken runs t) → (i : ℕ) × (i < t.len) × (o.id ≡ later_id t.id i)
 taken_id runs t o is j =
     let (i, lt, e, u) = from_unit t.id t.left t.right (list_at (slice_get runs t.run) t.offset) (take t.len (drop t.offset (units_of (slice_get runs t.run)))) o j in
     (i, omega (arith, units_taken runs t is), e)
 
 -- the ids that entries have are those of their operations
-pub has_covered : (runs : List Run) (ts : List Taken) (x : Id) → Each (IsTakenOf runs) ts → has_operation (operations_in runs ts) x ≡ is_covered ts x
+pub has_covered : (runs : List Run) (ts : List Entry) (x : Id) → Each (IsTakenOf runs) ts → has_operation (operations_in runs ts) x ≡ is_covered ts x
 has_covered runs [] x each = refl
 has_covered runs (t ∷ ts) x each =
     has_parts (operations_of_taken runs t) (operations_in runs ts) x
     ∙ ap (λ a. a || has_operation (operations_in runs ts) x) (has_taken runs t x each.0)
     ∙ ap (λ a. covers t x || a) (has_covered runs ts x each.1)
 
-pub taken_units : (runs : List Run) (ts : List Taken) → Each (IsTakenOf runs) ts → Each HasUnits ts
+pub taken_units : (runs : List Run) (ts : List Entry) → Each (IsTakenOf runs) ts → Each HasUnits ts
 taken_units runs ts each = each_weaker (IsTakenOf runs) HasUnits (λ t is. is.has_units) ts each
 
 -- ---- its order
 
-before_in : (s t : Taken) (i j : ℕ) → StandsBefore s t → i < s.len → is_written_before (later_id s.id i) (later_id t.id j) ≡ true
+before_in : (s t : Entry) (i j : ℕ) → StandsBefore s t → i < s.len → is_written_before (later_id s.id i) (later_id t.id j) ≡ true
 before_in s t i j (inl lt) less = grind (arith, tests)
 before_in s t i j (inr (same, le)) less = let e : s.id.client.0 ≡ t.id.client.0 = ap (λ c. c.0) same in grind (arith, tests)
 
-before_all : (runs : List Run) (s : Taken) (ts : List Taken) (o p : Operation) → IsTakenOf runs s → Each (IsTakenOf runs) ts → Each (StandsBefore s) ts →
+before_all : (runs : List Run) (s : Entry) (ts : List Entry) (o p : Operation) → IsTakenOf runs s → Each (IsTakenOf runs) ts → Each (StandsBefore s) ts →
     IsOneOf o (operations_of_taken runs s) → IsOneOf p (operations_in runs ts) → is_written_before o.id p.id ≡ true
 before_all runs s [] o p is each before i j = absurd j
-before_all runs s (t ∷ ts) o p is each before i j = elim (one_of_parts p (operations_of_taken runs t) (operations_in runs ts) j) [
+before_all runs s (t ∷ ts) o p is each before i j = elim (in_parts p (operations_of_taken runs t) (operations_in runs ts) j) [
   | inl k ↦
       let (m, lt, e) = taken_id runs s o is i in
       let (n, less, f) = taken_id runs t p each.0 k in
@@ -69,7 +69,7 @@ before_all runs s (t ∷ ts) o p is each before i j = elim (one_of_parts p (oper
 written_both : (os ps : List Operation) → IsWritten os → IsWritten ps → ((o p : Operation) → IsOneOf o os → IsOneOf p ps → is_written_before o.id p.id ≡ true) → IsWritten (os ++ ps)
 written_both [] ps v w before = w
 written_both (o ∷ os) ps v w before = (
-  (λ p i. elim (one_of_parts p os ps i) [ inl j ↦ v.0 p j | inr j ↦ before o p (inl refl) j ]),
+  (λ p i. elim (in_parts p os ps i) [ inl j ↦ v.0 p j | inr j ↦ before o p (inl refl) j ]),
   written_both os ps v.1 w (λ q p i j. before q p (inr i) j),
 )
 
@@ -84,7 +84,7 @@ from_written id left right list (unit ∷ units) = (
 )
 
 -- entries in order have their operations in the order of writing
-pub in_written : (runs : List Run) (ts : List Taken) → Each (IsTakenOf runs) ts → AreInOrder ts → IsWritten (operations_in runs ts)
+pub in_written : (runs : List Run) (ts : List Entry) → Each (IsTakenOf runs) ts → AreInOrder ts → IsWritten (operations_in runs ts)
 in_written runs [] each order = tt
 in_written runs (t ∷ ts) each order =
     written_both (operations_of_taken runs t) (operations_in runs ts)
@@ -94,7 +94,7 @@ in_written runs (t ∷ ts) each order =
 
 -- ---- entries one behind another
 
-pub operations_in-append : (runs : List Run) (ss ts : List Taken) → operations_in runs (ss ++ ts) ≡ operations_in runs ss ++ operations_in runs ts
+pub operations_in-append : (runs : List Run) (ss ts : List Entry) → operations_in runs (ss ++ ts) ≡ operations_in runs ss ++ operations_in runs ts
 operations_in-append runs [] ts = refl
 operations_in-append runs (s ∷ ss) ts =
     ap (λ os. operations_of_taken runs s ++ os) (operations_in-append runs ss ts)
@@ -110,11 +110,11 @@ slice_get-append (x ∷ xs) ys (suc i) lt = slice_get-append xs ys i (omega arit
 pub grown_get : (old new : List Run) (i : ℕ) → GrowBy old new → i < length old → slice_get new i ≡ slice_get old i
 grown_get old new i (more, e) lt = ap (λ runs. slice_get runs i) e ∙ slice_get-append old more i lt
 
-pub grown_operations : (old new : List Run) (t : Taken) → GrowBy old new → t.run < length old → operations_of_taken new t ≡ operations_of_taken old t
+pub grown_operations : (old new : List Run) (t : Entry) → GrowBy old new → t.run < length old → operations_of_taken new t ≡ operations_of_taken old t
 grown_operations old new t grow lt =
     ap (λ run. operations_from t.id t.left t.right (list_at run t.offset) (take t.len (drop t.offset (units_of run)))) (grown_get old new t.run grow lt)
 
-pub grown_taken : (old new : List Run) (t : Taken) → GrowBy old new → IsTakenOf old t → IsTakenOf new t
+pub grown_taken : (old new : List Run) (t : Entry) → GrowBy old new → IsTakenOf old t → IsTakenOf new t
 grown_taken old new t (more, e) is =
     let same : slice_get new t.run ≡ slice_get old t.run = grown_get old new t.run (more, e) is.run_there in
     record {
@@ -129,10 +129,10 @@ grown_taken old new t (more, e) is =
       list = subst (λ run. CarriesList t.left t.right (list_at run t.offset)) (sym same) is.list;
     }
 
-pub grown_each : (old new : List Run) (ts : List Taken) → GrowBy old new → Each (IsTakenOf old) ts → Each (IsTakenOf new) ts
+pub grown_each : (old new : List Run) (ts : List Entry) → GrowBy old new → Each (IsTakenOf old) ts → Each (IsTakenOf new) ts
 grown_each old new ts grow each = each_weaker (IsTakenOf old) (IsTakenOf new) (λ t is. grown_taken old new t grow is) ts each
 
-pub grown_in : (old new : List Run) (ts : List Taken) → GrowBy old new → Each (IsTakenOf old) ts → operations_in new ts ≡ operations_in old ts
+pub grown_in : (old new : List Run) (ts : List Entry) → GrowBy old new → Each (IsTakenOf old) ts → operations_in new ts ≡ operations_in old ts
 grown_in old new [] grow each = refl
 grown_in old new (t ∷ ts) grow each =
     ap (λ os. os ++ operations_in new ts) (grown_operations old new t grow each.0.run_there)

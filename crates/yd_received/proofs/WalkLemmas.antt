@@ -5,7 +5,7 @@ use Rattle.std.proofs.Math.Seq.{take-add}
 use Rattle.std.proofs.lemmas.Bool.{true≢false, false_from_ne_true}
 use Rattle.yd_words.specs.Each.{Each}
 use Rattle.yd_words.specs.Member.{IsIn as IsOneOf}
-use Rattle.yd_words.proofs.MemberLemmas.{in_left_part as one_of_front, in_right_part as one_of_back, in_parts as one_of_parts}
+use Rattle.yd_words.proofs.MemberLemmas.{in_left_part, in_right_part, in_parts}
 use Rattle.yd_ids.specs.declared.id.Id.{Id}
 use Rattle.yd_ops.specs.declared.runs.Run.{Run}
 use Rattle.yd_ops.specs.Operation.{Operation, later_id, operations_of_run}
@@ -13,15 +13,15 @@ use Rattle.yd_ops.specs.Value.{RunValue, len_of}
 use Rattle.yd_meaning.specs.Received.{has_operation, is_torn}
 use Rattle.yd_meaning.proofs.OneOfLemmas.{operation_with, id_there, ids_stay}
 use Rattle.yd_meaning.proofs.TakingLemmas.{IsTakenFrom, as_taken-id}
-use Rattle.yd_received.specs.declared.taken.Taken.{Taken}
-use Rattle.yd_received.specs.Taken.{IsTakenOf, AreInOrder, operations_in, is_held, GrowBy}
+use Rattle.yd_received.specs.declared.entry.Entry.{Entry}
+use Rattle.yd_received.specs.Entries.{IsTakenOf, AreInOrder, operations_in, is_held, GrowBy}
 use Rattle.yd_received.specs.Taking.{is_covered, AreCovered, PartsPair}
 use Rattle.yd_received.proofs.PieceLemmas.{part_unit}
 use Rattle.yd_received.proofs.TakenLemmas.{has_covered}
 use Rattle.yd_received.proofs.UnitLemmas.{later_later, later_same, later_one}
 
 -- what is taken where the units of a run before this one are taken in: of what was there before the run nothing changes
-pub record IsWalked (run : RunValue) (old_runs : List Run) (old_taken : List Taken) (runs : List Run) (taken : List Taken) (from : ℕ) : Type 0 where
+pub record IsWalked (run : RunValue) (old_runs : List Run) (old_taken : List Entry) (runs : List Run) (taken : List Entry) (from : ℕ) : Type 0 where
   pub bound : from ≤ len_of run.content
   pub grows : GrowBy old_runs runs
   pub each : Each (IsTakenOf runs) taken
@@ -34,7 +34,7 @@ pub record IsWalked (run : RunValue) (old_runs : List Run) (old_taken : List Tak
 
 -- ---- ids that were there before the run
 
-module _ (run : RunValue) (old_runs : List Run) (old_taken : List Taken) (runs : List Run) (taken : List Taken) (from : ℕ)
+module _ (run : RunValue) (old_runs : List Run) (old_taken : List Entry) (runs : List Run) (taken : List Entry) (from : ℕ)
     (walked : IsWalked run old_runs old_taken runs taken from) where
   -- the operations that were there before the run, and those of the run
   abbrev old : List Operation
@@ -59,13 +59,13 @@ module _ (run : RunValue) (old_runs : List Run) (old_taken : List Taken) (runs :
 
   -- operations of the run up to a later unit
   pub front_more : (count : ℕ) (o : Operation) → IsOneOf o (take from whole) → IsOneOf o (take (from + count) whole)
-  front_more count o i = subst (IsOneOf o) (sym (take-add from count whole)) (one_of_front o (take from whole) (take count (drop from whole)) i)
+  front_more count o i = subst (IsOneOf o) (sym (take-add from count whole)) (in_left_part o (take from whole) (take count (drop from whole)) i)
 
   pub part_more : (count : ℕ) (o : Operation) → IsOneOf o (take count (drop from whole)) → IsOneOf o (take (from + count) whole)
-  part_more count o i = subst (IsOneOf o) (sym (take-add from count whole)) (one_of_back o (take from whole) (take count (drop from whole)) i)
+  part_more count o i = subst (IsOneOf o) (sym (take-add from count whole)) (in_right_part o (take from whole) (take count (drop from whole)) i)
 
   pub parts_of : (count : ℕ) (o : Operation) → IsOneOf o (take (from + count) whole) → IsOneOf o (take from whole) ⊎ IsOneOf o (take count (drop from whole))
-  parts_of count o i = one_of_parts o (take from whole) (take count (drop from whole)) (subst (IsOneOf o) (take-add from count whole) i)
+  parts_of count o i = in_parts o (take from whole) (take count (drop from whole)) (subst (IsOneOf o) (take-add from count whole) i)
 
   -- ---- units that were taken before
 

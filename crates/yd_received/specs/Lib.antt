@@ -1,3 +1,4 @@
+pub mod Entries
 pub mod Lookup
-pub mod Taken
+pub mod Received
 pub mod Taking

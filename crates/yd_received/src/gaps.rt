@@ -5,11 +5,11 @@ ghost use Rattle.std.specs.Bool.{OnTrue, OnFalse};
 ghost use Rattle.yd_words.specs.Each.{Each};
 ghost use Rattle.yd_ids.specs.Id.{IsClock};
 ghost use Rattle.yd_ops.specs.Operation.{later_id};
-ghost use Rattle.yd_received.specs.Taken.{AreInOrder};
+ghost use Rattle.yd_received.specs.Entries.{AreInOrder};
 ghost use Rattle.yd_received.specs.Taking.{is_covered, AreCovered, HasUnits, EndsBy, EndsBehind};
 ghost use Rattle.yd_received.specs.Taking.{ends_by, IsGap};
 
-use crate::taken::Taken;
+use crate::entry::Entry;
 use yd_ids::Id;
 
 /// Ids of one client in a row that all came before, or none of which did.
@@ -24,7 +24,7 @@ pub(crate) struct IdRow {
 }
 
 /// The ids in a row that begin with one, at most so many. It takes one bisection.
-pub(crate) fn ids_from(taken: &[Taken], id: Id, most: u64) -> IdRow
+pub(crate) fn ids_from(taken: &[Entry], id: Id, most: u64) -> IdRow
     requires in_order { AreInOrder taken.now }
     requires each { Each HasUnits taken.now }
     requires some { 0 < most }
@@ -56,7 +56,7 @@ pub(crate) fn ids_from(taken: &[Taken], id: Id, most: u64) -> IdRow
 
 /// How many ids in a row from one on came before, at most so many. It takes a bisection for each
 /// entry that has some of them.
-pub(crate) fn known_from(taken: &[Taken], id: Id, most: u64) -> u64
+pub(crate) fn known_from(taken: &[Entry], id: Id, most: u64) -> u64
     requires in_order { AreInOrder taken.now }
     requires each { Each HasUnits taken.now }
     requires end { IsClock (id.clock + most) }
@@ -80,7 +80,7 @@ pub(crate) fn known_from(taken: &[Taken], id: Id, most: u64) -> u64
 }
 
 /// How many entries are written wholly before the id.
-fn place(taken: &[Taken], id: Id) -> usize
+fn place(taken: &[Entry], id: Id) -> usize
     requires { AreInOrder taken.now }
     ensures bound { result ≤ length taken.now }
     ensures before { Each (EndsBy id) (take result taken.now) }
@@ -89,7 +89,7 @@ fn place(taken: &[Taken], id: Id) -> usize
     taken.partition_point(|entry| ends_by(*entry, id))
 }
 
-fn ends_by(entry: Taken, id: Id) -> bool
+fn ends_by(entry: Entry, id: Id) -> bool
     ensures { result ≡ ends_by id entry }
 {
     // No sum, since an end has no bound here.

@@ -3,16 +3,16 @@
 ghost use Rattle.std.specs.Prelude.{◌≡◌, ◌≢◌, ◌<◌, ◌≤◌, true, false, length, take, drop};
 ghost use Rattle.std.specs.Prelude.{HoldsAt, IfSome, IfNone};
 ghost use Rattle.yd_words.specs.Each.{Each};
-ghost use Rattle.yd_received.specs.Taken.{AreInOrder, covers};
+ghost use Rattle.yd_received.specs.Entries.{AreInOrder, covers};
 ghost use Rattle.yd_received.specs.Lookup.{begins_by};
 ghost use Rattle.yd_received.specs.Taking.{is_covered, HasUnits};
 
-use crate::taken::Taken;
+use crate::entry::Entry;
 use yd_ids::Id;
 
 /// The place, from 0, of the entry whose units have the id. It takes no memory, and time with the
 /// logarithm of how many entries there are.
-pub fn entry_of(taken: &[Taken], id: Id) -> usize
+pub(crate) fn entry_of(taken: &[Entry], id: Id) -> usize
     requires in_order { AreInOrder taken.now }
     requires covered { is_covered taken.now id ≡ true }
     ensures inside { result < length taken.now }
@@ -23,7 +23,7 @@ pub fn entry_of(taken: &[Taken], id: Id) -> usize
 
 /// The place, from 0, of the entry that begins at the id, and none where no entry does. It takes no
 /// memory, and time with the logarithm of how many entries there are.
-pub fn entry_at(taken: &[Taken], id: Id) -> Option<usize>
+pub(crate) fn entry_at(taken: &[Entry], id: Id) -> Option<usize>
     requires in_order { AreInOrder taken.now }
     requires each { Each HasUnits taken.now }
     ensures found { IfSome result (λ at. (at < length taken.now)
@@ -38,7 +38,7 @@ pub fn entry_at(taken: &[Taken], id: Id) -> Option<usize>
 }
 
 /// How many entries begin at the id or before it.
-fn place(taken: &[Taken], id: Id) -> usize
+fn place(taken: &[Entry], id: Id) -> usize
     requires { AreInOrder taken.now }
     ensures bound { result ≤ length taken.now }
     ensures before { Each (λ t. begins_by t id ≡ true) (take result taken.now) }
@@ -48,7 +48,7 @@ fn place(taken: &[Taken], id: Id) -> usize
 }
 
 /// The entry begins at the id or before it.
-fn is_begun(entry: Taken, id: Id) -> bool
+fn is_begun(entry: Entry, id: Id) -> bool
     ensures { result ≡ begins_by entry id }
 {
     entry.id.client.0 > id.client.0 || (entry.id.client == id.client && entry.id.clock <= id.clock)

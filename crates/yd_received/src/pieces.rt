@@ -7,12 +7,12 @@ ghost use Rattle.yd_ops.specs.declared.runs.Run.{Run};
 ghost use Rattle.yd_ops.specs.Operation.{later_id};
 ghost use Rattle.yd_ops.specs.Value.{len_of};
 ghost use Rattle.yd_ops.specs.View.{content_value, run_value};
-ghost use Rattle.yd_received.specs.Taken.{StaysOfFirst, GrowBy};
+ghost use Rattle.yd_received.specs.Entries.{StaysOfFirst, GrowBy};
 ghost use Rattle.yd_received.specs.Taking.{PartsPair, IsPiece, left_at, list_from, half_at, IsRun};
 ghost use Rattle.yd_received.specs.Taking.{IsKept, Adds, operations_of_piece, entry_of};
 
+use crate::entry::Entry;
 use crate::fault::NoMemory;
-use crate::taken::Taken;
 use std::alloc::Global;
 use yd_ids::Id;
 use yd_ops::{Content, List, Run};
@@ -70,7 +70,7 @@ fn parts_pair(content: &Content, n: u64) -> bool
 pub(crate) fn take_piece(
     alloc: Global,
     runs: &mut Vec<Run>,
-    taken: &mut Vec<Taken>,
+    taken: &mut Vec<Entry>,
     run: &Run,
     index: usize,
     at: usize,
@@ -99,7 +99,7 @@ pub(crate) fn take_piece(
 
 /// Takes units of a run as they are.
 fn take_whole(
-    taken: &mut Vec<Taken>,
+    taken: &mut Vec<Entry>,
     run: &Run,
     index: usize,
     at: usize,
@@ -112,7 +112,7 @@ fn take_whole(
         ++ entry_of (run_value run.now) from index from len ∷ drop at taken.old.items) }
     ensures first { StaysOfFirst index taken.old.items taken.new.items }
 {
-    let entry = Taken {
+    let entry = Entry {
         id: id_at(run, from),
         len,
         left: left_at(run, from),
@@ -129,7 +129,7 @@ fn take_whole(
 fn take_half(
     alloc: Global,
     runs: &mut Vec<Run>,
-    taken: &mut Vec<Taken>,
+    taken: &mut Vec<Entry>,
     run: &Run,
     at: usize,
     from: u64,
@@ -146,7 +146,7 @@ fn take_half(
 {
     let half = half_at(alloc, run, from)?;
     let index = runs.len();
-    let entry = Taken {
+    let entry = Entry {
         id: half.id,
         len: 1,
         left: half.left,

@@ -1,57 +1,28 @@
-//! Taking in the operations of an update.
+//! Taking in the operations of blocks.
 
 ghost use Rattle.std.specs.Prelude.{◌≡◌, ◌↔◌, ◌<◌, ◌≤◌, ◌-◌, ◌⊎◌, [], ◌∷◌, length, filter, map, IsTrue, OnOk, IfOk};
 ghost use Rattle.std.specs.Bool.{OnFalse};
 ghost use Rattle.yd_words.specs.Each.{Each};
 ghost use Rattle.yd_ops.specs.Operation.{operations_of_run, operations_of_structs, operations_of_blocks};
-ghost use Rattle.yd_ops.specs.Valid.{IsValidBlock, IsValidUpdate};
+ghost use Rattle.yd_ops.specs.Valid.{IsValidBlock};
 ghost use Rattle.yd_ops.specs.Value.{len_of};
-ghost use Rattle.yd_ops.specs.View.{content_value, run_value, struct_value, block_value, update_value};
-ghost use Rattle.yd_meaning.specs.Received.{with_runs, runs_of, runs_of_structs, runs_of_blocks};
-ghost use Rattle.yd_received.specs.Taken.{AreTaken, AreInOrder, operations_in, is_held, StaysOfFirst, GrowBy};
-ghost use Rattle.yd_received.specs.Taking.{AreCovered, BringsOne, BringsOperation, HasUnits, IsRun, IsKept, IsPassed, IsTakenNext, IsTakeable, TakesIn, AreUnchanged};
+ghost use Rattle.yd_ops.specs.View.{content_value, run_value, struct_value, block_value};
+ghost use Rattle.yd_meaning.specs.Received.{runs_of_structs, runs_of_blocks};
+ghost use Rattle.yd_received.specs.Entries.{AreTaken, AreInOrder, operations_in, StaysOfFirst, GrowBy};
+ghost use Rattle.yd_received.specs.Taking.{AreCovered, BringsOne, HasUnits, IsRun, IsKept, IsPassed, IsTakenNext, IsTakeable, TakesIn, AreUnchanged};
 
+use crate::entry::Entry;
 use crate::fault::NoMemory;
 use crate::gaps::{ids_from, known_from};
 use crate::pieces::{first_piece, id_at, take_piece};
-use crate::taken::Taken;
 use std::alloc::Global;
-use yd_ops::{Block, Run, Struct, Update};
-
-/// Takes in the operations of an update, and answers whether one had a new id; where none had,
-/// nothing changes. Each run of which a unit is new is copied once. For each entry that has ids of
-/// a run, and each new one, it takes a bisection and an insertion. Where memory ends, runs may
-/// stand behind the others, and entries of those alone among what was taken.
-pub fn take_update(
-    alloc: Global,
-    runs: &mut Vec<Run>,
-    taken: &mut Vec<Taken>,
-    update: &Update,
-) -> Result<bool, NoMemory>
-    requires update { IsValidUpdate (update_value update.now) }
-    requires taken { AreTaken runs.old.items taken.old.items }
-    ensures received { OnOk result (operations_in runs.new.items taken.new.items
-        ≡ with_runs (runs_of (update_value update.now))
-        (operations_in runs.old.items taken.old.items)) }
-    ensures brings { IfOk result (λ brings. IsTrue brings
-        ↔ BringsOperation (update_value update.now)
-        (operations_in runs.old.items taken.old.items)) }
-    ensures unchanged { IfOk result (λ brings. OnFalse brings
-        (AreUnchanged runs.old.items taken.old.items runs.new.items taken.new.items)) }
-    ensures kept { OnOk result (AreTaken runs.new.items taken.new.items) }
-    ensures held { OnOk result (filter is_held taken.new.items ≡ filter is_held taken.old.items) }
-    ensures grows { GrowBy runs.old.items runs.new.items }
-    ensures first { StaysOfFirst (length runs.old.items) taken.old.items taken.new.items }
-{
-    let brings = take_blocks(alloc, runs, taken, update.blocks.as_slice())?;
-    Ok(brings)
-}
+use yd_ops::{Block, Run, Struct};
 
 /// Takes in the operations of blocks, and says whether there are new ones.
-fn take_blocks(
+pub(crate) fn take_blocks(
     alloc: Global,
     runs: &mut Vec<Run>,
-    taken: &mut Vec<Taken>,
+    taken: &mut Vec<Entry>,
     blocks: &[Block],
 ) -> Result<bool, NoMemory>
     requires blocks { Each IsValidBlock (map block_value blocks.now) }
@@ -79,7 +50,7 @@ fn take_blocks(
 fn take_structs(
     alloc: Global,
     runs: &mut Vec<Run>,
-    taken: &mut Vec<Taken>,
+    taken: &mut Vec<Entry>,
     structs: &[Struct],
 ) -> Result<bool, NoMemory>
     requires structs { Each IsTakeable (map struct_value structs.now) }
@@ -107,7 +78,7 @@ fn take_structs(
 fn take_struct(
     alloc: Global,
     runs: &mut Vec<Run>,
-    taken: &mut Vec<Taken>,
+    taken: &mut Vec<Entry>,
     entry: &Struct,
 ) -> Result<bool, NoMemory>
     requires entry { IsTakeable (struct_value entry.now) }
@@ -136,7 +107,7 @@ fn take_struct(
 fn take_run(
     alloc: Global,
     runs: &mut Vec<Run>,
-    taken: &mut Vec<Taken>,
+    taken: &mut Vec<Entry>,
     run: &Run,
 ) -> Result<bool, NoMemory>
     requires run { IsRun (run_value run.now) }
@@ -167,7 +138,7 @@ fn take_run(
 fn take_rest(
     alloc: Global,
     runs: &mut Vec<Run>,
-    taken: &mut Vec<Taken>,
+    taken: &mut Vec<Entry>,
     run: &Run,
     index: usize,
     known: u64,
@@ -194,7 +165,7 @@ fn take_rest(
 fn take_next(
     alloc: Global,
     runs: &mut Vec<Run>,
-    taken: &mut Vec<Taken>,
+    taken: &mut Vec<Entry>,
     run: &Run,
     index: usize,
     from: u64,

@@ -1,5 +1,8 @@
-use Rattle.std.proofs.Common.{◌∙◌, Some, refl, ap, subst, length, arith}
-use Rattle.yd_held.specs.Noted.{Finds, Wakes}
+use Rattle.std.proofs.Common.{◌∙◌, get_or, refl, sym, ap, subst, length, arith}
+use Rattle.std.specs.Global.{Vec}
+use Rattle.yd_received.proofs.EntryLemmas.{no_entry}
+use Rattle.yd_held.specs.declared.noting.Lack.{Lack}
+use Rattle.yd_held.specs.Noted.{AreNoted, Finds, Wakes}
 use Rattle.yd_held.proofs.ReadyLemmas.{held_all}
 use Rattle.yd_held.proofs.UnreadyLemmas.{are_waiting, none_ready, noted_first}
 use Rattle.yd_held.proofs.RoundLemmas.{length-marks, holds_none, grow_none, grow_then, round_noted, round_missing, round_rises, round_undone, all_marked}
@@ -7,69 +10,84 @@ use Rattle.yd_held.proofs.HoldAtLemmas.{more_then}
 use Rattle.yd_held.proofs.holding.hold_all.Goals as goal
 
 pub loop-tries-init : goal.loop-tries-init
-loop-tries-init c = record {
-  holding = record { in_order = c.requires.taken; own = c.requires.own; counted = c.requires.vector; numbered = c.requires.numbered };
-  more = holds_none c.args.runs.now c.args.taken.now.items c.in_ok-stale.stale.items (length c.args.names.now.items)
-      (ap length c.in_ok-stale.ensures ∙ length-marks c.len.result ∙ c.len.ensures ∙ c.args.names.now.ok.0);
-  noted = noted_first c.args.runs.now c.args.from c.args.taken.now.items c.requires.taken.each c.in_ok-tries.tries.items c.in_ok-tries.ensures c.args.vector.now c.args.lacks.now.items c.requires.noted;
-  missing = λ missing. missing;
-  rises = λ client. omega arith;
-  undone_is = refl;
-  grows = grow_none c.args.names.now.items;
-}
+loop-tries-init c =
+    let held = c.args.held.now in
+    record {
+      holding = c.requires.holding;
+      more = holds_none held.received c.in_ok-stale.stale.items (length held.names.items)
+          (ap length c.in_ok-stale.ensures ∙ length-marks c.len.result ∙ c.len.ensures ∙ held.names.ok.0);
+      noted = noted_first held.received.runs c.args.from held.received.entries c.requires.holding.in_order.each c.in_ok-tries.tries.items
+          (rw c.runs.ensures at c.in_ok-tries.ensures) held.vector held.lacks.items c.requires.noted;
+      missing = λ missing. missing;
+      rises = λ client. omega arith;
+      undone_is = refl;
+      runs_are = refl;
+      grows = grow_none held.names.items;
+    }
 
 pub next_ready-requires-clause-waiting : goal.next_ready-requires-clause-waiting
 next_ready-requires-clause-waiting c =
-    rw c.deref.ensures.value (are_waiting c.args.runs.now c.loop-tries.taken.items c.loop-tries.vector c.loop-tries.names.items c.loop-tries.invariant.holding)
+    let held = c.loop-tries.held in
+    are_waiting held.received.runs held.received.entries held.vector held.names.items c.loop-tries.invariant.holding
 
 pub loop-tries-preserved : goal.loop-tries-preserved
 loop-tries-preserved c =
-    let found : Finds c.loop-tries.vector c.args.runs.now c.loop-tries.taken.items c.next_ready.new.lacks.items c.next_ready.new.tries.items (Some c.in-Some.at) =
-    subst (Finds c.loop-tries.vector c.args.runs.now c.loop-tries.taken.items c.next_ready.new.lacks.items c.next_ready.new.tries.items) c.in-Some.is
-    (subst (λ ts. Finds c.loop-tries.vector c.args.runs.now ts c.next_ready.new.lacks.items c.next_ready.new.tries.items c.in_ok-at.field-0) c.deref.ensures.value c.in_ok-at.ensures.finds) in
+    let old = c.loop-tries.held in
+    let new = c.hold_at.new.held in
+    let lacks = c.next_ready.new.lacks.items in
+    let tries = c.next_ready.new.tries.items in
+    let found = subst (Finds old.vector old.received.runs old.received.entries lacks tries) c.in-Some.is c.in_ok-at.ensures.finds in
     let held = c.in_ok-hold_at.ensures.held in
+    let d = no_entry in
+    let woken : Wakes (get_or new.received.entries c.in-Some.at d) lacks c.wake.new.lacks.items tries c.wake.new.tries.items =
+    subst (λ (ls : Vec Lack). Wakes (get_or new.received.entries c.in-Some.at d) ls.items c.wake.new.lacks.items tries c.wake.new.tries.items) c.in_ok-hold_at.ensures.lacks
+    (subst (λ us. Wakes (get_or us c.in-Some.at d) new.lacks.items c.wake.new.lacks.items tries c.wake.new.tries.items) c.entries.ensures.entries c.in_ok-wake.ensures) in
     record {
       holding = c.in_ok-hold_at.ensures.holding;
-      more = more_then c.args.runs.now c.args.taken.now.items c.loop-tries.taken.items _ _ _ _ _ _ c.loop-tries.invariant.more c.in_ok-hold_at.ensures.more;
-      noted = round_noted c.args.runs.now c.in-Some.at c.loop-tries.taken.items c.hold_at.new.taken.items c.loop-tries.vector c.hold_at.new.vector
-          c.next_ready.new.lacks.items c.next_ready.new.tries.items held found.1 c.wake.new.lacks.items c.wake.new.tries.items c.index.result.now
-          (subst (λ t. Wakes t c.next_ready.new.lacks.items c.wake.new.lacks.items c.next_ready.new.tries.items c.wake.new.tries.items) c.index.ensures c.in_ok-wake.ensures);
-      missing = λ missing. round_missing c.args.runs.now c.in-Some.at c.loop-tries.taken.items c.hold_at.new.taken.items c.loop-tries.vector c.hold_at.new.vector
-          c.next_ready.new.lacks.items c.next_ready.new.tries.items held found.1 c.wake.new.lacks.items c.wake.new.tries.items c.index.result.now
-          (subst (λ t. Wakes t c.next_ready.new.lacks.items c.wake.new.lacks.items c.next_ready.new.tries.items c.wake.new.tries.items) c.index.ensures c.in_ok-wake.ensures)
-          (c.in_ok-at.ensures.missing (c.loop-tries.invariant.missing missing));
-      rises = round_rises c.args.runs.now c.in-Some.at c.loop-tries.taken.items c.hold_at.new.taken.items c.loop-tries.vector c.hold_at.new.vector
-          c.next_ready.new.lacks.items c.next_ready.new.tries.items held found.1 c.args.vector.now c.loop-tries.invariant.rises;
-      undone_is = round_undone c.args.runs.now c.in-Some.at c.loop-tries.taken.items c.hold_at.new.taken.items c.loop-tries.vector c.hold_at.new.vector
-          c.next_ready.new.lacks.items c.next_ready.new.tries.items held found.1 c.args.vector.now c.loop-tries.invariant.rises c.args.taken.now.items c.loop-tries.invariant.undone_is;
-      grows = grow_then c.args.names.now.items c.loop-tries.names.items c.hold_at.new.names.items c.loop-tries.invariant.grows c.in_ok-hold_at.ensures.grows;
+      more = more_then c.args.held.now.received old.received new.received _ _ _ _ _ c.loop-tries.invariant.more c.in_ok-hold_at.ensures.more;
+      noted = subst (λ runs. AreNoted new.vector runs c.wake.new.lacks.items c.wake.new.tries.items new.received.entries) (sym c.in_ok-hold_at.ensures.runs)
+          (round_noted old.received.runs c.in-Some.at old.received.entries new.received.entries old.vector new.vector lacks tries held found.1 c.wake.new.lacks.items c.wake.new.tries.items d woken);
+      missing = λ missing. round_missing old.received.runs c.in-Some.at old.received.entries new.received.entries old.vector new.vector lacks tries held found.1
+          c.wake.new.lacks.items c.wake.new.tries.items d woken (c.in_ok-at.ensures.missing (c.loop-tries.invariant.missing missing));
+      rises = round_rises old.received.runs c.in-Some.at old.received.entries new.received.entries old.vector new.vector lacks tries held found.1
+          c.args.held.now.vector c.loop-tries.invariant.rises;
+      undone_is = round_undone old.received.runs c.in-Some.at old.received.entries new.received.entries old.vector new.vector lacks tries held found.1
+          c.args.held.now.vector c.loop-tries.invariant.rises c.args.held.now.received.entries c.loop-tries.invariant.undone_is;
+      runs_are = c.in_ok-hold_at.ensures.runs ∙ c.loop-tries.invariant.runs_are;
+      grows = grow_then c.args.held.now.names.items old.names.items new.names.items c.loop-tries.invariant.grows c.in_ok-hold_at.ensures.grows;
     }
 
 pub returns-in_err-wake-clause-undone : goal.returns-in_err-wake-clause-undone
 returns-in_err-wake-clause-undone c =
-    let found : Finds c.loop-tries.vector c.args.runs.now c.loop-tries.taken.items c.next_ready.new.lacks.items c.next_ready.new.tries.items (Some c.in-Some.at) =
-    subst (Finds c.loop-tries.vector c.args.runs.now c.loop-tries.taken.items c.next_ready.new.lacks.items c.next_ready.new.tries.items) c.in-Some.is
-    (subst (λ ts. Finds c.loop-tries.vector c.args.runs.now ts c.next_ready.new.lacks.items c.next_ready.new.tries.items c.in_ok-at.field-0) c.deref.ensures.value c.in_ok-at.ensures.finds) in
-    round_undone c.args.runs.now c.in-Some.at c.loop-tries.taken.items c.hold_at.new.taken.items c.loop-tries.vector c.hold_at.new.vector
-    c.next_ready.new.lacks.items c.next_ready.new.tries.items c.in_ok-hold_at.ensures.held found.1 c.args.vector.now c.loop-tries.invariant.rises c.args.taken.now.items c.loop-tries.invariant.undone_is
+    let old = c.loop-tries.held in
+    let new = c.hold_at.new.held in
+    let lacks = c.next_ready.new.lacks.items in
+    let tries = c.next_ready.new.tries.items in
+    let found = subst (Finds old.vector old.received.runs old.received.entries lacks tries) c.in-Some.is c.in_ok-at.ensures.finds in
+    let held = c.in_ok-hold_at.ensures.held in
+    round_undone old.received.runs c.in-Some.at old.received.entries new.received.entries old.vector new.vector lacks tries held found.1
+    c.args.held.now.vector c.loop-tries.invariant.rises c.args.held.now.received.entries c.loop-tries.invariant.undone_is
 
 pub returns-clause-holds : goal.returns-clause-holds
 returns-clause-holds c =
-    let noted = subst (Finds c.loop-tries.vector c.args.runs.now c.loop-tries.taken.items c.next_ready.new.lacks.items c.next_ready.new.tries.items) c.in_default.is
-    (subst (λ ts. Finds c.loop-tries.vector c.args.runs.now ts c.next_ready.new.lacks.items c.next_ready.new.tries.items c.in_ok-at.field-0) c.deref.ensures.value c.in_ok-at.ensures.finds) in
+    let held = c.loop-tries.held in
+    let noted = subst (Finds held.vector held.received.runs held.received.entries c.next_ready.new.lacks.items c.next_ready.new.tries.items) c.in_default.is c.in_ok-at.ensures.finds in
+    let holding = c.loop-tries.invariant.holding in
     record {
-      in_order = c.loop-tries.invariant.holding.in_order;
-      held = held_all c.args.runs.now c.loop-tries.taken.items c.loop-tries.vector c.loop-tries.names.items c.loop-tries.invariant.holding
-          (none_ready c.args.runs.now c.loop-tries.taken.items c.loop-tries.vector c.next_ready.new.lacks.items noted);
-      counted = c.loop-tries.invariant.holding.counted;
-      numbered = c.loop-tries.invariant.holding.numbered;
+      in_order = holding.in_order;
+      held = held_all held.received.runs held.received.entries held.vector held.names.items holding
+          (none_ready held.received.runs held.received.entries held.vector c.next_ready.new.lacks.items noted);
+      counted = holding.counted;
+      numbered = holding.numbered;
       noted = noted;
     }
 
 pub returns-clause-marked : goal.returns-clause-marked
 returns-clause-marked c =
-    all_marked c.args.runs.now c.args.taken.now.items c.loop-tries.taken.items c.len.result (length c.loop-tries.names.items) c.loop-tries.stale.items
-    (rw c.in_ok-stale.ensures at c.loop-tries.invariant.more)
+    let held = c.loop-tries.held in
+    let count = c.len.ensures ∙ c.args.held.now.names.ok.0 in
+    rw count at (all_marked c.args.held.now.received held.received c.len.result (length held.names.items) c.loop-tries.stale.items
+    (rw c.in_ok-stale.ensures at c.loop-tries.invariant.more))
 
 pub returns-clause-missing : goal.returns-clause-missing
 returns-clause-missing c = λ missing. c.in_ok-at.ensures.missing (c.loop-tries.invariant.missing missing)

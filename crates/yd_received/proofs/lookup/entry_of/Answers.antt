@@ -1,5 +1,5 @@
 use Rattle.std.proofs.Common.{◌≡◌, ◌-◌, get_or, true, subst, arith}
-use Rattle.yd_received.specs.Taken.{covers}
+use Rattle.yd_received.specs.Entries.{covers}
 use Rattle.yd_received.proofs.LookupLemmas.{entry_before}
 use Rattle.yd_received.proofs.lookup.entry_of.Goals as goal
 

@@ -1,5 +1,5 @@
 use Rattle.std.proofs.Common.{length, sym, subst, arith}
-use Rattle.yd_received.specs.Taken.{StaysOfFirst}
+use Rattle.yd_received.specs.Entries.{StaysOfFirst}
 use Rattle.yd_received.proofs.FirstLemmas.{stays_with}
 use Rattle.yd_received.proofs.pieces.take_half.Goals as goal
 

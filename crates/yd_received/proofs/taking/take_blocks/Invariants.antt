@@ -3,7 +3,7 @@ use Rattle.yd_ops.specs.Operation.{operations_of_blocks}
 use Rattle.yd_ops.specs.View.{block_value}
 use Rattle.yd_meaning.specs.Received.{runs_of_blocks}
 use Rattle.std.specs.Bool.{OnFalse}
-use Rattle.yd_received.specs.Taken.{StaysOfFirst}
+use Rattle.yd_received.specs.Entries.{StaysOfFirst}
 use Rattle.yd_received.specs.Taking.{AreUnchanged}
 use Rattle.yd_received.proofs.SequenceLemmas.{IsTakenIn}
 use Rattle.yd_received.proofs.taking.take_blocks.Given as goal

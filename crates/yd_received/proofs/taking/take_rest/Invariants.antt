@@ -1,7 +1,7 @@
 use Rattle.std.proofs.Common.{◌-◌}
 use Rattle.yd_ops.specs.Value.{len_of}
 use Rattle.yd_ops.specs.View.{run_value, content_value}
-use Rattle.yd_received.specs.Taken.{StaysOfFirst}
+use Rattle.yd_received.specs.Entries.{StaysOfFirst}
 use Rattle.yd_received.specs.Taking.{IsKept}
 use Rattle.yd_received.proofs.WalkLemmas.{IsWalked}
 use Rattle.yd_received.proofs.taking.take_rest.Given as goal

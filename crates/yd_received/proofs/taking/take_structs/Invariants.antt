@@ -3,7 +3,7 @@ use Rattle.yd_ops.specs.Operation.{operations_of_structs}
 use Rattle.yd_ops.specs.View.{struct_value}
 use Rattle.yd_meaning.specs.Received.{runs_of_structs}
 use Rattle.std.specs.Bool.{OnFalse}
-use Rattle.yd_received.specs.Taken.{StaysOfFirst}
+use Rattle.yd_received.specs.Entries.{StaysOfFirst}
 use Rattle.yd_received.specs.Taking.{AreUnchanged}
 use Rattle.yd_received.proofs.SequenceLemmas.{IsTakenIn}
 use Rattle.yd_received.proofs.taking.take_structs.Given as goal

@@ -1,0 +1,133 @@
+//! What is held, as one value.
+
+ghost use Rattle.std.specs.Prelude.{◌≡◌, ◌↔◌, [], length, IsTrue, OnOk, OnErr, IfOk};
+ghost use Rattle.yd_ops.specs.Valid.{IsValidUpdate};
+ghost use Rattle.yd_ops.specs.View.{update_value};
+ghost use Rattle.yd_meaning.specs.Received.{with_runs, runs_of};
+ghost use Rattle.yd_received.specs.Entries.{GrowBy};
+ghost use Rattle.yd_received.specs.Received.{taken_of};
+ghost use Rattle.yd_received.specs.Taking.{BringsOperation};
+ghost use Rattle.yd_held.specs.Holding.{MarkChanges};
+ghost use Rattle.yd_held.specs.Held.{HoldsAll, back_to};
+
+use crate::changing::change;
+use crate::fault::NoMemory;
+use crate::parts::{Before, HeldParts};
+use std::alloc::Global;
+use std::marker::Model;
+use yd_ids::Vector;
+use yd_ops::{List, Update};
+use yd_received::Received;
+
+/// What was received, and what is held of it: each unit that has all that it needs.
+#[derive(Drop)]
+pub struct Held {
+    parts: HeldParts,
+}
+
+impl Model for Held {
+    ghost use Rattle.yd_held.specs.Held.{HeldValue, held_value, HoldsAll};
+    ghost use Rattle.yd_any.specs.contracts.any_value.AnyList as any_list;
+    ghost use Rattle.yd_any.specs.contracts.json_value.Json as json;
+    ghost use Rattle.std.specs.Coded.{codes};
+
+    ghost Value = { HeldValue };
+
+    ghost coded = { Prim.hlevel (codes, json.the_row.coded, any_list.the_row.coded) };
+
+    ghost view = { λ it. held_value it.parts };
+
+    ghost invariant = { λ it. HoldsAll (held_value it.parts) };
+}
+
+/// What a `take` did.
+#[derive(Drop)]
+pub struct Taken {
+    /// An operation had a new id.
+    pub brings: bool,
+    /// A mark for each list: one with a mark got units, and one without got none.
+    pub stale: Vec<bool>,
+    /// What puts back what was held before.
+    pub before: Before,
+}
+
+impl Held {
+    /// Nothing, received and held so far.
+    pub fn new(alloc: Global) -> Held
+        ensures { result ≡ record { received = record { runs = []; entries = [] }; vector = []; names = []; lacks = [] } }
+    {
+        Held {
+            parts: HeldParts {
+                received: Received::new(alloc),
+                vector: Vector::new(alloc),
+                names: Vec::new(alloc),
+                lacks: Vec::new(alloc),
+            },
+        }
+    }
+
+    /// What was received.
+    pub fn received(&self) -> &Received
+        ensures received { result.now ≡ self.now.received }
+        ensures holds { HoldsAll self.now }
+    {
+        &self.parts.received
+    }
+
+    /// The clock up to which each client's units are held.
+    pub fn vector(&self) -> &Vector
+        ensures vector { result.now ≡ self.now.vector }
+        ensures holds { HoldsAll self.now }
+    {
+        &self.parts.vector
+    }
+
+    /// The lists with held units, by number.
+    pub fn names(&self) -> &[List]
+        ensures names { result.now ≡ self.now.names }
+        ensures holds { HoldsAll self.now }
+    {
+        &self.parts.names
+    }
+
+    /// Takes in the operations of an update, and holds what can be held then. What lacks something
+    /// is noted by it, once for each client, and tried again as soon as that is held; then it is
+    /// noted no more. So it takes some look-ups for each new run, for each entry that is held, and
+    /// for each time that one is tried, and a copy of the clocks and of what is lacked. The names of
+    /// new lists go behind the others. Where memory ends nothing was taken.
+    pub fn take(&mut self, update: &Update) -> Result<Taken, NoMemory>
+        requires { IsValidUpdate (update_value update.now) }
+        ensures received { OnOk result (taken_of self.new.received
+            ≡ with_runs (runs_of (update_value update.now)) (taken_of self.old.received)) }
+        ensures brings { IfOk result (λ taken. IsTrue taken.brings
+            ↔ BringsOperation (update_value update.now) (taken_of self.old.received)) }
+        ensures marked { IfOk result (λ taken. MarkChanges taken.stale.items
+            self.old.received.entries self.new.received.entries
+            (length self.old.names) (length self.new.names)) }
+        ensures grows { OnOk result (GrowBy self.old.names self.new.names) }
+        ensures holds { HoldsAll self.new }
+        ensures back { IfOk result (λ taken. back_to taken.before self.new ≡ self.old) }
+        ensures unchanged { OnErr result (self.new ≡ self.old) }
+    {
+        let before = self.parts.before()?;
+        match change(&mut self.parts, update) {
+            Ok((brings, stale)) => Ok(Taken {
+                brings,
+                stale,
+                before,
+            }),
+            Err(NoMemory) => {
+                self.parts.put_back(before);
+                Err(NoMemory)
+            }
+        }
+    }
+
+    /// Puts back what was held before a `take`. It takes time with the number of entries.
+    pub fn put_back(&mut self, before: Before)
+        requires { HoldsAll (back_to before self.old) }
+        ensures { self.new ≡ back_to before self.old }
+    {
+        self.parts.put_back(before);
+    }
+}

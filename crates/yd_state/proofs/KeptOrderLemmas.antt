@@ -1,0 +1,97 @@
+-- Orders of lists, kept or made, one after another; and that they are those of the names, where each is.
+use Rattle.std.proofs.Common.{◌≡◌, ℕ, ◌<◌, Bool, true, false, List, [], ◌∷◌, ◌++◌, ◌⊎◌, Some, None, zero, suc, inl, inr, length, get_or, map, refl, sym, ap, ◌∙◌, subst, arith}
+use Rattle.std.specs.Prelude.{slice_get}
+use Rattle.std.specs.Global.{Vec}
+use Rattle.std.proofs.lemmas.List.{length-map}
+use Rattle.std.proofs.lemmas.Option.{slice_get-get_or}
+use Rattle.yd_ids.specs.declared.id.Id.{Id}
+use Rattle.yd_ops.specs.declared.lists.List.{List as DocList}
+use Rattle.yd_ops.specs.Operation.{Operation}
+use Rattle.yd_origins.specs.Sorted.{origin_order}
+use Rattle.yd_meaning.specs.Order.{order_of}
+use Rattle.yd_order.specs.declared.stretch.Stretch.{Stretch}
+use Rattle.yd_order.specs.Stretch.{rows_of_stretches, among_rows}
+use Rattle.yd_state.specs.Ordered.{AreOrders, order_lists}
+use Rattle.yd_state.specs.Stretches.{stretch_lists, HaveOrders, IsKeptOrMade, AreKeptOrMade}
+
+-- what stands in a list with one more
+at_more : {X : Type 0} (xs : List X) (x : X) (n : ℕ) (y : X) → slice_get (xs ++ x ∷ []) n ≡ Some y → (slice_get xs n ≡ Some y) ⊎ ((n ≡ length xs) × (x ≡ y))
+at_more [] x zero y e = let same : x ≡ y = cc in inr (refl, same)
+at_more [] x (suc n) y e = let clash : None ≡ Some y = e in cc
+at_more (z ∷ zs) x zero y e = inl e
+at_more (z ∷ zs) x (suc n) y e = elim (at_more zs x n y e) [ inl f ↦ inl f | inr f ↦ inr (ap suc f.0, f.1) ]
+
+-- ---- lemmas for callers
+
+-- what is read at a place, as a function of it stands in the mapped list
+pub map_at : {X Y : Type 0} (f : X → Y) (xs : List X) (n : ℕ) (x : X) (y : Y) → n < length xs → x ≡ get_or xs n x → y ≡ f x → slice_get (map f xs) n ≡ Some y
+map_at f [] n x y lt e g = absurd (omega arith)
+map_at f (z ∷ zs) zero x y lt e g = ap Some (sym (g ∙ ap f e))
+map_at f (z ∷ zs) (suc n) x y lt e g = map_at f zs n x y (omega arith) e g
+
+-- a mark that is read stands at its place
+pub mark_at : (stale : List Bool) (n : ℕ) (mark : Bool) → n < length stale → get_or stale n false ≡ mark → slice_get stale n ≡ Some mark
+mark_at stale n mark lt e = slice_get-get_or stale n false lt ∙ ap Some e
+
+-- each mark has stretches, and one that is not set an order
+pub bucket_there : (stale : List Bool) (buckets : List (Vec Stretch)) (old : List (List Id)) (n : ℕ) → HaveOrders stale (stretch_lists buckets) old →
+    n < length stale → n < length buckets
+bucket_there stale buckets old n have lt = omega (arith, have.each, length-map buckets (λ (bucket : Vec Stretch). bucket.items))
+
+pub order_there : (stale : List Bool) (buckets : List (List Stretch)) (orders : List (Vec Id)) (n : ℕ) → HaveOrders stale buckets (order_lists orders) →
+    slice_get stale n ≡ Some false → n < length orders
+order_there stale buckets orders n have unmarked = omega (arith, have.orders n unmarked, length-map orders (λ (order : Vec Id). order.items))
+
+-- the order of one list, with a mark or without
+pub order_made : (stale : List Bool) (buckets : List (List Stretch)) (old : List (List Id)) (n : ℕ) (order : List Id) (stretches : List Stretch) →
+    slice_get stale n ≡ Some true → slice_get buckets n ≡ Some stretches → order ≡ origin_order (among_rows (rows_of_stretches stretches)) →
+    IsKeptOrMade stale buckets old n order
+order_made stale buckets old n order stretches marked there e = record {
+  made = λ other _ f. let same : stretches ≡ other = one_list other (sym there ∙ f) in e ∙ ap (λ s. origin_order (among_rows (rows_of_stretches s))) same;
+  kept = λ unmarked. let clash : Some true ≡ Some false = sym marked ∙ unmarked in cc;
+}
+  where
+    one_list : (other : List Stretch) → Some stretches ≡ Some other → stretches ≡ other
+    one_list other f = cc
+
+pub order_kept : (stale : List Bool) (buckets : List (List Stretch)) (old : List (List Id)) (n : ℕ) (order : List Id) → slice_get stale n ≡ Some false →
+    slice_get old n ≡ Some order → IsKeptOrMade stale buckets old n order
+order_kept stale buckets old n order unmarked there = record {
+  made = λ stretches marked f. let clash : Some true ≡ Some false = sym marked ∙ unmarked in cc;
+  kept = λ _. there;
+}
+
+-- the order of the next list is behind them
+pub kept_or_made-more : (stale : List Bool) (buckets : List (List Stretch)) (old new : List (List Id)) (n : ℕ) (order : List Id) → length new ≡ n →
+    AreKeptOrMade stale buckets old new → IsKeptOrMade stale buckets old n order → AreKeptOrMade stale buckets old (new ++ order ∷ [])
+kept_or_made-more stale buckets old new n order e are next m other there = elim (at_more new order m other there) [
+  | inl f ↦ are m other f
+  | inr f ↦ subst (λ k. IsKeptOrMade stale buckets old k other) (sym (f.0 ∙ e)) (subst (λ xs. IsKeptOrMade stale buckets old n xs) f.1 next)
+]
+
+-- the orders are those of the names, where each is
+pub orders_length : (held : List Operation) (names : List DocList) (orders : List (List Id)) → AreOrders held names orders → length names ≡ length orders
+orders_length held [] [] are = refl
+orders_length held [] (order ∷ orders) are = absurd are
+orders_length held (name ∷ names) [] are = absurd are
+orders_length held (name ∷ names) (order ∷ orders) are = ap suc (orders_length held names orders are.1)
+
+pub ordered_at : (held : List Operation) (names : List DocList) (orders : List (List Id)) → AreOrders held names orders →
+    (n : ℕ) (name : DocList) → slice_get names n ≡ Some name → slice_get orders n ≡ Some (order_of held name)
+ordered_at held [] orders are n name e = cc
+ordered_at held (x ∷ names) [] are n name e = absurd are
+ordered_at held (x ∷ names) (order ∷ orders) are zero name e = let same : x ≡ name = cc in ap Some (are.0 ∙ ap (order_of held) same)
+ordered_at held (x ∷ names) (order ∷ orders) are (suc n) name e = ordered_at held names orders are.1 n name e
+
+pub at_ordered : (held : List Operation) (names : List DocList) (orders : List (List Id)) → length names ≡ length orders →
+    ((n : ℕ) (name : DocList) → slice_get names n ≡ Some name → slice_get orders n ≡ Some (order_of held name)) → AreOrders held names orders
+at_ordered held [] [] e at = tt
+at_ordered held [] (order ∷ orders) e at = absurd (omega arith)
+at_ordered held (name ∷ names) [] e at = absurd (omega arith)
+at_ordered held (name ∷ names) (order ∷ orders) e at = (
+  (let there : Some order ≡ Some (order_of held name) = at zero name refl in same_order there),
+  at_ordered held names orders (omega arith) (λ n x f. at (suc n) x f),
+)
+  where
+    same_order : Some order ≡ Some (order_of held name) → order ≡ order_of held name
+    same_order f = cc

@@ -1,0 +1,5 @@
+pub mod Deleting
+pub mod Ordered
+pub mod State
+pub mod Stretches
+pub mod Waiting

@@ -1,0 +1,78 @@
+-- The units of a list as the order sees them: stretches of one client, in the order of writing (own).
+use Rattle.std.specs.Prelude.{◌≡◌, ◌<◌, ◌≤◌, ℕ, zero, suc, false, true, Bool, List, [], ◌∷◌, ◌++◌, Some, filter, map, slice_get, length}
+use Rattle.std.specs.Global.{Vec}
+use Rattle.yd_words.specs.Each.{Each}
+use Rattle.yd_ids.specs.declared.id.Id.{Id}
+use Rattle.yd_ops.specs.declared.lists.List.{List as DocList}
+use Rattle.yd_origins.specs.Sorted.{origin_order}
+use Rattle.yd_origins.specs.Table.{IsTable}
+use Rattle.yd_order.specs.declared.stretch.Stretch.{Stretch}
+use Rattle.yd_order.specs.Stretch.{EndsAtClock, rows_of_stretches, among_rows}
+use Rattle.yd_received.specs.declared.entry.Entry.{Entry}
+use Rattle.yd_held.specs.Numbered.{is_in_list}
+
+-- units that were taken, as a stretch
+abbrev pub stretch_of : Entry → Stretch
+stretch_of t = record { id = t.id; len = t.len; left = t.left; right = t.right }
+
+-- the stretches that are held in the list with a number
+abbrev pub stretches_in : ℕ → List Entry → List Stretch
+stretches_in n taken = map stretch_of (filter (is_in_list n) taken)
+
+-- the ids of that list, in the order that the origins of its stretches give
+abbrev pub order_by_stretches : ℕ → List Entry → List Id
+order_by_stretches n taken = origin_order (among_rows (rows_of_stretches (stretches_in n taken)))
+
+-- no mark is set
+abbrev pub AreUnmarked : List Bool → Type 0
+AreUnmarked = Each (λ mark. mark ≡ false)
+
+-- there is a mark for each list, and no list more has an order; one without a mark has the order of its stretches already
+pub record AreSettled (stale : List Bool) (names : List DocList) (orders : List (List Id)) (taken : List Entry) : Type 0 where
+  pub each : length stale ≡ length names
+  pub no_more : length orders ≤ length names
+  pub settled : (n : ℕ) → slice_get stale n ≡ Some false → slice_get orders n ≡ Some (order_by_stretches n taken)
+
+-- ---- stretches, as they are gathered
+
+-- vectors of stretches as lists
+abbrev pub stretch_lists : List (Vec Stretch) → List (List Stretch)
+stretch_lists buckets = map (λ (bucket : Vec Stretch). bucket.items) buckets
+
+-- lists where the one with a number has one more behind
+abbrev pub with_last : {X : Type 0} → ℕ → X → List (List X) → List (List X)
+with_last n x [] = []
+with_last zero x (list ∷ lists) = (list ++ x ∷ []) ∷ lists
+with_last (suc n) x (list ∷ lists) = list ∷ with_last n x lists
+
+-- there are stretches for each mark, and where it is set they are those that are held in the list
+pub record AreGathered (stale : List Bool) (taken : List Entry) (buckets : List (List Stretch)) : Type 0 where
+  pub each : length buckets ≡ length stale
+  pub gathered : (n : ℕ) → slice_get stale n ≡ Some true → slice_get buckets n ≡ Some (stretches_in n taken)
+
+-- whatever entries were gathered before, the entry is gathered behind them
+abbrev pub Gathers : List Bool → Entry → List (List Stretch) → List (List Stretch) → Type 0
+Gathers stale entry old new = (seen : List Entry) → AreGathered stale seen old → AreGathered stale (seen ++ entry ∷ []) new
+
+-- ---- orders, kept or made
+
+-- the stretches end at clocks, and their rows are a table
+pub record IsTableOfStretches (stretches : List Stretch) : Type 0 where
+  pub clocks : Each EndsAtClock stretches
+  pub table : IsTable (among_rows (rows_of_stretches stretches))
+
+-- each list with a mark has stretches that can be arranged, and each other one an order
+pub record HaveOrders (stale : List Bool) (buckets : List (List Stretch)) (old : List (List Id)) : Type 0 where
+  pub each : length buckets ≡ length stale
+  pub tables : (n : ℕ) (stretches : List Stretch) → slice_get stale n ≡ Some true → slice_get buckets n ≡ Some stretches → IsTableOfStretches stretches
+  pub orders : (n : ℕ) → slice_get stale n ≡ Some false → n < length old
+
+-- the order of the list with a number: with a mark that of its stretches, else the one that it had
+pub record IsKeptOrMade (stale : List Bool) (buckets : List (List Stretch)) (old : List (List Id)) (n : ℕ) (order : List Id) : Type 0 where
+  pub made : (stretches : List Stretch) → slice_get stale n ≡ Some true → slice_get buckets n ≡ Some stretches →
+      order ≡ origin_order (among_rows (rows_of_stretches stretches))
+  pub kept : slice_get stale n ≡ Some false → slice_get old n ≡ Some order
+
+-- so are orders in a row, from the first on
+abbrev pub AreKeptOrMade : List Bool → List (List Stretch) → List (List Id) → List (List Id) → Type 0
+AreKeptOrMade stale buckets old new = (n : ℕ) (order : List Id) → slice_get new n ≡ Some order → IsKeptOrMade stale buckets old n order

@@ -1,0 +1,23 @@
+//! The state of a replica: what it received, what is held of it, in which order, and what is deleted.
+//!
+//! All that it tells is what the received operations and deletions define (`yd_meaning`), whatever
+//! the order in which they came ([`State`]). A `take` that finds no memory has changed nothing.
+//!
+//! ```rust
+//! let mut state = State::new(alloc);
+//! let brings = state.take(&update)?;
+//! let order = state.order(&list);
+//! ```
+#![tactic(auto)]
+
+mod deleting;
+mod fault;
+mod finding;
+mod novelty;
+mod ordering;
+mod settling;
+mod state;
+mod waiting;
+
+pub use fault::NoMemory;
+pub use state::State;

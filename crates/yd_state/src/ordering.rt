@@ -1,0 +1,159 @@
+//! The order of each list.
+
+ghost use Rattle.std.specs.Prelude.{◌≡◌, ◌<◌, [], Some, true, length, replicate, slice_get};
+ghost use Rattle.std.specs.Prelude.{Decides, IfOk, OnOk};
+ghost use Rattle.yd_origins.specs.Sorted.{origin_order};
+ghost use Rattle.yd_order.specs.Stretch.{rows_of_stretches, among_rows};
+ghost use Rattle.yd_received.specs.Received.{held_of};
+ghost use Rattle.yd_state.specs.Ordered.{AreOrders, order_lists};
+ghost use Rattle.yd_state.specs.Stretches.{AreSettled, AreGathered, Gathers, IsTableOfStretches};
+ghost use Rattle.yd_state.specs.Stretches.{HaveOrders, IsKeptOrMade, AreKeptOrMade};
+ghost use Rattle.yd_state.specs.Stretches.{stretch_of, stretch_lists, with_last};
+
+use crate::fault::NoMemory;
+use std::alloc::Global;
+use yd_held::Held;
+use yd_ids::Id;
+use yd_order::{Stretch, arrange_stretches};
+use yd_received::Entry;
+
+/// The ids of each list in the order that their origins give. A list without a mark keeps its
+/// order; the others are arranged anew (`arrange_stretches`).
+pub(crate) fn arranged(
+    alloc: Global,
+    held: &Held,
+    orders: &[Vec<Id>],
+    stale: &[bool],
+) -> Result<Vec<Vec<Id>>, NoMemory>
+    requires { AreSettled stale.now held.now.names (order_lists orders.now)
+        held.now.received.entries }
+    ensures { IfOk result (λ order. AreOrders (held_of held.now.received) held.now.names
+        (order_lists order.items)) }
+{
+    let buckets = gathered(alloc, held.received().entries(), stale)?;
+    let made = orders_of_lists(alloc, &buckets, orders, stale)?;
+    Ok(made)
+}
+
+/// The stretches of each list with a mark, in the order of writing: one pass over the lists, and
+/// one over what was taken.
+fn gathered(alloc: Global, taken: &[Entry], stale: &[bool]) -> Result<Vec<Vec<Stretch>>, NoMemory>
+    ensures { IfOk result (λ buckets.
+        AreGathered stale.now taken.now (stretch_lists buckets.items)) }
+{
+    let mut buckets = empty_buckets(alloc, stale.len())?;
+    for entry in taken {
+        gather_one(&mut buckets, stale, entry)?;
+    }
+    Ok(buckets)
+}
+
+/// So many lists without a stretch.
+fn empty_buckets(alloc: Global, count: usize) -> Result<Vec<Vec<Stretch>>, NoMemory>
+    ensures { IfOk result (λ buckets. stretch_lists buckets.items ≡ replicate count []) }
+{
+    let mut buckets = Vec::new(alloc);
+    for _ in 0..count {
+        buckets.push(Vec::new(alloc))?;
+    }
+    Ok(buckets)
+}
+
+/// Puts the stretch of an entry behind those of its list, where that has a mark.
+fn gather_one(
+    buckets: &mut Vec<Vec<Stretch>>,
+    stale: &[bool],
+    entry: &Entry,
+) -> Result<(), NoMemory>
+    requires { length buckets.old.items ≡ length stale.now }
+    ensures { OnOk result (Gathers stale.now entry.now
+        (stretch_lists buckets.old.items) (stretch_lists buckets.new.items)) }
+{
+    match entry.list {
+        Some(n) if is_marked(stale, n) => put(buckets, n, stretch_of(entry))?,
+        _ => {}
+    }
+    Ok(())
+}
+
+/// Whether the list with the number has a mark.
+fn is_marked(stale: &[bool], n: usize) -> bool
+    ensures { Decides result (slice_get stale.now n ≡ Some true) }
+{
+    n < stale.len() && stale[n]
+}
+
+/// The units of an entry as a stretch.
+fn stretch_of(entry: &Entry) -> Stretch
+    ensures { result ≡ stretch_of entry.now }
+{
+    Stretch {
+        id: entry.id,
+        len: entry.len,
+        left: entry.left,
+        right: entry.right,
+    }
+}
+
+/// Puts a stretch behind those of the list with the number.
+fn put(buckets: &mut Vec<Vec<Stretch>>, n: usize, stretch: Stretch) -> Result<(), NoMemory>
+    requires { n < length buckets.old.items }
+    ensures { OnOk result (stretch_lists buckets.new.items
+        ≡ with_last n stretch (stretch_lists buckets.old.items)) }
+{
+    buckets[n].push(stretch)?;
+    Ok(())
+}
+
+/// The order of each list: with a mark that of its stretches, else a copy of the one that it had.
+fn orders_of_lists(
+    alloc: Global,
+    buckets: &[Vec<Stretch>],
+    orders: &[Vec<Id>],
+    stale: &[bool],
+) -> Result<Vec<Vec<Id>>, NoMemory>
+    requires { HaveOrders stale.now (stretch_lists buckets.now) (order_lists orders.now) }
+    ensures each { IfOk result (λ made. length made.items ≡ length stale.now) }
+    ensures made { IfOk result (λ made.
+        AreKeptOrMade stale.now (stretch_lists buckets.now) (order_lists orders.now)
+        (order_lists made.items)) }
+{
+    let mut made = Vec::new(alloc);
+    for n in 0..stale.len() {
+        let order = order_of_list(alloc, buckets, orders, stale, n)?;
+        made.push(order)?;
+    }
+    Ok(made)
+}
+
+/// The order of the list with the number.
+fn order_of_list(
+    alloc: Global,
+    buckets: &[Vec<Stretch>],
+    orders: &[Vec<Id>],
+    stale: &[bool],
+    n: usize,
+) -> Result<Vec<Id>, NoMemory>
+    requires number { n < length stale.now }
+    requires have { HaveOrders stale.now (stretch_lists buckets.now) (order_lists orders.now) }
+    ensures { IfOk result (λ order.
+        IsKeptOrMade stale.now (stretch_lists buckets.now) (order_lists orders.now) n order.items) }
+{
+    if stale[n] {
+        let made = arranged_anew(alloc, &buckets[n])?;
+        return Ok(made);
+    }
+    Ok(Vec::from_slice(alloc, &orders[n])?)
+}
+
+/// The ids of stretches in the order that their origins give.
+fn arranged_anew(alloc: Global, stretches: &[Stretch]) -> Result<Vec<Id>, NoMemory>
+    requires { IsTableOfStretches stretches.now }
+    ensures { IfOk result (λ order.
+        order.items ≡ origin_order (among_rows (rows_of_stretches stretches.now))) }
+{
+    match arrange_stretches(alloc, stretches) {
+        Ok(order) => Ok(order),
+        Err(_) => Err(NoMemory),
+    }
+}

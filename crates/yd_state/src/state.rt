@@ -1,0 +1,148 @@
+//! The state of a replica, as one value.
+
+ghost use Rattle.std.specs.Prelude.{◌≡◌, ◌↔◌, ◌∷◌, [], ℕ, IsTrue, IfOk, OnOk, OnErr};
+ghost use Rattle.yd_ids.specs.Vector.{clock_of};
+ghost use Rattle.yd_ops.specs.Valid.{IsValidUpdate};
+ghost use Rattle.yd_ops.specs.View.{update_value};
+ghost use Rattle.yd_meaning.specs.Received.{nothing_received, received_after};
+ghost use Rattle.yd_meaning.specs.Held.{held_set, held_clock, waiting_counts};
+ghost use Rattle.yd_meaning.specs.Deleted.{AreDeleteSet};
+ghost use Rattle.yd_meaning.specs.Order.{order_of};
+ghost use Rattle.yd_state.specs.State.{received_in, held_of, IsSound, BringsMore};
+
+use crate::fault::NoMemory;
+use crate::finding::order_in;
+use crate::novelty::brings_deletion;
+use crate::settling::settle;
+use crate::waiting::{count_ids, count_units};
+use std::alloc::Global;
+use std::marker::Model;
+use yd_held::Held;
+use yd_ids::{Id, IdSet, Vector};
+use yd_ops::{List, Update};
+use yd_received::Received;
+
+/// What was received and is held, the lists of it in order, and what is deleted.
+#[derive(Drop)]
+pub struct State {
+    held: Held,
+    named: IdSet,
+    orders: Vec<Vec<Id>>,
+    deletes: IdSet,
+}
+
+impl Model for State {
+    ghost use Rattle.yd_state.specs.State.{StateValue, IsSound};
+    ghost use Rattle.yd_state.specs.Ordered.{order_lists};
+    ghost use Rattle.yd_any.specs.contracts.any_value.AnyList as any_list;
+    ghost use Rattle.yd_any.specs.contracts.json_value.Json as json;
+    ghost use Rattle.std.specs.Coded.{codes};
+
+    ghost Value = { StateValue };
+
+    ghost coded = { Prim.hlevel (codes, json.the_row.coded, any_list.the_row.coded) };
+
+    ghost view = { λ it. record {
+      held = it.held;
+      named = it.named;
+      orders = order_lists it.orders.items;
+      deletes = it.deletes;
+    } };
+
+    ghost invariant = { λ it. IsSound (record {
+      held = it.held;
+      named = it.named;
+      orders = order_lists it.orders.items;
+      deletes = it.deletes;
+    }) };
+}
+
+impl State {
+    /// Nothing, received so far.
+    pub fn new(alloc: Global) -> State
+        ensures received { received_in result ≡ nothing_received }
+        ensures sound { IsSound result }
+    {
+        State {
+            held: Held::new(alloc),
+            named: IdSet::new(alloc),
+            orders: Vec::new(alloc),
+            deletes: IdSet::new(alloc),
+        }
+    }
+
+    /// Receives an update, and holds and deletes all that can be then. It answers whether the
+    /// update brought something. Where memory ends nothing has changed.
+    pub fn take(&mut self, update: &Update) -> Result<bool, NoMemory>
+        requires { IsValidUpdate (update_value update.now) }
+        ensures received { OnOk result (received_in self.new
+            ≡ received_after (received_in self.old) (update_value update.now)) }
+        ensures brings { IfOk result (λ brings. IsTrue brings
+            ↔ BringsMore (update_value update.now) self.old) }
+        ensures sound { IsSound self.new }
+        ensures unchanged { OnErr result (self.new ≡ self.old) }
+    {
+        let deletes = brings_deletion(&self.named, &self.deletes, &update.deletes)?;
+        let mut named = self.named.copy()?;
+        named.union(&update.deletes)?;
+        let taken = self.held.take(update)?;
+        match settle(&self.held, &named, &mut self.orders, &taken.stale) {
+            Ok(deleted) => {
+                self.named = named;
+                self.deletes = deleted;
+                Ok(taken.brings || deletes)
+            }
+            Err(NoMemory) => {
+                self.held.put_back(taken.before);
+                Err(NoMemory)
+            }
+        }
+    }
+
+    /// The runs and entries that were received.
+    pub fn received(&self) -> &Received
+        ensures received { result.now ≡ self.now.held.received }
+        ensures sound { IsSound self.now }
+    {
+        self.held.received()
+    }
+
+    /// The state vector: the clock up to which each client's units are held.
+    pub fn vector(&self) -> &Vector
+        ensures { (client : ℕ) → clock_of result.now client
+            ≡ held_clock (held_set (received_in self.now).operations) client }
+    {
+        self.held.vector()
+    }
+
+    /// The delete set: the held ids that are deleted.
+    pub fn deletes(&self) -> &IdSet
+        ensures kept { result.now ≡ self.now.deletes }
+        ensures deletes { AreDeleteSet result.now (received_in self.now) }
+    {
+        &self.deletes
+    }
+
+    /// The ids of a list in the order that their origins give. It takes time with the number of
+    /// lists.
+    pub fn order(&self, list: &List) -> &[Id]
+        ensures order { result.now ≡ order_of (held_of self.now) list.now }
+        ensures sound { IsSound self.now }
+    {
+        order_in(self.held.names(), &self.orders, list)
+    }
+
+    /// How many units were received that are not held. It takes time with the number of entries.
+    pub fn waiting_units(&self) -> u128
+        ensures { result ≡ (waiting_counts (received_in self.now)).structs }
+    {
+        count_units(self.held.received().entries())
+    }
+
+    /// How many ids a received deletion names that are not held. It takes a look-up for each span.
+    pub fn waiting_ids(&self) -> u128
+        ensures { result ≡ (waiting_counts (received_in self.now)).deletes }
+    {
+        count_ids(self.held.vector(), &self.named)
+    }
+}
