@@ -110,10 +110,13 @@ pub trait FieldReader<'a> {
     fn spot(&self) -> Spot
         ensures { result ≡ spot_of self.now };
 
-    /// How many structs may be declared in all, where there is a limit. A reader is always one that
-    /// a file leads to, and whatever such a reader reads fits its type.
+    /// How many structs may be declared in all, where there is a limit.
     fn most_structs(&self) -> Option<u64>
-        ensures most { result ≡ most_of self.now }
+        ensures { result ≡ most_of self.now };
+
+    /// A reader is always one that a file leads to, and whatever such a reader reads fits its type:
+    /// a fact for proofs.
+    fn reads_soundly(&self)
         ensures sound { is_sound self.now }
         ensures fits { ReadsFit field_at is_sound };
 

@@ -24,6 +24,8 @@ pub fn read_update<'a, R: FieldReader<'a>>(
         (read_by R.field_at R.spot_of (update_plan (R.most_of reader.old)) reader.old) }
     ensures valid { IfOk result (λ u. IsValidUpdate (update_value u)) }
 {
+    // Files lead to every reader: only proofs need to hear it.
+    reader.reads_soundly();
     let most = reader.most_structs();
     let count = reader.get_number()?;
     let read = read_blocks(alloc, reader, count, most)?;

@@ -133,6 +133,8 @@ impl<'a> FieldReader<'a> for V1Reader<'a> {
         None
     }
 
+    fn reads_soundly(&self) {}
+
     fn finish(self) -> Result<(), ReadError> {
         if self.parts.left() == 0 {
             return Ok(());

@@ -97,16 +97,6 @@ impl<'a> V2Reader<'a> {
             }),
         }
     }
-
-    // Files lead to this reader: a fact for proofs.
-    fn is_sound(&self)
-        ensures { IsSoundV2 self.now }
-    {
-        self.clients.in_range();
-        self.kinds.in_range();
-        self.lengths.in_range();
-        self.strings.is_text();
-    }
 }
 
 #[tactic(auto, unfolding(crate::specs::Reading::v2_at, yd_parts::specs::Plan::read_by))]
@@ -227,10 +217,17 @@ impl<'a> FieldReader<'a> for V2Reader<'a> {
         self.spot
     }
 
-    #[tactic(auto, using(crate::proofs::SoundLemmas::v2_fits))]
     fn most_structs(&self) -> Option<u64> {
-        self.is_sound();
         Some(MOST_STRUCTS)
+    }
+
+    // What the columns keep is said to proofs by calls that only read.
+    #[tactic(auto, using(crate::proofs::SoundLemmas::v2_fits))]
+    fn reads_soundly(&self) {
+        self.clients.in_range();
+        self.kinds.in_range();
+        self.lengths.in_range();
+        self.strings.is_text();
     }
 
     #[tactic(auto, unfolding(crate::specs::Reading::v2_end))]
