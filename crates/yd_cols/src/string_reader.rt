@@ -52,6 +52,7 @@ impl<'a> StringReader<'a> {
     pub fn is_text(&self)
         ensures { IsUtf8 self.now.text }
     {
+        // Only by its field is it known what the type of the text keeps.
         let _text: &str = self.text;
     }
 

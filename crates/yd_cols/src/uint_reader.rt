@@ -58,6 +58,7 @@ impl<'a> UintReader<'a> {
     pub fn in_range(&self)
         ensures { self.now.value < 2 ^ 53 }
     {
+        // Only by its field is it known what the runs keep.
         let _runs = &self.runs;
     }
 
