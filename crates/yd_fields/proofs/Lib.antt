@@ -1,3 +1,4 @@
+pub mod AgainLemmas
 pub mod BlockExpectLemmas
 pub mod ContentExpectLemmas
 pub mod DeletesExpectLemmas

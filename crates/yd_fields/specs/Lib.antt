@@ -1,3 +1,4 @@
+pub mod Again
 pub mod Field
 pub mod JsonPlan
 pub mod Law

@@ -12,16 +12,30 @@ use yd_ids::Id;
 use yd_parts::NoMemory;
 
 /// Writes the fields of an update one after the other, in some format (Yjs 13, update encoders).
-/// What a writer holds after want of memory is left open.
+/// What a writer holds after want of memory is left open. That fields which are spelled are
+/// read again is a clause of `finish`, which each format owes for its own reader.
 pub trait FieldWriter {
     ghost use Rattle.std.specs.Prelude.{ℕ, List};
+    ghost use Rattle.yd_fields.specs.Again.{AreReadAgain, FileReading};
     ghost use Rattle.yd_fields.specs.Field.{Field};
+
+    /// What is left of a file, for the reader of the format.
+    ghost Left: { Type 0 };
+
+    /// How the reader of the format reads a file.
+    ghost reading: { FileReading Left };
+
+    /// The writer before the first field.
+    ghost at_start: { Self };
 
     /// What the writer is after a field.
     ghost with_field: { Field → Self → Self };
 
     /// What is written of the field is read as that field.
     ghost is_spelled: { Field → Type 0 };
+
+    /// What is written in all has lengths that are read.
+    ghost is_whole: { Self → Type 0 };
 
     /// The bytes of all fields that were written.
     ghost bytes_of: { Self → List ℕ };
@@ -109,7 +123,11 @@ pub trait FieldWriter {
             ≡ with_field (field.range before, (clock, len)) self.old) }
         ensures spelled { OnOk result (is_spelled (field.range before, (clock, len))) };
 
-    /// The bytes of all fields.
+    /// The bytes of all fields. Whatever fields are spelled, the reader of the format reads them
+    /// again from their bytes, one after another and nothing else, where these are whole.
     fn finish(self) -> Result<Vec<u8>, NoMemory>
-        ensures { IfOk result (λ bytes. bytes.items ≡ bytes_of self) };
+        ensures written { IfOk result (λ bytes. bytes.items ≡ bytes_of self) }
+        ensures whole { OnOk result (is_whole self) }
+        ensures read_again { OnOk result
+            (AreReadAgain reading with_field is_spelled is_whole bytes_of at_start) };
 }

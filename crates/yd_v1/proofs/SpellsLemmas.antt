@@ -1,5 +1,5 @@
 -- Each field that V1 writes is read as that field, whatever follows.
-use Rattle.std.proofs.Common.{◌≡◌, ℕ, ◌+◌, ◌^◌, ◌<◌, List, [], ◌∷◌, ◌++◌, length, refl, sym, ap, ◌∙◌, arith, append_assoc, append-nil}
+use Rattle.std.proofs.Common.{◌≡◌, ℕ, ◌+◌, ◌^◌, ◌<◌, List, [], ◌∷◌, ◌++◌, length, refl, sym, ap, ◌∙◌, arith}
 use Rattle.std.specs.Prelude.{IsTrue, IsUtf8, nat_le}
 use Rattle.std.proofs.lemmas.Bool.{and_parts, leb-true, lt-ltb}
 use Rattle.yd_any.proofs.TextLemmas.{read_back}
@@ -11,7 +11,6 @@ use Rattle.yd_ids.specs.declared.id.Id.{Id}
 use Rattle.yd_num.specs.Writing.{shortest, shortest_blob}
 use Rattle.yd_parts.specs.AnyBytes.{IsWritable, IsWritableText, bytes_of_any}
 use Rattle.yd_parts.specs.AnyPlan.{any_plan}
-use Rattle.yd_fields.specs.Field.{Field}
 use Rattle.yd_fields.specs.Field as field
 use Rattle.yd_fields.specs.JsonPlan.{made_at, value_at}
 use Rattle.yd_reading.specs.Judged.{flag_at, range_at}
@@ -19,8 +18,7 @@ use Rattle.yd_parts.specs.Part as part
 use Rattle.yd_parts.specs.Part.{PartPlan}
 use Rattle.yd_parts.specs.Plan.{give, of_made, want}
 use Rattle.yd_v1.specs.Reading.{flag_plan, id_plan, json_text_plan, range_plan}
-use Rattle.yd_v1.specs.Bytes.{V1Spells, bytes_of_id, v1_bytes, v1_bytes_of_all}
-use Rattle.yd_fields.specs.Writes.{with_fields}
+use Rattle.yd_v1.specs.Bytes.{V1Spells, bytes_of_id}
 use Rattle.yd_parts.proofs.AnyReadsLemmas.{any_reads}
 use Rattle.yd_parts.proofs.ReadsLemmas.{ReadsAs, part_blob, part_byte, part_text, part_unsigned, reads_last, reads_want, reads_well}
 
@@ -100,8 +98,3 @@ number_spelled v lt = reads_well (want part.unsigned (λ n spot. give n)) (short
 
 pub range_spelled : (before clock len : ℕ) → clock + len < 2 ^ 53 → V1Spells (field.range before, (clock, len))
 range_spelled before clock len lt = reads_well range_plan (shortest clock ++ shortest len) (clock, len) (range_reads clock len lt)
-
--- fields behind bytes
-pub with_v1_bytes : (fs : List Field) (old : List ℕ) → with_fields (λ f bytes. bytes ++ v1_bytes f) fs old ≡ old ++ v1_bytes_of_all fs
-with_v1_bytes [] old = sym (append-nil old)
-with_v1_bytes (f ∷ fs) old = with_v1_bytes fs (old ++ v1_bytes f) ∙ append_assoc old (v1_bytes f) (v1_bytes_of_all fs)

@@ -8,7 +8,7 @@ use Rattle.yd_fields.specs.Field as field
 use Rattle.yd_v1.specs.Bytes.{V1Spells, v1_bytes, v1_bytes_of_all}
 use Rattle.yd_fields.specs.VectorFields.{fields_of_entries, fields_of_vector}
 use Rattle.yd_fields.specs.Writes.{Writes, with_fields}
-use Rattle.yd_v1.proofs.SpellsLemmas.{with_v1_bytes}
+use Rattle.yd_v1.proofs.WrittenLemmas.{with_v1_bytes}
 
 -- the count and the entries that were written are the vector's fields
 pub vector_written : (vector entries : List (Client × ℕ)) (count : ℕ) (start middle end : List ℕ) → entries ≡ reverse vector → count ≡ length entries → start ≡ [] →

@@ -1,10 +1,8 @@
 -- The laws of fields in V1.
-use Rattle.std.specs.Prelude.{List}
-use Rattle.yd_words.specs.Each.{Each}
-use Rattle.yd_fields.specs.Field.{Field, FieldPlan}
+use Rattle.std.specs.Prelude.{◌++◌, []}
+use Rattle.yd_fields.specs.Again.{ComeBack}
 use Rattle.yd_parts.specs.Exact.{ReadsExactly}
-use Rattle.yd_parts.specs.Plan.{Expects}
-use Rattle.yd_v1.specs.Bytes.{V1Spells, v1_bytes_of_all}
+use Rattle.yd_v1.specs.Bytes.{V1Spells, v1_bytes}
 use Rattle.yd_v1.specs.Grammar.{FailsField, FillsV1, StandsField}
 use Rattle.yd_v1.specs.Reading.{v1_at, v1_spot}
 
@@ -12,6 +10,6 @@ use Rattle.yd_v1.specs.Reading.{v1_at, v1_spot}
 abbrev pub FieldsAreRead : Type 0
 FieldsAreRead = ReadsExactly v1_at v1_spot StandsField FailsField
 
--- fields that were written are read as they were: what a plan makes of them stands in the file of their bytes, and nothing else
+-- fields that were written are read as they were: what a plan makes of them stands in the file of their bytes, and nothing else; any bytes are whole
 abbrev pub FieldsComeBackV1 : Type 0 → Type 0
-FieldsComeBackV1 X = (fields : List Field) (plan : FieldPlan X) (x : X) → Each V1Spells fields → Expects plan fields x → FillsV1 plan (v1_bytes_of_all fields) x
+FieldsComeBackV1 X = ComeBack {X = X} (λ f bytes. bytes ++ v1_bytes f) V1Spells (λ bytes. Unit {0}) (λ bytes. bytes) [] FillsV1

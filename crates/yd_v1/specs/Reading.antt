@@ -2,6 +2,7 @@
 use Rattle.std.specs.Prelude.{ℕ, List, [], ◌∷◌, Result, Ok, Err, None}
 use Rattle.yd_parts.specs.AnyPlan.{any_plan}
 use Rattle.yd_parts.specs.Fault.{Fault}
+use Rattle.yd_fields.specs.Again.{FileReading, whole_by}
 use Rattle.yd_fields.specs.Field.{FieldPlan, FieldType, FieldValue}
 use Rattle.yd_fields.specs.Field as field
 use Rattle.yd_fields.specs.JsonPlan.{value_at}
@@ -83,9 +84,13 @@ nothing_left spot (b ∷ bytes) = Err (record { cause = causes.Trailing; spot = 
 abbrev pub v1_end : V1Left → Result (Unit {0}) Fault
 v1_end now = nothing_left (here now.left) now.left.bytes
 
+-- how V1 reads a file: its fields from the first byte on
+abbrev pub v1_files : FileReading V1Left
+v1_files = record { start = λ bytes. Ok (v1_start bytes); field_at = v1_at; spot_of = v1_spot; end_at = v1_end }
+
 -- what the fields of a file give by a plan, where they fill it, or the first fault
 unfoldable pub v1_whole : {X : Type 0} → FieldPlan X → List ℕ → Result X Fault
-v1_whole plan bytes = and_then (read_by v1_at v1_spot plan (v1_start bytes)) (λ read. and_then (v1_end read.1) (λ end. Ok read.0))
+v1_whole plan bytes = whole_by v1_files plan bytes
 
 -- the update that a file stands for, or the first fault
 abbrev pub v1_reading : List ℕ → Result UpdateValue Fault

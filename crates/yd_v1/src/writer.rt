@@ -40,10 +40,19 @@ impl V1Writer {
 impl FieldWriter for V1Writer {
     ghost use Rattle.std.specs.Prelude.{◌++◌};
     ghost use Rattle.yd_v1.specs.Bytes.{V1Spells, v1_bytes};
+    ghost use Rattle.yd_v1.specs.Reading.{V1Left, v1_files};
+
+    ghost Left = { V1Left };
+
+    ghost reading = { v1_files };
+
+    ghost at_start = { [] };
 
     ghost with_field = { λ f bytes. bytes ++ v1_bytes f };
 
     ghost is_spelled = { λ f. V1Spells f };
+
+    ghost is_whole = { λ _. Unit {0} };
 
     ghost bytes_of = { λ bytes. bytes };
 

@@ -4,20 +4,21 @@ use Rattle.yd_cols.proofs.StartLemmas.{bytes_start, diffs_start, uints_start}
 use Rattle.yd_cols.proofs.StringColumnLemmas.{strings_start}
 use Rattle.yd_cols.specs.Reading.{StringsLeft, strings_in}
 use Rattle.yd_cols.specs.Standing.{StringsStand}
-use Rattle.yd_fields.specs.Field.{Field, FieldPlan, FieldType, FieldValue}
+use Rattle.yd_fields.proofs.AgainLemmas.{file_read}
+use Rattle.yd_fields.specs.Again.{AreRead}
+use Rattle.yd_fields.specs.Field.{Field, FieldPlan}
 use Rattle.yd_parts.proofs.ExactLemmas.{given_read}
 use Rattle.yd_parts.proofs.PartExactLemmas.{parts_exact}
 use Rattle.yd_parts.specs.Part.{all_of, last_spot, part_at}
 use Rattle.yd_parts.specs.PartGrammar.{FailsPart, StandsPart}
-use Rattle.yd_parts.specs.Plan.{Expects, give, refuse, want, ◌>>=◌, read_by}
+use Rattle.yd_parts.specs.Plan.{Expects, give, refuse, want, ◌>>=◌}
 use Rattle.yd_parts.specs.declared.fault.Column.TheVariants.{Head}
-use Rattle.yd_parts.specs.declared.fault.Spot.{Spot}
 use Rattle.yd_v2.proofs.StandingLemmas.{nothing_ends}
 use Rattle.yd_v2.proofs.WantLemmas.{Wants, wants_read}
 use Rattle.yd_v2.specs.Columns.{AreInParts, IsInParts, SpellsFields, placeless}
 use Rattle.yd_v2.specs.Part.{V2Plan}
 use Rattle.yd_v2.specs.Plan.{FieldRead, v2_plan}
-use Rattle.yd_v2.specs.Reading.{V2Now, head_plan, turn_of, v2_at, v2_begin, v2_spot, v2_start, v2_whole}
+use Rattle.yd_v2.specs.Reading.{V2Now, head_plan, turn_of, v2_at, v2_begin, v2_files, v2_start, v2_whole}
 use Rattle.yd_v2.specs.Standing.{PartsStand, V2Thing, among, clients_of, infos_of, keys_of, kinds_of, lefts_of, lengths_of, parents_of, rights_of, strings_of}
 
 -- ---- fields
@@ -49,29 +50,12 @@ field_read f things others known now parts stand =
     let next : V2Now = record { left = got.end.left; known = got.value.known; spot = got.value.spot } in
     record { next = next; read = rw got.read (ap (λ v. Ok (v, next)) got.holds.0); known_is = got.holds.1; stand = got.stand }
 
--- a plan that expects fields reads them where their parts are left, and nothing is left behind them
-record ReadsFields {X : Type 0} (plan : FieldPlan X) (now : V2Now) (x : X) : Type 0 where
-  end : V2Now
-  read : read_by v2_at v2_spot plan now ≡ Ok (x, end)
-  stand : PartsStand end.left []
-
--- one more field is read first
-reads_first : {X : Type 0} (t : FieldType) (v : FieldValue t) (next : FieldValue t → Spot → FieldPlan X) (now behind : V2Now) (x : X) → v2_at t now ≡ Ok (v, behind) → ReadsFields (next v (v2_spot behind)) behind x → ReadsFields (want t next) now x
-unfolding read_by
-reads_first t v next now behind x first later = record { end = later.end; read = rw first later.read; stand = later.stand }
-
-fields_read : {X : Type 0} (fs : List Field) (plan : FieldPlan X) (x : X) (things : List V2Thing) (now : V2Now) → Expects plan fs x → AreInParts now.known fs things → PartsStand now.left things → ReadsFields plan now x
-unfolding read_by
-fields_read [] (give y) x things now expects parts stand = record { end = now; read = ap (λ v. Ok (v, now)) expects; stand = subst (PartsStand now.left) parts stand }
-fields_read [] (refuse cause spot) x things now expects parts stand = absurd expects
-fields_read [] (want t next) x things now expects parts stand = absurd expects
-fields_read (f ∷ fs) (give y) x things now expects parts stand = absurd expects
-fields_read (f ∷ fs) (refuse cause spot) x things now expects parts stand = absurd expects
-fields_read (f ∷ fs) (want t next) x things now expects parts stand =
+-- fields whose parts are left are read, one after another, and there the file ends
+fields_again : (fs : List Field) (things : List V2Thing) (now : V2Now) → AreInParts now.known fs things → PartsStand now.left things → AreRead v2_files fs now
+fields_again [] things now parts stand = nothing_ends now (subst (PartsStand now.left) parts stand)
+fields_again (f ∷ fs) things now parts stand =
     let got = field_read f parts.0 parts.1 parts.2 now parts.3 (subst (PartsStand now.left) parts.5 stand) in
-    let others : AreInParts got.next.known fs parts.1 = subst (λ known. AreInParts known fs parts.1) (sym got.known_is) parts.4 in
-    let behind = fields_read fs (next expects.0 (v2_spot got.next)) x parts.1 got.next (expects.2 (v2_spot got.next)) others got.stand in
-    reads_first t expects.0 next now got.next x (subst (λ (one : Field). v2_at one.0 now ≡ Ok (one.1, got.next)) expects.1 got.read) behind
+    (got.next, got.read, fields_again fs parts.1 got.next (subst (λ known. AreInParts known fs parts.1) (sym got.known_is) parts.4) got.stand)
 
 -- ---- files
 
@@ -101,5 +85,6 @@ pub spelled_read : {X : Type 0} (plan : FieldPlan X) (bytes : List ℕ) (fields 
 unfolding v2_whole
 spelled_read plan bytes fields x expects spells =
     let strings = (strings_start spells.columns.strings (among strings_of spells.things)).0 spells.strings in
-    let got = fields_read fields plan x spells.things (v2_begin spells.columns strings.0 spells.behind.bytes) expects spells.parts (parts_begin bytes fields spells strings) in
-    rw (start_read bytes fields spells strings.0 strings.1, got.read, nothing_ends got.end got.stand) refl
+    let start = v2_begin spells.columns strings.0 spells.behind.bytes in
+    file_read v2_files bytes fields plan x
+    (record { begin = start; starts = start_read bytes fields spells strings.0 strings.1; read = fields_again fields spells.things start spells.parts (parts_begin bytes fields spells strings) }) expects

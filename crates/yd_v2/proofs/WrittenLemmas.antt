@@ -1,4 +1,4 @@
--- What is written in V2 is read again: a plan that expects fields reads them from their file.
+-- What is written in V2 is read again: fields from their file, one after another.
 use Rattle.std.proofs.Common.{◌≡◌, ◌∙◌, ◌++◌, ◌^◌, ◌<◌, ◌≤◌, [], ◌∷◌, ℕ, List, Ok, IsUtf8, append-nil, append_assoc, arith, length, refl, sym, ap, subst}
 use Rattle.std.specs.List.{AllByRecursion, concat}
 use Rattle.yd_words.specs.Each.{Each}
@@ -9,21 +9,24 @@ use Rattle.yd_cols.specs.Column.{SpellsBytes, SpellsDiffs, SpellsStrings, Spells
 use Rattle.yd_cols.specs.Reading.{StringsLeft, bytes_in, diffs_in, strings_in, uints_in}
 use Rattle.yd_cols.specs.Standing.{BytesStand, DiffsStand, StringsStand, UintsStand}
 use Rattle.yd_cols.specs.Writing.{DiffsWritten, RunsWritten, StringsWritten, byte_column, diff_column, no_diffs, no_runs, no_strings, put_all, put_byte, put_diff, put_string, put_uint, string_column, uint_column}
-use Rattle.yd_fields.specs.Field.{Field, FieldPlan, FieldType, FieldValue}
+use Rattle.yd_fields.proofs.AgainLemmas.{come_back}
+use Rattle.yd_fields.specs.Again.{AreRead, AreReadAgain}
+use Rattle.yd_fields.specs.Field.{Field, FieldType, FieldValue}
 use Rattle.yd_fields.specs.Field as field
 use Rattle.yd_fields.specs.Writes.{with_fields}
-use Rattle.yd_parts.specs.Plan.{Expects, give, read_by, refuse, want}
-use Rattle.yd_parts.specs.declared.fault.Spot.{Spot}
+use Rattle.yd_words.specs.Each.{Each}
 use Rattle.yd_v2.proofs.FieldPartsLemmas.{FieldParts, IsField, WantsField, field_parts}
+use Rattle.yd_v2.proofs.FileLemmas.{files_read}
 use Rattle.yd_v2.proofs.HeadLemmas.{file_begins}
 use Rattle.yd_v2.proofs.PutLemmas.{PartsFit, PartsPut, fit_then, none_fit, none_put, put_then}
 use Rattle.yd_v2.proofs.StandingLemmas.{nothing_ends}
 use Rattle.yd_v2.proofs.WantLemmas.{wants_read}
+use Rattle.yd_v2.specs.Law.{FieldsComeBackV2}
 use Rattle.yd_v2.specs.Plan.{v2_plan}
-use Rattle.yd_v2.specs.Reading.{V2Now, turn_of, v2_at, v2_begin, v2_spot, v2_whole}
+use Rattle.yd_v2.specs.Reading.{V2Now, turn_of, v2_at, v2_begin, v2_files, v2_whole}
 use Rattle.yd_v2.specs.Spelled.{V2Spells}
 use Rattle.yd_v2.specs.Standing.{PartsStand, V2Thing, SpellParts, among, clients_of, infos_of, keys_of, kinds_of, lefts_of, lengths_of, parents_of, rest_of, rights_of, strings_of}
-use Rattle.yd_v2.specs.Writing.{FitsFile, V2Written, columns_written, no_fields, v2_bytes_of_all, v2_put}
+use Rattle.yd_v2.specs.Writing.{FitsFile, V2Written, columns_written, no_fields, v2_bytes, v2_put}
 
 -- ---- columns
 
@@ -89,20 +92,8 @@ record FieldsParts (fs : List Field) (w : V2Written) : Type 0 where
 
 -- keys are never forgotten
 known_put : (t : FieldType) (v : FieldValue t) (w : V2Written) → w.known ≤ (v2_put (t, v) w).known
-known_put field.info v w = omega arith
-known_put field.client v w = omega arith
-known_put field.left v w = omega arith
-known_put field.right v w = omega arith
-known_put field.flag v w = omega arith
-known_put field.string v w = omega arith
 known_put field.key v w = omega arith
-known_put field.kind v w = omega arith
-known_put field.len v w = omega arith
-known_put field.any v w = omega arith
-known_put field.blob v w = omega arith
-known_put field.json v w = omega arith
-known_put field.number v w = omega arith
-known_put (field.range before) v w = omega arith
+known_put t v w = omega arith
 
 known_all : (fs : List Field) (w : V2Written) → w.known ≤ (with_fields v2_put fs w).known
 known_all [] w = omega arith
@@ -135,40 +126,30 @@ field_read f before behind things others now wanted known stand =
     let next : V2Now = record { left = got.end.left; known = got.value.known; spot = got.value.spot } in
     record { next = next; read = rw got.read (ap (λ v. Ok (v, next)) got.holds.value_is); known_is = got.holds.known_is; stand = got.stand }
 
--- a plan that expects fields reads them where their parts are left, and nothing is left behind them
-record ReadsFields {X : Type 0} (plan : FieldPlan X) (now : V2Now) (x : X) : Type 0 where
-  end : V2Now
-  read : read_by v2_at v2_spot plan now ≡ Ok (x, end)
-  stand : PartsStand end.left []
-
--- one more field is read first
-reads_first : {X : Type 0} (t : FieldType) (v : FieldValue t) (next : FieldValue t → Spot → FieldPlan X) (now behind : V2Now) (x : X) → v2_at t now ≡ Ok (v, behind) → ReadsFields (next v (v2_spot behind)) behind x → ReadsFields (want t next) now x
-unfolding read_by
-reads_first t v next now behind x first later = record { end = later.end; read = rw first later.read; stand = later.stand }
-
-fields_read : {X : Type 0} (fs : List Field) (plan : FieldPlan X) (x : X) (w : V2Written) (things : List V2Thing) (now : V2Now) → Expects plan fs x → WantFields fs w things → length now.known ≡ w.known → PartsStand now.left things → ReadsFields plan now x
-unfolding read_by
-fields_read [] (give y) x w things now expects wanted known stand = record { end = now; read = ap (λ v. Ok (v, now)) expects; stand = subst (PartsStand now.left) wanted stand }
-fields_read [] (refuse cause spot) x w things now expects wanted known stand = absurd expects
-fields_read [] (want t next) x w things now expects wanted known stand = absurd expects
-fields_read (f ∷ fs) (give y) x w things now expects wanted known stand = absurd expects
-fields_read (f ∷ fs) (refuse cause spot) x w things now expects wanted known stand = absurd expects
-fields_read (f ∷ fs) (want t next) x w things now expects wanted known stand =
+-- fields whose parts are left are read, one after another, and there the file ends
+fields_again : (fs : List Field) (w : V2Written) (things : List V2Thing) (now : V2Now) → WantFields fs w things → length now.known ≡ w.known → PartsStand now.left things → AreRead v2_files fs now
+fields_again [] w things now wanted known stand = nothing_ends now (subst (PartsStand now.left) wanted stand)
+fields_again (f ∷ fs) w things now wanted known stand =
     let parts = wanted.0 in
     let got = field_read f w.known (v2_put f w).known parts.things wanted.1 now parts.wanted known (subst (PartsStand now.left) wanted.2 stand) in
-    let behind = fields_read fs (next expects.0 (v2_spot got.next)) x (v2_put f w) wanted.1 got.next (expects.2 (v2_spot got.next)) wanted.3 got.known_is got.stand in
-    reads_first t expects.0 next now got.next x (subst (λ (one : Field). v2_at one.0 now ≡ Ok (one.1, got.next)) expects.1 got.read) behind
+    (got.next, got.read, fields_again fs (v2_put f w) wanted.1 got.next wanted.3 got.known_is got.stand)
 
 -- ---- lemmas for callers
 
--- the file of fields that a plan expects is read as what it expects to give
-pub written_read : {X : Type 0} (fs : List Field) (plan : FieldPlan X) (x : X) → Expects plan fs x → Each V2Spells fs → FitsFile (with_fields v2_put fs no_fields) → v2_whole plan (v2_bytes_of_all fs) ≡ Ok x
-unfolding v2_whole
-written_read fs plan x expects spelled fits =
+-- what V2 spells is read again, where its columns have lengths that are read
+pub written_again : AreReadAgain v2_files v2_put V2Spells FitsFile v2_bytes no_fields
+written_again = λ fs spelled fits.
     let w = with_fields v2_put fs no_fields in
     let parts = fields_parts fs no_fields spelled fits.known in
     let strings = strings_written (among strings_of parts.things) w.strings parts.put.strings parts.fit.strings fits.text in
     let start = v2_begin (columns_written w) strings.left w.rest in
-    let begins = file_begins (columns_written w) w.rest strings.left fits.columns strings.read in
-    let got = fields_read fs plan x no_fields parts.things start expects parts.wanted refl (parts_written parts.things w strings parts.put parts.fit) in
-    rw (begins, got.read, nothing_ends got.end got.stand) refl
+    record {
+      begin = start;
+      starts = file_begins (columns_written w) w.rest strings.left fits.columns strings.read;
+      read = fields_again fs no_fields parts.things start parts.wanted refl (parts_written parts.things w strings parts.put parts.fit);
+    }
+
+-- so what a plan makes of the fields stands in the file
+pub written_come_back : {X : Type 0} → FieldsComeBackV2 X
+unfolding v2_whole
+written_come_back = λ fs plan x spelled fits expects. ((files_read plan).values _ x).0 (come_back v2_files v2_put V2Spells FitsFile v2_bytes no_fields written_again fs plan x spelled fits expects)

@@ -1,6 +1,7 @@
 -- Reading a file in V2: the columns at its head, then the fields, then the end of the rest and of each column (Yjs 13, UpdateDecoderV2).
 use Rattle.std.specs.Prelude.{ℕ, zero, suc, List, [], ◌∷◌, Some, Result, Ok, Err}
 use Rattle.yd_cols.specs.Reading.{StringsLeft, bytes_in, diffs_in, end_of_bytes, end_of_diffs, end_of_strings, end_of_uints, strings_in, uints_in}
+use Rattle.yd_fields.specs.Again.{FileReading, whole_by}
 use Rattle.yd_fields.specs.Field.{FieldPlan, FieldType, FieldValue}
 use Rattle.yd_fields.specs.UpdatePlan.{update_plan}
 use Rattle.yd_ops.specs.Value.{UpdateValue}
@@ -121,9 +122,13 @@ v2_end now = rest_done (here now.left.rest) now.left.rest.bytes
 
 -- ---- whole files
 
+-- how V2 reads a file: the head, the fields, and the ends
+abbrev pub v2_files : FileReading V2Now
+v2_files = record { start = v2_start; field_at = v2_at; spot_of = v2_spot; end_at = v2_end }
+
 -- what the fields of a file give by a plan, or the first fault
 unfoldable pub v2_whole : {X : Type 0} → FieldPlan X → List ℕ → Result X Fault
-v2_whole plan bytes = and_then (v2_start bytes) (λ start. and_then (read_by v2_at v2_spot plan start) (λ read. and_then (v2_end read.1) (λ end. Ok read.0)))
+v2_whole plan bytes = whole_by v2_files plan bytes
 
 -- the update that a file stands for, or the first fault
 abbrev pub v2_reading : List ℕ → Result UpdateValue Fault

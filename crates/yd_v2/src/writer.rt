@@ -81,12 +81,21 @@ impl V2Writer {
 }
 
 impl FieldWriter for V2Writer {
-    ghost use Rattle.yd_v2.specs.Writing.{v2_bytes, v2_put};
+    ghost use Rattle.yd_v2.specs.Reading.{V2Now, v2_files};
     ghost use Rattle.yd_v2.specs.Spelled.{V2Spells};
+    ghost use Rattle.yd_v2.specs.Writing.{v2_bytes, v2_put};
+
+    ghost Left = { V2Now };
+
+    ghost reading = { v2_files };
+
+    ghost at_start = { no_fields };
 
     ghost with_field = { v2_put };
 
     ghost is_spelled = { V2Spells };
+
+    ghost is_whole = { FitsFile };
 
     ghost bytes_of = { v2_bytes };
 
@@ -169,10 +178,7 @@ impl FieldWriter for V2Writer {
         Ok(())
     }
 
-    fn finish(self) -> Result<Vec<u8>, NoMemory>
-        ensures written { IfOk result (λ bytes. bytes.items ≡ v2_bytes self) }
-        ensures fits { OnOk result (FitsFile self) }
-    {
+    fn finish(self) -> Result<Vec<u8>, NoMemory> {
         let mut file = Bytes::new(self.alloc);
         file.push_unsigned(0)?;
         push_names(&mut file, self.keys, self.clients, self.lefts)?;

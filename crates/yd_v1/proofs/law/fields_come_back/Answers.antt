@@ -1,5 +1,5 @@
-use Rattle.yd_v1.proofs.WrittenLemmas.{written_fills}
+use Rattle.yd_v1.proofs.WrittenLemmas.{written_come_back}
 use Rattle.yd_v1.proofs.law.fields_come_back.Goals as goal
 
 pub returns : goal.returns
-returns c start = λ fields plan x spelled expects. written_fills fields plan x expects spelled
+returns c start = written_come_back

@@ -17,10 +17,10 @@ write_entries-requires c =
 pub returns-clause-written : goal.returns-clause-written
 returns-clause-written c =
     let all = vector_written c.args.vector.now c.deref.result.now c.in_ok-count.count c.new-writer.result c.put_number.new.self c.write_entries.new.writer (c.deref.ensures.value ∙ c.in_ok-entries.ensures.entries) (c.in_ok-count.ensures.count ∙ c.len.ensures ∙ sym c.deref.ensures.len) c.new-writer.ensures c.in_ok-put_number.ensures.put c.in_ok-put_number.ensures.spelled c.in_ok-write_entries.ensures in
-    c.in_ok-bytes.ensures ∙ all.0
+    c.in_ok-bytes.ensures.written ∙ all.0
 
 pub returns-clause-read_again : goal.returns-clause-read_again
 returns-clause-read_again c =
     let all = vector_written c.args.vector.now c.deref.result.now c.in_ok-count.count c.new-writer.result c.put_number.new.self c.write_entries.new.writer (c.deref.ensures.value ∙ c.in_ok-entries.ensures.entries) (c.in_ok-count.ensures.count ∙ c.len.ensures ∙ sym c.deref.ensures.len) c.new-writer.ensures c.in_ok-put_number.ensures.put c.in_ok-put_number.ensures.spelled c.in_ok-write_entries.ensures in
-    let written : c.in_ok-bytes.bytes.items ≡ v1_bytes_of_all (fields_of_vector c.args.vector.now) = c.in_ok-bytes.ensures ∙ all.0 in
+    let written : c.in_ok-bytes.bytes.items ≡ v1_bytes_of_all (fields_of_vector c.args.vector.now) = c.in_ok-bytes.ensures.written ∙ all.0 in
     rw written (written_fills (fields_of_vector c.args.vector.now) vector_plan c.args.vector.now (vector_expects c.args.vector.now c.in_ok-entries.ensures.vector) all.1)

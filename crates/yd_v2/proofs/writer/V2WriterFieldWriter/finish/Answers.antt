@@ -2,6 +2,7 @@ use Rattle.std.proofs.Common.{◌≡◌, ◌∙◌, ◌++◌, ℕ, List, ap, sub
 use Rattle.yd_cols.specs.Writing.{byte_column, diff_column, string_column, uint_column}
 use Rattle.yd_num.specs.Writing.{shortest, shortest_blob}
 use Rattle.yd_v2.proofs.PushLemmas.{Behind, then_more, then_three}
+use Rattle.yd_v2.proofs.WrittenLemmas.{written_again}
 use Rattle.yd_v2.specs.Writing.{FitsFile, V2Written, columns_written, file_bytes, v2_bytes}
 use Rattle.yd_v2.proofs.writer.V2WriterFieldWriter.finish.Goals as goal
 
@@ -21,7 +22,7 @@ returns c =
     (then_three from_rights names (then_three from_parents items.pushed (then_three rest counts (record { is = c.into_vec.ensures ∙ c.in_ok-push_all.ensures.appended })))) in
     record {
       written = file.is ∙ ap (λ (old : List ℕ). old ++ file_bytes (columns_written w) rest) c.new-file.ensures ∙ ap (λ (bytes : List ℕ). file_bytes (columns_written w) bytes) c.as_slice.ensures ∙ ap v2_bytes is_self;
-      fits = subst FitsFile is_self (record {
+      whole = subst FitsFile is_self (record {
         columns = record {
           keys = names.first_fits;
           clients = names.second_fits;
@@ -36,4 +37,5 @@ returns c =
         text = items.fits;
         known = c.self.invariant;
       });
+      read_again = written_again;
     }
