@@ -18,7 +18,7 @@ use Rattle.yd_v2.proofs.TakenLemmas.{ends_nothing, part_taken}
 use Rattle.yd_v2.specs.Columns.{AreInParts, FilesAreColumns, SpellsFields, placeless}
 use Rattle.yd_v2.specs.Grammar.{BeginsV2, StandsField, StandsForV2, StandsV2Part, TakesPart}
 use Rattle.yd_v2.specs.Left.{V2Left}
-use Rattle.yd_v2.specs.Part.{V2Part, V2Plan, V2Turn, V2Value, client, flag, info, key_number, kind, left_clock, len, mark, rest, right_clock, string}
+use Rattle.yd_v2.specs.Part.{V2Part, V2Plan, V2Turn, V2Value, mark, string}
 use Rattle.yd_v2.specs.Plan.{FieldRead, v2_plan}
 use Rattle.yd_v2.specs.Reading.{V2Now, most_structs, turn_of}
 use Rattle.yd_v2.specs.Standing.{PartsStand, V2Thing, among, clients_of, infos_of, keys_of, kinds_of, lefts_of, lengths_of, parents_of, rights_of, strings_of}
@@ -27,19 +27,11 @@ use Rattle.yd_v2.specs.Standing.{PartsStand, V2Thing, among, clients_of, infos_o
 
 -- what is left is a text still, behind a part
 text_behind : (t : V2Part) (left : V2Left) (v : V2Value t) (next : V2Turn) → IsUtf8 left.strings.text → TakesPart t left v next → IsUtf8 next.left.strings.text
-text_behind key_number left v next text takes = subst (λ n. IsUtf8 n.left.strings.text) (sym takes.next_is) text
-text_behind client left v next text takes = subst (λ n. IsUtf8 n.left.strings.text) (sym takes.next_is) text
-text_behind left_clock left v next text takes = subst (λ n. IsUtf8 n.left.strings.text) (sym takes.next_is) text
-text_behind right_clock left v next text takes = subst (λ n. IsUtf8 n.left.strings.text) (sym takes.next_is) text
-text_behind info left v next text takes = subst (λ n. IsUtf8 n.left.strings.text) (sym takes.next_is) text
 text_behind string left v next text takes =
     let read : next_string left.strings ≡ Ok (v, takes.behind) = ((strings_exact uint_exact).values left.strings v takes.behind).1 takes.taken in
     subst (λ n. IsUtf8 n.left.strings.text) (sym takes.next_is) (string_texts left.strings v takes.behind text read).1
-text_behind flag left v next text takes = subst (λ n. IsUtf8 n.left.strings.text) (sym takes.next_is) text
-text_behind kind left v next text takes = subst (λ n. IsUtf8 n.left.strings.text) (sym takes.next_is) text
-text_behind len left v next text takes = subst (λ n. IsUtf8 n.left.strings.text) (sym takes.next_is) text
-text_behind (rest t) left v next text takes = subst (λ n. IsUtf8 n.left.strings.text) (sym takes.next_is) text
 text_behind mark left v next text takes = subst (λ n. IsUtf8 n.left.strings.text) (sym takes) text
+text_behind t left v next text takes = subst (λ n. IsUtf8 n.left.strings.text) (sym takes.next_is) text
 
 -- and behind parts in a row
 text_kept : (parts : List (Found V2Value)) (now end : V2Turn) → IsUtf8 now.left.strings.text → StandInTurn StandsV2Part now parts end → IsUtf8 end.left.strings.text

@@ -22,12 +22,12 @@ use Rattle.yd_v2.specs.Standing.{PartsStand, SpellParts, V2Thing, among, clients
 -- ---- the next part
 
 -- what a column gave
-record GaveNext {X L : Type 0} (with_next : L → V2Left) (gives : Result (X × L) ColFault) (v : X) (next : V2Turn) : Type 0 where
-  behind : L
-  read : gives ≡ Ok (v, behind)
-  left_is : next.left ≡ with_next behind
+pub record GaveNext {X L : Type 0} (with_next : L → V2Left) (gives : Result (X × L) ColFault) (v : X) (next : V2Turn) : Type 0 where
+  pub behind : L
+  pub read : gives ≡ Ok (v, behind)
+  pub left_is : next.left ≡ with_next behind
 
-gave_next : {X L : Type 0} (with_next : L → V2Left) (column : Column) (place : L → ℕ) (gives : Result (X × L) ColFault) (v : X) (next : V2Turn) → turned with_next column place gives ≡ Ok (v, next) → GaveNext with_next gives v next
+pub gave_next : {X L : Type 0} (with_next : L → V2Left) (column : Column) (place : L → ℕ) (gives : Result (X × L) ColFault) (v : X) (next : V2Turn) → turned with_next column place gives ≡ Ok (v, next) → GaveNext with_next gives v next
 gave_next with_next column place (Ok read) v next is =
     let same = ok_value (read.0, record { left = with_next read.1; last = record { column = column; at = place read.1 } }) (v, next) is in
     record { behind = read.1; read = ap (λ pair. Ok (pair.0, read.1)) same; left_is = sym (ap (λ pair. pair.1.left) same) }

@@ -1,7 +1,6 @@
 -- What is written in V2 is read again: fields from their file, one after another.
 use Rattle.std.proofs.Common.{◌≡◌, ◌∙◌, ◌++◌, ◌^◌, ◌<◌, ◌≤◌, [], ◌∷◌, ℕ, List, Ok, IsUtf8, append-nil, append_assoc, arith, length, refl, sym, ap, subst}
 use Rattle.std.specs.List.{AllByRecursion, concat}
-use Rattle.yd_words.specs.Each.{Each}
 use Rattle.yd_cols.proofs.BackLemmas.{bytes_back, diffs_back, strings_back, uints_back}
 use Rattle.yd_cols.proofs.StartLemmas.{bytes_start, diffs_start, uints_start}
 use Rattle.yd_cols.proofs.StringColumnLemmas.{strings_start}

@@ -5,7 +5,7 @@ use Rattle.yd_num.specs.Grammar.{Joins}
 use Rattle.yd_parts.specs.Part.{Part, PartValue}
 use Rattle.yd_parts.specs.PartGrammar.{SpellsPart}
 use Rattle.yd_v2.specs.Left.{V2Left}
-use Rattle.yd_v2.specs.Part.{V2Part, V2Value, client, flag, info, key_number, kind, left_clock, len, mark, rest, right_clock, string}
+use Rattle.yd_v2.specs.Part.{V2Part, V2Value, client, flag, info, key_number, kind, left_clock, len, rest, right_clock, string}
 
 -- a part, and what it holds
 abbrev pub V2Thing : Type 0
@@ -16,128 +16,47 @@ V2Thing = (t : V2Part) × V2Value t
 -- the numbers of keys: those of a part
 abbrev pub keys_of : (t : V2Part) → V2Value t → List ℕ
 keys_of key_number v = v ∷ []
-keys_of client v = []
-keys_of left_clock v = []
-keys_of right_clock v = []
-keys_of info v = []
-keys_of string v = []
-keys_of flag v = []
-keys_of kind v = []
-keys_of len v = []
-keys_of (rest part) v = []
-keys_of mark v = []
+keys_of t v = []
 
 -- the clients: those of a part
 abbrev pub clients_of : (t : V2Part) → V2Value t → List ℕ
-clients_of key_number v = []
 clients_of client v = v ∷ []
-clients_of left_clock v = []
-clients_of right_clock v = []
-clients_of info v = []
-clients_of string v = []
-clients_of flag v = []
-clients_of kind v = []
-clients_of len v = []
-clients_of (rest part) v = []
-clients_of mark v = []
+clients_of t v = []
 
 -- the clocks of left origins: those of a part
 abbrev pub lefts_of : (t : V2Part) → V2Value t → List ℕ
-lefts_of key_number v = []
-lefts_of client v = []
 lefts_of left_clock v = v ∷ []
-lefts_of right_clock v = []
-lefts_of info v = []
-lefts_of string v = []
-lefts_of flag v = []
-lefts_of kind v = []
-lefts_of len v = []
-lefts_of (rest part) v = []
-lefts_of mark v = []
+lefts_of t v = []
 
 -- the clocks of right origins: those of a part
 abbrev pub rights_of : (t : V2Part) → V2Value t → List ℕ
-rights_of key_number v = []
-rights_of client v = []
-rights_of left_clock v = []
 rights_of right_clock v = v ∷ []
-rights_of info v = []
-rights_of string v = []
-rights_of flag v = []
-rights_of kind v = []
-rights_of len v = []
-rights_of (rest part) v = []
-rights_of mark v = []
+rights_of t v = []
 
 -- the info bytes: those of a part
 abbrev pub infos_of : (t : V2Part) → V2Value t → List ℕ
-infos_of key_number v = []
-infos_of client v = []
-infos_of left_clock v = []
-infos_of right_clock v = []
 infos_of info v = v ∷ []
-infos_of string v = []
-infos_of flag v = []
-infos_of kind v = []
-infos_of len v = []
-infos_of (rest part) v = []
-infos_of mark v = []
+infos_of t v = []
 
 -- the strings: those of a part
 abbrev pub strings_of : (t : V2Part) → V2Value t → List (List ℕ)
-strings_of key_number v = []
-strings_of client v = []
-strings_of left_clock v = []
-strings_of right_clock v = []
-strings_of info v = []
 strings_of string v = v ∷ []
-strings_of flag v = []
-strings_of kind v = []
-strings_of len v = []
-strings_of (rest part) v = []
-strings_of mark v = []
+strings_of t v = []
 
 -- the flags of parents: those of a part
 abbrev pub parents_of : (t : V2Part) → V2Value t → List ℕ
-parents_of key_number v = []
-parents_of client v = []
-parents_of left_clock v = []
-parents_of right_clock v = []
-parents_of info v = []
-parents_of string v = []
 parents_of flag v = v ∷ []
-parents_of kind v = []
-parents_of len v = []
-parents_of (rest part) v = []
-parents_of mark v = []
+parents_of t v = []
 
 -- the numbers of types: those of a part
 abbrev pub kinds_of : (t : V2Part) → V2Value t → List ℕ
-kinds_of key_number v = []
-kinds_of client v = []
-kinds_of left_clock v = []
-kinds_of right_clock v = []
-kinds_of info v = []
-kinds_of string v = []
-kinds_of flag v = []
 kinds_of kind v = v ∷ []
-kinds_of len v = []
-kinds_of (rest part) v = []
-kinds_of mark v = []
+kinds_of t v = []
 
 -- the lengths: those of a part
 abbrev pub lengths_of : (t : V2Part) → V2Value t → List ℕ
-lengths_of key_number v = []
-lengths_of client v = []
-lengths_of left_clock v = []
-lengths_of right_clock v = []
-lengths_of info v = []
-lengths_of string v = []
-lengths_of flag v = []
-lengths_of kind v = []
 lengths_of len v = v ∷ []
-lengths_of (rest part) v = []
-lengths_of mark v = []
+lengths_of t v = []
 
 -- a part of the rest, and what it holds
 abbrev pub RestThing : Type 0
@@ -145,17 +64,8 @@ RestThing = (t : Part) × PartValue t
 
 -- the parts of the rest: those of a part
 abbrev pub rest_of : (t : V2Part) → V2Value t → List RestThing
-rest_of key_number v = []
-rest_of client v = []
-rest_of left_clock v = []
-rest_of right_clock v = []
-rest_of info v = []
-rest_of string v = []
-rest_of flag v = []
-rest_of kind v = []
-rest_of len v = []
 rest_of (rest part) v = (part, v) ∷ []
-rest_of mark v = []
+rest_of t v = []
 
 -- those of parts, one part after another
 abbrev pub among : {V : Type 0} → ((t : V2Part) → V2Value t → List V) → List V2Thing → List V
