@@ -2,12 +2,12 @@
 
 ghost use Rattle.std.specs.Prelude.{◌<◌};
 
-use crate::stage::Stage;
 use itoa::Buffer;
 use std::alloc::Global;
 use std::process::Abort;
 use std::test::Fail;
-use yd_app::Word;
+use yd_app::{Word, run};
+use yd_world::{MemoryLibrary, MemorySink, ScriptBoard};
 
 /// "a" in the root `t`, of client 1.
 const FIRST: [u8; 11] = [1, 1, 1, 0, 4, 1, 1, 0x74, 1, 0x61, 0];
@@ -16,7 +16,8 @@ const FIRST: [u8; 11] = [1, 1, 1, 0, 4, 1, 1, 0x74, 1, 0x61, 0];
 // for each two of the updates, and far too little where each update goes through all pairs of them.
 #[test]
 fn many_updates_may_come_from_the_last_to_the_first(rt: HostRuntime) -> Result<(), Fail> {
-    let mut stage = Stage::with_files(rt.alloc(), &[("0", &FIRST)])?;
+    let mut library = MemoryLibrary::new(rt.alloc());
+    library.add("0", &FIRST)?;
     let mut words = Vec::new(rt.alloc());
     for word in ["show", "--text", "t"] {
         words.push(Word::copy_of(rt.alloc(), word)?)?;
@@ -25,27 +26,27 @@ fn many_updates_may_come_from_the_last_to_the_first(rt: HostRuntime) -> Result<(
         let clock = 10_000 - place;
         add(
             rt.alloc(),
-            &mut stage,
+            &mut library,
             &mut words,
             clock,
             &later_unit(clock),
         )?;
     }
     words.push(Word::copy_of(rt.alloc(), "v1:0")?)?;
-    shows_all(&rt, &mut stage, &words)
+    shows_all(&rt, &mut library, &words)
 }
 
 // Adds a file whose name is the clock, and its word.
 fn add(
     alloc: Global,
-    stage: &mut Stage,
+    library: &mut MemoryLibrary,
     words: &mut Vec<Word>,
     clock: u16,
     bytes: &[u8],
 ) -> Result<(), Fail> {
     let mut digits = Buffer::new();
     let name = digits.format(clock);
-    stage.library.add(name, bytes)?;
+    library.add(name, bytes)?;
     let mut word = String::new(alloc);
     word.push_str("v1:")?;
     word.push_str(name)?;
@@ -56,7 +57,7 @@ fn add(
 // Wants the letters of all units shown, in the order of their clocks.
 fn shows_all(
     rt: &(impl Abort + AllocGlobal),
-    stage: &mut Stage,
+    library: &mut MemoryLibrary,
     words: &[Word],
 ) -> Result<(), Fail> {
     let mut want = Vec::new(rt.alloc());
@@ -64,9 +65,12 @@ fn shows_all(
         want.push(letter(clock))?;
     }
     want.push(b'\n')?;
-    let status = stage.status(rt.alloc(), words);
+    let mut out = MemorySink::new(rt.alloc());
+    let mut err = MemorySink::new(rt.alloc());
+    let mut board = ScriptBoard::new(rt.alloc());
+    let status = run(rt.alloc(), words, library, &mut out, &mut err, &mut board);
     assert_eq!(rt; status, 0);
-    assert_eq!(rt; stage.out.as_slice(), want.as_slice());
+    assert_eq!(rt; out.as_slice(), want.as_slice());
     Ok(())
 }
 
