@@ -3,7 +3,7 @@ use Rattle.std.proofs.Common.{◌≡◌, ℕ, zero, suc, ◌+◌, ◌-◌, ◌<�
 use Rattle.std.specs.Prelude.{◌↔◌, slice_get, Decides}
 use Rattle.std.proofs.lemmas.Option.{slice_get-get_or}
 use Rattle.std.proofs.lemmas.Bool.{or_right}
-use Rattle.yd_words.specs.Member.{AreDistinct, IsIn as IsOneOf}
+use Rattle.yd_words.specs.Member.{AreDistinct, IsIn as IsOneOf, IsIn}
 use Rattle.yd_words.proofs.TestLemmas.{one_answer}
 use Rattle.yd_ids.specs.declared.id.Id.{Id}
 use Rattle.yd_ids.specs.declared.id.Span.{Span}
@@ -25,7 +25,6 @@ use Rattle.yd_received.specs.declared.entry.Entry.{Entry}
 use Rattle.yd_received.specs.Entries.{units_of, list_at, operations_of_taken, IsTakenOf, AreTaken, held_in, covers}
 use Rattle.yd_doc.specs.Lent.{Lent, lent, lent_from, lent_in, IsRow}
 use Rattle.yd_received.specs.Taking.{is_covered}
-use Rattle.yd_received.proofs.EntriesLemmas.{IsEntry}
 use Rattle.yd_state.proofs.NamedLemmas.{named_decides}
 use Rattle.yd_held.proofs.HeldUnitLemmas.{covers_less, less_covers, covers_unit}
 use Rattle.yd_received.proofs.WrittenLemmas.{held_written}
@@ -110,7 +109,7 @@ drop_here (suc k) (y ∷ ys) x e = drop_here k ys x e
 
 -- ---- operations
 
-entry_covers : (ts : List Entry) (t : Entry) (x : Id) → IsEntry t ts → covers t x ≡ true → is_covered ts x ≡ true
+entry_covers : (ts : List Entry) (t : Entry) (x : Id) → IsIn t ts → covers t x ≡ true → is_covered ts x ≡ true
 entry_covers [] t x i e = absurd i
 entry_covers (s ∷ ss) t x (inl f) e = rw (ap (λ u. covers u x) (sym f) ∙ e) refl
 entry_covers (s ∷ ss) t x (inr i) e = or_right (covers s x) (is_covered ss x) (entry_covers ss t x i e)
@@ -158,7 +157,7 @@ module _ (runs : List Run) (taken : List Entry) (are : AreTaken runs taken) (id 
   pub held_covered : is_covered taken id ≡ true
   held_covered = let (t, i, is, e) = id_held runs taken are.each are.in_order id held in entry_covers taken t id i e
 
-  module _ (t : Entry) (is_there : IsEntry t taken) (is_its : covers t id ≡ true) where
+  module _ (t : Entry) (is_there : IsIn t taken) (is_its : covers t id ≡ true) where
     abbrev skipped : ℕ
     skipped = id.clock - t.id.clock
 

@@ -9,7 +9,8 @@ use Rattle.yd_ids.specs.Vector.{clock_of}
 use Rattle.yd_received.specs.declared.entry.Entry.{Entry}
 use Rattle.yd_received.specs.Entries.{GrowBy, StaysOfFirst, is_of_first}
 use Rattle.yd_received.specs.Received.{ReceivedValue, undone, is_below, put_back}
-use Rattle.yd_received.proofs.EntriesLemmas.{IsEntry, entry_each}
+use Rattle.yd_words.specs.Member.{IsIn}
+use Rattle.yd_words.proofs.MemberLemmas.{in_each}
 use Rattle.yd_received.proofs.RestoringLemmas.{filter-all, of_first, front_back}
 use Rattle.yd_held.specs.declared.parts.Before.{Before}
 use Rattle.yd_held.specs.Changing.{IsOf, IsChanged}
@@ -46,7 +47,7 @@ module _ (h : HeldValue) (holds : HoldsAll h) where
   holding : IsHolding h.received.runs h.received.entries h.vector h.names
   holding = record { in_order = holds.in_order; own = holds_own h holds; counted = holds.counted; numbered = holds.numbered }
 
-  waits_above : (t : Entry) → IsEntry t h.received.entries → is_below h.vector t.id ≡ false → t.list ≡ None
+  waits_above : (t : Entry) → IsIn t h.received.entries → is_below h.vector t.id ≡ false → t.list ≡ None
   waits_above t i above = go t.list refl
     where
       go : (z : Option ℕ) → t.list ≡ z → t.list ≡ None
@@ -60,7 +61,7 @@ module _ (h : HeldValue) (holds : HoldsAll h) where
           below x lt = grind (arith, tests)
 
   undone_same : map (undone h.vector) h.received.entries ≡ h.received.entries
-  undone_same = map-same (undone h.vector) h.received.entries (entry_each (λ t. undone h.vector t ≡ t) h.received.entries (λ t i. elim (cases_Bool (is_below h.vector t.id)) [
+  undone_same = map-same (undone h.vector) h.received.entries (in_each (λ t. undone h.vector t ≡ t) h.received.entries (λ t i. elim (cases_Bool (is_below h.vector t.id)) [
     | inl e ↦ rw e refl
     | inr e ↦ rw e (without_list t (waits_above t i e))
   ]))

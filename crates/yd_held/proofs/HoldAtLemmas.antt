@@ -1,8 +1,9 @@
 -- Holding one entry: that its origins have numbers, where its own number stands, and which lists stay.
-use Rattle.std.proofs.Common.{◌≡◌, ◌≢◌, ℕ, suc, ◌+◌, ◌<◌, ◌≤◌, Bool, true, false, List, [], ◌∷◌, ◌++◌, ◌⊎◌, inl, inr, Option, Some, None, length, filter, set, get_or, max, nat_eq, refl, sym, ap, ◌∙◌, subst, arith, tests}
+use Rattle.std.proofs.Common.{◌≡◌, ◌≢◌, ℕ, suc, ◌+◌, ◌<◌, ◌≤◌, Bool, true, false, List, [], ◌∷◌, ◌++◌, inl, inr, Option, Some, None, length, filter, set, get_or, max, nat_eq, refl, sym, ap, ◌∙◌, subst, arith, tests}
 use Rattle.std.specs.Prelude.{HoldsAt, slice_get, is_some, IfSome}
 use Rattle.std.proofs.lemmas.List.{get_or_default}
 use Rattle.std.proofs.lemmas.Option.{slice_get_read, slice_get_within}
+use Rattle.yd_words.proofs.TestLemmas.{same_or_other}
 use Rattle.yd_ids.specs.declared.id.Client.{Client}
 use Rattle.yd_ids.specs.declared.id.Id.{Id}
 use Rattle.yd_ids.specs.Vector.{RaisesOnly}
@@ -16,7 +17,7 @@ use Rattle.yd_held.specs.Numbered.{number_of, is_in_list}
 use Rattle.yd_held.specs.Numbering.{NumbersList, NumbersEntry}
 use Rattle.yd_held.specs.Readiness.{first_list, is_ready}
 use Rattle.yd_received.specs.Received.{ReceivedValue, GetsNumber, with_number}
-use Rattle.yd_received.proofs.EntriesLemmas.{each_entry}
+use Rattle.yd_words.proofs.MemberLemmas.{each_in}
 use Rattle.yd_held.specs.Holding.{IsHolding, HoldsMore, HoldsEntry, SetsMark, count_waiting}
 use Rattle.yd_received.proofs.ChangeLemmas.{some_is, entry_got, filter-set, filter-grows, operations-number}
 use Rattle.yd_held.proofs.NumberingLemmas.{fewer_wait}
@@ -24,9 +25,6 @@ use Rattle.yd_held.proofs.HoldingLemmas.{ready_is}
 use Rattle.yd_held.proofs.HoldListLemmas.{numbered_id}
 use Rattle.yd_held.proofs.NumberedLemmas.{got_before, no_number, holding_after}
 use Rattle.yd_held.proofs.HoldStepLemmas.{Setting, origin_held}
-
-same_or_other : (m n : ℕ) → (m ≡ n) ⊎ (m ≢ n)
-same_or_other m n = grind arith
 
 own_number : (n : ℕ) → nat_eq n n ≡ true
 own_number n = grind (arith, tests)
@@ -118,7 +116,7 @@ module _ (r : ReceivedValue) (seen : List Entry) (vector : List (Client × ℕ))
   right_numbered = some_number (λ y. has_operation (held_in runs ts) y ≡ true) ts t.right (held_number runs ts vector names at t s) (right_held runs ts vector names at t s)
 
   pub is_entry : IsTakenOf runs t
-  is_entry = each_entry (IsTakenOf runs) ts h.in_order.each t (entry_got ts at t s.got)
+  is_entry = each_in (IsTakenOf runs) ts h.in_order.each t (entry_got ts at t s.got)
 
   -- the list with its number has one entry more
   grows_here : (n : ℕ) → length (filter (is_in_list n) (set ts at (with_number t n))) ≡ suc (length (filter (is_in_list n) ts))

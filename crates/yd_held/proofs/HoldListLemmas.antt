@@ -22,7 +22,7 @@ use Rattle.yd_received.specs.Entries.{operations_of_taken, held_in, covers, IsTa
 use Rattle.yd_held.specs.Numbered.{number_of}
 use Rattle.yd_held.specs.Readiness.{first_list}
 use Rattle.yd_held.specs.Holding.{IsHolding}
-use Rattle.yd_received.proofs.EntriesLemmas.{each_entry}
+use Rattle.yd_words.proofs.MemberLemmas.{each_in}
 use Rattle.yd_held.proofs.NumberOfLemmas.{number_of-one}
 use Rattle.yd_held.proofs.HeldUnitLemmas.{id_at, unit_cases, covers_unit, covers_less, less_covers}
 use Rattle.yd_held.proofs.HeldEntryLemmas.{is_taken, id_held, entry_held}
@@ -109,6 +109,6 @@ module _ (runs : List Run) (ts : List Entry) (vector : List (Client × ℕ)) (na
         n,
         number_of-one ts h.in_order.in_order t x i f ∙ g,
         number_there (λ m. slice_get names m ≡ Some (list_of (held_in runs ts) t.id)) t.list n g
-            (each_entry (λ (u : Entry). IfSome u.list (λ m. slice_get names m ≡ Some (list_of (held_in runs ts) u.id))) ts h.numbered.named t i)
+            (each_in (λ (u : Entry). IfSome u.list (λ m. slice_get names m ≡ Some (list_of (held_in runs ts) u.id))) ts h.numbered.named t i)
             ∙ ap (λ list. Some list) (sym same),
       )

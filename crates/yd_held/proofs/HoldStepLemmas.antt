@@ -21,7 +21,6 @@ use Rattle.yd_held.specs.Numbered.{IsVectorOf}
 use Rattle.yd_held.specs.Readiness.{IsOriginOf, first_list}
 use Rattle.yd_received.specs.Received.{with_number}
 use Rattle.yd_held.specs.Holding.{IsHolding}
-use Rattle.yd_received.proofs.EntriesLemmas.{IsEntry}
 use Rattle.yd_held.proofs.HeldUnitLemmas.{covers_less, less_covers, covers_unit, unit_covers}
 use Rattle.yd_received.proofs.WrittenLemmas.{taken_written, held_written}
 use Rattle.yd_held.proofs.HeldEntryLemmas.{is_taken, held_entry, entry_held, held_received, one_of_entry}
@@ -51,7 +50,7 @@ module _ (runs : List Run) (ts : List Entry) (vector : List (Client × ℕ)) (na
   abbrev after : List Operation
   after = held_in runs numbered
 
-  here : IsEntry t ts
+  here : IsIn t ts
   here = entry_got ts at t s.got
 
   pub this_taken : IsTakenOf runs t

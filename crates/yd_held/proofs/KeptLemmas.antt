@@ -14,7 +14,9 @@ use Rattle.yd_meaning.proofs.HeldLemmas.{held_needs, held_set-part}
 use Rattle.yd_received.specs.declared.entry.Entry.{Entry}
 use Rattle.yd_received.specs.Entries.{IsTakenOf, AreInOrder, GrowBy, StaysOfFirst, is_held, is_of_first, list_at, covers, operations_in}
 use Rattle.yd_received.specs.Received.{ReceivedValue, IsReceived, taken_of, held_of}
-use Rattle.yd_received.proofs.EntriesLemmas.{IsEntry, kept_entry, entry_kept, each_kept}
+use Rattle.yd_received.proofs.EntriesLemmas.{each_kept}
+use Rattle.yd_words.specs.Member.{IsIn}
+use Rattle.yd_words.proofs.FilterLemmas.{kept_one, one_kept}
 use Rattle.yd_received.proofs.RestoringLemmas.{of_first, filter-all}
 use Rattle.yd_received.proofs.TakenLemmas.{grown_get, grown_in, in_written}
 use Rattle.yd_held.specs.declared.noting.Lack.{Lack}
@@ -39,13 +41,13 @@ holds_own h holds = holds.held
 -- ---- numbers
 
 -- an id with a number is of an entry with that number
-numbered_entry : (ts : List Entry) (x : Id) (m : ℕ) → number_of ts x ≡ Some m → (t : Entry) × IsEntry t ts × (covers t x ≡ true) × (t.list ≡ Some m)
+numbered_entry : (ts : List Entry) (x : Id) (m : ℕ) → number_of ts x ≡ Some m → (t : Entry) × IsIn t ts × (covers t x ≡ true) × (t.list ≡ Some m)
 numbered_entry [] x m e = absurd cc
 numbered_entry (t ∷ ts) x m e = go (covers t x) refl e (λ f. numbered_entry ts x m f)
   where
     go : (b : Bool) → covers t x ≡ b → cond b t.list (number_of ts x) ≡ Some m →
-        (number_of ts x ≡ Some m → (s : Entry) × IsEntry s ts × (covers s x ≡ true) × (s.list ≡ Some m)) →
-        (s : Entry) × IsEntry s (t ∷ ts) × (covers s x ≡ true) × (s.list ≡ Some m)
+        (number_of ts x ≡ Some m → (s : Entry) × IsIn s ts × (covers s x ≡ true) × (s.list ≡ Some m)) →
+        (s : Entry) × IsIn s (t ∷ ts) × (covers s x ≡ true) × (s.list ≡ Some m)
     go true c e rest = (t, inl refl, c, e)
     go false c e rest = let (s, i, f, g) = rest e in (s, inr i, f, g)
 
@@ -53,8 +55,8 @@ numbered_entry (t ∷ ts) x m e = go (covers t x) refl e (λ f. numbered_entry t
 number_kept : (ts new : List Entry) → AreInOrder new → filter is_held new ≡ filter is_held ts → (x : Id) (m : ℕ) → number_of ts x ≡ Some m → number_of new x ≡ Some m
 number_kept ts new order same x m e =
     let (t, i, c, number) = numbered_entry ts x m e in
-    let kept = entry_kept is_held ts t (ap (λ z. is_some z) number) i in
-    number_of-one new order t x (kept_entry is_held new t (subst (λ es. IsEntry t es) (sym same) kept)).1 c ∙ number
+    let kept = one_kept is_held ts t (ap (λ z. is_some z) number) i in
+    number_of-one new order t x (kept_one is_held new t (subst (λ es. IsIn t es) (sym same) kept)).1 c ∙ number
 
 -- a fact of the numbers of held entries is one of the numbers of all
 of_held : (Q : Entry → ℕ → Type 0) (es : List Entry) → Each (λ (t : Entry). IfSome t.list (Q t)) (filter is_held es) → Each (λ (t : Entry). IfSome t.list (Q t)) es

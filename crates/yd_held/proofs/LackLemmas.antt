@@ -8,7 +8,8 @@ use Rattle.yd_ids.proofs.IdLemmas.{same_numbers}
 use Rattle.yd_received.specs.declared.entry.Entry.{Entry}
 use Rattle.yd_received.specs.Entries.{covers}
 use Rattle.yd_held.specs.declared.noting.Lack.{Lack}
-use Rattle.yd_held.specs.Noted.{StandsIn, stands_before, same_lack, first_lack, AreSorted, with_lack}
+use Rattle.yd_held.specs.Noted.{stands_before, same_lack, first_lack, AreSorted, with_lack}
+use Rattle.yd_words.specs.Member.{IsIn}
 
 -- ---- the order
 
@@ -56,20 +57,20 @@ module _ (l : Lack) where
       client = let same : l.client.0 ≡ m.client.0 = grind (arith, tests) in λ i. record { 0 = same i }
 
   -- it stands among them then, and those that stood there still do
-  pub with_has : (ls : List Lack) → StandsIn l (with_lack l ls)
+  pub with_has : (ls : List Lack) → IsIn l (with_lack l ls)
   with_has [] = inl refl
   with_has (m ∷ ms) = go (stands_before m l) (same_lack m l) refl (with_has ms)
     where
-      go : (s t : Bool) → same_lack m l ≡ t → StandsIn l (with_lack l ms) → StandsIn l (cond s (m ∷ with_lack l ms) (cond t (m ∷ ms) (l ∷ m ∷ ms)))
+      go : (s t : Bool) → same_lack m l ≡ t → IsIn l (with_lack l ms) → IsIn l (cond s (m ∷ with_lack l ms) (cond t (m ∷ ms) (l ∷ m ∷ ms)))
       go true t e rest = inr rest
       go false true e rest = inl (same_is m e)
       go false false e rest = inl refl
 
-  pub with_stays : (ls : List Lack) (k : Lack) → StandsIn k ls → StandsIn k (with_lack l ls)
+  pub with_stays : (ls : List Lack) (k : Lack) → IsIn k ls → IsIn k (with_lack l ls)
   with_stays [] k i = absurd i
   with_stays (m ∷ ms) k i = go (stands_before m l) (same_lack m l) i (with_stays ms k)
     where
-      go : (s t : Bool) → StandsIn k (m ∷ ms) → (StandsIn k ms → StandsIn k (with_lack l ms)) → StandsIn k (cond s (m ∷ with_lack l ms) (cond t (m ∷ ms) (l ∷ m ∷ ms)))
+      go : (s t : Bool) → IsIn k (m ∷ ms) → (IsIn k ms → IsIn k (with_lack l ms)) → IsIn k (cond s (m ∷ with_lack l ms) (cond t (m ∷ ms) (l ∷ m ∷ ms)))
       go true t (inl e) rest = inl e
       go true t (inr j) rest = inr (rest j)
       go false true j rest = j
@@ -97,11 +98,11 @@ module _ (l : Lack) where
 
 -- ---- those that are taken out
 
-pub kept_in : {X : Type 0} (test : X → Bool) (xs : List X) (x : X) → test x ≡ true → StandsIn x xs → StandsIn x (filter test xs)
+pub kept_in : {X : Type 0} (test : X → Bool) (xs : List X) (x : X) → test x ≡ true → IsIn x xs → IsIn x (filter test xs)
 kept_in test [] x e i = absurd i
 kept_in test (y ∷ ys) x e i = go (test y) refl i (kept_in test ys x e)
   where
-    go : (b : Bool) → test y ≡ b → StandsIn x (y ∷ ys) → (StandsIn x ys → StandsIn x (filter test ys)) → StandsIn x (cond b (y ∷ filter test ys) (filter test ys))
+    go : (b : Bool) → test y ≡ b → IsIn x (y ∷ ys) → (IsIn x ys → IsIn x (filter test ys)) → IsIn x (cond b (y ∷ filter test ys) (filter test ys))
     go true f (inl g) rest = inl g
     go true f (inr j) rest = inr (rest j)
     go false f (inl g) rest = absurd (true≢false (sym e ∙ ap test g ∙ f))

@@ -1,8 +1,9 @@
 -- What is noted of units that wait: it stays right when a client is found to have none, when a lack is noted, and when units are held.
-use Rattle.std.proofs.Common.{◌≡◌, ◌≢◌, ℕ, ◌+◌, ◌<◌, ◌≤◌, Bool, true, false, cond, not, nat_eq, List, [], ◌∷◌, ◌++◌, ◌⊎◌, inl, inr, Option, Some, None, map, filter, refl, sym, ap, ◌∙◌, subst, arith, tests, true≢false}
+use Rattle.std.proofs.Common.{◌≡◌, ℕ, ◌+◌, ◌<◌, ◌≤◌, Bool, true, false, cond, not, nat_eq, List, [], ◌∷◌, ◌++◌, inl, inr, Option, Some, None, map, filter, refl, sym, ap, ◌∙◌, subst, arith, tests, true≢false}
 use Rattle.std.proofs.lemmas.Bool.{cases_Bool}
+use Rattle.yd_words.proofs.MemberLemmas.{in_left_part, in_right_part}
 use Rattle.yd_words.specs.Each.{Each}
-use Rattle.yd_words.proofs.TestLemmas.{split, hold_both}
+use Rattle.yd_words.proofs.TestLemmas.{split, hold_both, same_or_other}
 use Rattle.yd_ids.specs.declared.id.Client.{Client}
 use Rattle.yd_ids.specs.declared.id.Id.{Id}
 use Rattle.yd_ids.specs.Vector.{clock_of}
@@ -10,12 +11,14 @@ use Rattle.yd_ids.proofs.IdLemmas.{same_numbers}
 use Rattle.yd_ops.specs.declared.runs.Run.{Run}
 use Rattle.yd_received.specs.declared.entry.Entry.{Entry}
 use Rattle.yd_received.specs.Entries.{covers, is_held, IsTakenOf, AreInOrder}
-use Rattle.yd_received.proofs.EntriesLemmas.{IsEntry, each_entry, entry_each, one_entry}
+use Rattle.yd_received.proofs.EntriesLemmas.{one_entry}
+use Rattle.yd_words.specs.Member.{IsIn}
+use Rattle.yd_words.proofs.MemberLemmas.{each_in, in_each}
 use Rattle.yd_meaning.specs.Held.{item_carried}
 use Rattle.yd_held.specs.declared.noting.Lack.{Lack}
 use Rattle.yd_received.specs.Received.{is_below, with_number}
 use Rattle.yd_held.specs.Readiness.{IsOriginOf, is_none_or_below, missing_of, first_of, lack_of, first_list, is_ready}
-use Rattle.yd_held.specs.Noted.{StandsIn, AreSorted, with_lack, Wakes, IsNoted, IsNotedOrTried, AreNoted, AreMissing}
+use Rattle.yd_held.specs.Noted.{AreSorted, with_lack, Wakes, IsNoted, IsNotedOrTried, AreNoted, AreMissing}
 use Rattle.yd_held.specs.Holding.{HoldsEntry}
 use Rattle.yd_held.specs.Trying.{IsNext}
 use Rattle.yd_held.proofs.HeldUnitLemmas.{covers_first, less_covers}
@@ -24,30 +27,13 @@ use Rattle.yd_held.proofs.LackLemmas.{kept_in, sorted_kept, with_has, with_stays
 
 -- ---- standing in a list
 
-pub in_front : {X : Type 0} (x : X) (xs ys : List X) → StandsIn x xs → StandsIn x (xs ++ ys)
-in_front x [] ys i = absurd i
-in_front x (z ∷ zs) ys (inl e) = inl e
-in_front x (z ∷ zs) ys (inr i) = inr (in_front x zs ys i)
-
-pub in_back : {X : Type 0} (x : X) (xs ys : List X) → StandsIn x ys → StandsIn x (xs ++ ys)
-in_back x [] ys i = i
-in_back x (z ∷ zs) ys i = inr (in_back x zs ys i)
-
-pub in_either : {X : Type 0} (x : X) (xs ys : List X) → StandsIn x (xs ++ ys) → StandsIn x xs ⊎ StandsIn x ys
-in_either x [] ys i = inr i
-in_either x (z ∷ zs) ys (inl e) = inl (inl e)
-in_either x (z ∷ zs) ys (inr i) = elim (in_either x zs ys i) [ inl j ↦ inl (inr j) | inr j ↦ inr j ]
-
-in_map : {X Y : Type 0} (f : X → Y) (x : X) (xs : List X) → StandsIn x xs → StandsIn (f x) (map f xs)
+in_map : {X Y : Type 0} (f : X → Y) (x : X) (xs : List X) → IsIn x xs → IsIn (f x) (map f xs)
 in_map f x [] i = absurd i
 in_map f x (z ∷ zs) (inl e) = inl (ap f e)
 in_map f x (z ∷ zs) (inr i) = inr (in_map f x zs i)
 
 pub one_client : (a b : Client) → a.0 ≡ b.0 → a ≡ b
 one_client a b e = λ i. record { 0 = e i }
-
-same_or_other : (m n : ℕ) → (m ≡ n) ⊎ (m ≢ n)
-same_or_other m n = grind arith
 
 -- ---- what units lack
 
@@ -120,10 +106,10 @@ missing_with vector runs t x client lacks lacked missing =
 
 -- only which clients are to be tried counts
 pub noted_among : (vector : List (Client × ℕ)) (runs : List Run) (lacks : List Lack) (tries more : List Client) (ts : List Entry) →
-    ((client : Client) → StandsIn client tries → StandsIn client more) → AreNoted vector runs lacks tries ts → AreNoted vector runs lacks more ts
+    ((client : Client) → IsIn client tries → IsIn client more) → AreNoted vector runs lacks tries ts → AreNoted vector runs lacks more ts
 noted_among vector runs lacks tries more ts stay noted = record {
   sorted = noted.sorted;
-  each = entry_each (IsNotedOrTried vector runs lacks more) ts (λ t i at_clock. elim (each_entry (IsNotedOrTried vector runs lacks tries) ts noted.each t i at_clock) [
+  each = in_each (IsNotedOrTried vector runs lacks more) ts (λ t i at_clock. elim (each_in (IsNotedOrTried vector runs lacks tries) ts noted.each t i at_clock) [
     | inl tried ↦ inl (stay t.id.client tried)
     | inr there ↦ inr there
   ]);
@@ -134,8 +120,8 @@ pub noted_without : (vector : List (Client × ℕ)) (runs : List Run) (lacks : L
     Each (λ t. IsNext vector client t → ⊥) ts → AreNoted vector runs lacks (client ∷ tries) ts → AreNoted vector runs lacks tries ts
 noted_without vector runs lacks client tries ts none noted = record {
   sorted = noted.sorted;
-  each = entry_each (IsNotedOrTried vector runs lacks tries) ts (λ t i at_clock. elim (each_entry (IsNotedOrTried vector runs lacks (client ∷ tries)) ts noted.each t i at_clock) [
-    | inl (inl same) ↦ absurd (each_entry (λ t. IsNext vector client t → ⊥) ts none t i (record { of_client = same; at_clock = at_clock ∙ ap (λ (c : Client). clock_of vector c.0) same }))
+  each = in_each (IsNotedOrTried vector runs lacks tries) ts (λ t i at_clock. elim (each_in (IsNotedOrTried vector runs lacks (client ∷ tries)) ts noted.each t i at_clock) [
+    | inl (inl same) ↦ absurd (each_in (λ t. IsNext vector client t → ⊥) ts none t i (record { of_client = same; at_clock = at_clock ∙ ap (λ (c : Client). clock_of vector c.0) same }))
     | inl (inr tried) ↦ inl tried
     | inr there ↦ inr there
   ]);
@@ -143,11 +129,11 @@ noted_without vector runs lacks client tries ts none noted = record {
 
 -- nor one whose next units lack something, once that is noted
 pub noted_more : (vector : List (Client × ℕ)) (runs : List Run) (lacks : List Lack) (client : Client) (tries : List Client) (ts : List Entry) →
-    Each (IsTakenOf runs) ts → AreInOrder ts → (t : Entry) → IsEntry t ts → IsNext vector client t → (x : Id) → lack_of vector runs t ≡ Some x →
+    Each (IsTakenOf runs) ts → AreInOrder ts → (t : Entry) → IsIn t ts → IsNext vector client t → (x : Id) → lack_of vector runs t ≡ Some x →
     AreNoted vector runs lacks (client ∷ tries) ts → AreNoted vector runs (with_lack (record { id = x; client = client }) lacks) tries ts
 noted_more vector runs lacks client tries ts each order t here next x lacked noted = record {
   sorted = with_sorted lack lacks noted.sorted;
-  each = entry_each (IsNotedOrTried vector runs (with_lack lack lacks) tries) ts (λ s i at_clock. elim (each_entry (IsNotedOrTried vector runs lacks (client ∷ tries)) ts noted.each s i at_clock) [
+  each = in_each (IsNotedOrTried vector runs (with_lack lack lacks) tries) ts (λ s i at_clock. elim (each_in (IsNotedOrTried vector runs lacks (client ∷ tries)) ts noted.each s i at_clock) [
     | inl (inl same) ↦ inr (subst (IsNoted vector runs (with_lack lack lacks)) (sym (one s i (same_numbers s.id t.id (ap (λ (c : Client). c.0) (same ∙ sym next.of_client))
         (at_clock ∙ ap (λ (c : Client). clock_of vector c.0) same ∙ sym next.at_clock)))) this)
     | inl (inr tried) ↦ inl tried
@@ -158,39 +144,39 @@ noted_more vector runs lacks client tries ts each order t here next x lacked not
     lack : Lack
     lack = record { id = x; client = client }
 
-    one : (s : Entry) → IsEntry s ts → s.id ≡ t.id → s ≡ t
-    one s i same = one_entry ts order s t t.id i here (subst (λ y. covers s y ≡ true) same (covers_first runs s (each_entry (IsTakenOf runs) ts each s i)))
-        (covers_first runs t (each_entry (IsTakenOf runs) ts each t here))
+    one : (s : Entry) → IsIn s ts → s.id ≡ t.id → s ≡ t
+    one s i same = one_entry ts order s t t.id i here (subst (λ y. covers s y ≡ true) same (covers_first runs s (each_in (IsTakenOf runs) ts each s i)))
+        (covers_first runs t (each_in (IsTakenOf runs) ts each t here))
 
     this : IsNoted vector runs (with_lack lack lacks) t
     this = let (needed, missing) = lack_is vector runs t x lacked in record {
       id = x;
       needed = needed;
       missing = missing;
-      there = subst (λ (c : Client). StandsIn (record { id = x; client = c }) (with_lack lack lacks)) (sym next.of_client) (with_has lack lacks);
+      there = subst (λ (c : Client). IsIn (record { id = x; client = c }) (with_lack lack lacks)) (sym next.of_client) (with_has lack lacks);
     }
 
 -- ---- units are held
 
 module _ (vector : List (Client × ℕ)) (runs : List Run) (lacks left : List Lack) (tries more : List Client) (at : ℕ) (ts new : List Entry)
     (raised : List (Client × ℕ)) (h : HoldsEntry at ts new vector raised) (wakes : Wakes h.entry lacks left tries more) (begins : h.entry.id.clock ≡ clock_of vector h.entry.id.client.0) where
-  this_tried : StandsIn h.entry.id.client more
-  this_tried = subst (StandsIn h.entry.id.client) (sym wakes.tried)
-      (in_back h.entry.id.client (tries ++ map (λ (l : Lack). l.client) (filter (λ (l : Lack). covers h.entry l.id) lacks)) (h.entry.id.client ∷ []) (inl refl))
+  this_tried : IsIn h.entry.id.client more
+  this_tried = subst (IsIn h.entry.id.client) (sym wakes.tried)
+      (in_right_part h.entry.id.client (tries ++ map (λ (l : Lack). l.client) (filter (λ (l : Lack). covers h.entry l.id) lacks)) (h.entry.id.client ∷ []) (inl refl))
 
-  tried_stays : (client : Client) → StandsIn client tries → StandsIn client more
-  tried_stays client i = subst (StandsIn client) (sym wakes.tried)
-      (in_front client (tries ++ map (λ (l : Lack). l.client) (filter (λ (l : Lack). covers h.entry l.id) lacks)) (h.entry.id.client ∷ [])
-      (in_front client tries (map (λ (l : Lack). l.client) (filter (λ (l : Lack). covers h.entry l.id) lacks)) i))
+  tried_stays : (client : Client) → IsIn client tries → IsIn client more
+  tried_stays client i = subst (IsIn client) (sym wakes.tried)
+      (in_left_part client (tries ++ map (λ (l : Lack). l.client) (filter (λ (l : Lack). covers h.entry l.id) lacks)) (h.entry.id.client ∷ [])
+      (in_left_part client tries (map (λ (l : Lack). l.client) (filter (λ (l : Lack). covers h.entry l.id) lacks)) i))
 
-  woken : (l : Lack) → StandsIn l lacks → covers h.entry l.id ≡ true → StandsIn l.client more
-  woken l i e = subst (StandsIn l.client) (sym wakes.tried)
-      (in_front l.client (tries ++ map (λ (l : Lack). l.client) (filter (λ (l : Lack). covers h.entry l.id) lacks)) (h.entry.id.client ∷ [])
-      (in_back l.client tries (map (λ (l : Lack). l.client) (filter (λ (l : Lack). covers h.entry l.id) lacks))
+  woken : (l : Lack) → IsIn l lacks → covers h.entry l.id ≡ true → IsIn l.client more
+  woken l i e = subst (IsIn l.client) (sym wakes.tried)
+      (in_left_part l.client (tries ++ map (λ (l : Lack). l.client) (filter (λ (l : Lack). covers h.entry l.id) lacks)) (h.entry.id.client ∷ [])
+      (in_right_part l.client tries (map (λ (l : Lack). l.client) (filter (λ (l : Lack). covers h.entry l.id) lacks))
       (in_map (λ (l : Lack). l.client) l (filter (λ (l : Lack). covers h.entry l.id) lacks) (kept_in (λ (l : Lack). covers h.entry l.id) lacks l e i))))
 
-  stays : (l : Lack) → StandsIn l lacks → covers h.entry l.id ≡ false → StandsIn l left
-  stays l i e = subst (StandsIn l) (sym wakes.stays) (kept_in (λ (l : Lack). not (covers h.entry l.id)) lacks l (ap not e) i)
+  stays : (l : Lack) → IsIn l lacks → covers h.entry l.id ≡ false → IsIn l left
+  stays l i e = subst (IsIn l) (sym wakes.stays) (kept_in (λ (l : Lack). not (covers h.entry l.id)) lacks l (ap not e) i)
 
   -- an id that is missing and not of the units is missing then
   still_missing : (x : Id) → is_below vector x ≡ false → covers h.entry x ≡ false → is_below raised x ≡ false
@@ -221,11 +207,11 @@ module _ (vector : List (Client × ℕ)) (runs : List Run) (lacks left : List La
   pub noted_after : AreNoted vector runs lacks (h.entry.id.client ∷ tries) ts → AreNoted raised runs left more new
   noted_after noted = record {
     sorted = subst AreSorted (sym wakes.stays) (sorted_kept (λ (l : Lack). not (covers h.entry l.id)) lacks noted.sorted);
-    each = entry_each (IsNotedOrTried raised runs left more) new (λ t i at_clock. elim (same_or_other t.id.client.0 h.entry.id.client.0) [
-      | inl same ↦ inl (subst (λ c. StandsIn c more) (sym (one_client t.id.client h.entry.id.client same)) this_tried)
-      | inr other ↦ elim (set_is h.entry (with_number h.entry h.number) ts at t (subst (IsEntry t) h.placed i)) [
+    each = in_each (IsNotedOrTried raised runs left more) new (λ t i at_clock. elim (same_or_other t.id.client.0 h.entry.id.client.0) [
+      | inl same ↦ inl (subst (λ c. IsIn c more) (sym (one_client t.id.client h.entry.id.client same)) this_tried)
+      | inr other ↦ elim (set_is h.entry (with_number h.entry h.number) ts at t (subst (IsIn t) h.placed i)) [
         | inl e ↦ absurd (other (ap (λ (u : Entry). u.id.client.0) e))
-        | inr j ↦ elim (each_entry (IsNotedOrTried vector runs lacks (h.entry.id.client ∷ tries)) ts noted.each t j (at_clock ∙ h.raises.other_clients t.id.client.0 other)) [
+        | inr j ↦ elim (each_in (IsNotedOrTried vector runs lacks (h.entry.id.client ∷ tries)) ts noted.each t j (at_clock ∙ h.raises.other_clients t.id.client.0 other)) [
           | inl (inl same) ↦ absurd (other (ap (λ (c : Client). c.0) same))
           | inl (inr tried) ↦ inl (tried_stays t.id.client tried)
           | inr there ↦ elim (cases_Bool (covers h.entry there.id)) [

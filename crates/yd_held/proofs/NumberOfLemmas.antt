@@ -6,18 +6,20 @@ use Rattle.yd_ids.specs.declared.id.Id.{Id}
 use Rattle.yd_received.specs.declared.entry.Entry.{Entry}
 use Rattle.yd_received.specs.Entries.{covers, StandsBefore, AreInOrder}
 use Rattle.yd_received.specs.Taking.{is_covered}
-use Rattle.yd_received.proofs.EntriesLemmas.{IsEntry, each_entry, apart}
+use Rattle.yd_received.proofs.EntriesLemmas.{apart}
+use Rattle.yd_words.specs.Member.{IsIn}
+use Rattle.yd_words.proofs.MemberLemmas.{each_in}
 use Rattle.yd_received.proofs.LookupLemmas.{covered_begins, behind_covered}
 use Rattle.yd_held.specs.Numbered.{number_of}
 
 -- the number of an id is that of its entry
-pub number_of-one : (ts : List Entry) → AreInOrder ts → (t : Entry) (x : Id) → IsEntry t ts → covers t x ≡ true → number_of ts x ≡ t.list
+pub number_of-one : (ts : List Entry) → AreInOrder ts → (t : Entry) (x : Id) → IsIn t ts → covers t x ≡ true → number_of ts x ≡ t.list
 number_of-one [] order t x i e = absurd i
 number_of-one (s ∷ ss) order t x (inl a) e = subst (λ u. number_of (u ∷ ss) x ≡ t.list) a (rw e refl)
 number_of-one (s ∷ ss) order t x (inr i) e = go (covers s x) refl (number_of-one ss order.1 t x i e)
   where
     go : (b : Bool) → covers s x ≡ b → number_of ss x ≡ t.list → cond b s.list (number_of ss x) ≡ t.list
-    go true f rest = absurd (apart s t x (each_entry (StandsBefore s) ss order.0 t i) f e)
+    go true f rest = absurd (apart s t x (each_in (StandsBefore s) ss order.0 t i) f e)
     go false f rest = rest
 
 -- the number of an id is that of the entry that has it

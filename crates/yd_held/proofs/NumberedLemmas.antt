@@ -24,7 +24,8 @@ use Rattle.yd_held.specs.Numbering.{NumbersList, NumbersEntry}
 use Rattle.yd_held.specs.Readiness.{first_list}
 use Rattle.yd_received.specs.Received.{with_number}
 use Rattle.yd_held.specs.Holding.{IsHolding}
-use Rattle.yd_received.proofs.EntriesLemmas.{IsEntry, each_entry, entry_each}
+use Rattle.yd_words.specs.Member.{IsIn}
+use Rattle.yd_words.proofs.MemberLemmas.{each_in, in_each}
 use Rattle.yd_held.proofs.HeldUnitLemmas.{covers_first}
 use Rattle.yd_held.proofs.HeldEntryLemmas.{is_taken, held_id}
 use Rattle.yd_received.proofs.ChangeLemmas.{set_is}
@@ -127,13 +128,13 @@ module _ (runs : List Run) (ts : List Entry) (vector : List (Client × ℕ)) (na
       go None None j f g = j.there
 
   named_after : Each (λ (u : Entry). IfSome u.list (λ m. slice_get new m ≡ Some (list_of after u.id))) (numbered runs ts vector names at t s n)
-  named_after = entry_each (λ (u : Entry). IfSome u.list (λ m. slice_get new m ≡ Some (list_of after u.id))) (numbered runs ts vector names at t s n) (λ u i.
+  named_after = in_each (λ (u : Entry). IfSome u.list (λ m. slice_get new m ≡ Some (list_of after u.id))) (numbered runs ts vector names at t s n) (λ u i.
       elim (set_is t (with_number t n) ts at u i) [
         | inl e ↦ subst (λ (v : Entry). IfSome v.list (λ m. slice_get new m ≡ Some (list_of after v.id))) (sym e) this_list
-        | inr j ↦ old u j u.list refl (each_entry (λ (v : Entry). IfSome v.list (λ m. slice_get names m ≡ Some (list_of before v.id))) ts s.holding.numbered.named u j)
+        | inr j ↦ old u j u.list refl (each_in (λ (v : Entry). IfSome v.list (λ m. slice_get names m ≡ Some (list_of before v.id))) ts s.holding.numbered.named u j)
       ])
     where
-      old : (u : Entry) → IsEntry u ts → (z : Option ℕ) → u.list ≡ z → IfSome z (λ m. slice_get names m ≡ Some (list_of before u.id)) →
+      old : (u : Entry) → IsIn u ts → (z : Option ℕ) → u.list ≡ z → IfSome z (λ m. slice_get names m ≡ Some (list_of before u.id)) →
           IfSome z (λ m. slice_get new m ≡ Some (list_of after u.id))
       old u j None e f = tt
       old u j (Some m) e f = name_stays m (list_of after u.id) (f ∙ ap (λ list. Some list) (sym (lists_stay u.id

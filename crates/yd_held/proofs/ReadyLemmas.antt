@@ -22,7 +22,7 @@ use Rattle.yd_received.specs.declared.entry.Entry.{Entry}
 use Rattle.yd_received.specs.Entries.{operations_of_taken, operations_in, held_in, is_held}
 use Rattle.yd_held.specs.Readiness.{first_list, is_ready}
 use Rattle.yd_held.specs.Holding.{IsHolding, AreUnready}
-use Rattle.yd_received.proofs.EntriesLemmas.{IsEntry, each_entry}
+use Rattle.yd_words.proofs.MemberLemmas.{each_in}
 use Rattle.yd_held.proofs.HeldUnitLemmas.{IsFirst, id_at, unit_cases, less_covers}
 use Rattle.yd_received.proofs.WrittenLemmas.{taken_written}
 use Rattle.yd_held.proofs.HeldEntryLemmas.{is_taken, entry_of_one, entry_held, held_received, covers_held}
@@ -43,9 +43,9 @@ module _ (runs : List Run) (ts : List Entry) (vector : List (Client × ℕ)) (na
   below x = (tells runs ts vector names h x).0
 
   -- a first unit at its client's clock has not all that it needs
-  first_lacks : (t : Entry) → IsEntry t ts → is_held t ≡ false → (o : Operation) → IsFirst t.id t.left t.right (first_list runs t) o →
+  first_lacks : (t : Entry) → IsIn t ts → is_held t ≡ false → (o : Operation) → IsFirst t.id t.left t.right (first_list runs t) o →
       o.id.clock ≡ clock_of vector o.id.client.0 → ((x : Id) → IsIn x (needs o) → x.clock < clock_of vector x.client.0) → ⊥
-  first_lacks t i waits o first at_clock below = true≢false (sym ready ∙ each_entry (λ u. is_ready vector runs u ≡ false) ts unready t i)
+  first_lacks t i waits o first at_clock below = true≢false (sym ready ∙ each_in (λ u. is_ready vector runs u ≡ false) ts unready t i)
     where
       ready : is_ready vector runs t ≡ true
       ready = hold_both _ _ (ap not waits)
@@ -57,7 +57,7 @@ module _ (runs : List Run) (ts : List Entry) (vector : List (Client × ℕ)) (na
   final : AreFinal received (clock_of vector)
   final o i at_clock needed = let (t, j, k) = entry_of_one runs ts o i in go t j k (is_held t) refl
     where
-      go : (t : Entry) → IsEntry t ts → IsOneOf o (operations_of_taken runs t) → (b : Bool) → is_held t ≡ b → ⊥
+      go : (t : Entry) → IsIn t ts → IsOneOf o (operations_of_taken runs t) → (b : Bool) → is_held t ≡ b → ⊥
       go t j k true e = omega (arith, at_clock, below o.id (id_is_there held o (entry_held runs ts h.in_order.each h.in_order.in_order t j e o k)))
       go t j k false e = elim (unit_cases runs t (is_taken runs ts h.in_order.each h.in_order.in_order t j) o k) [
         | inl first ↦ first_lacks t j e o first at_clock needed

@@ -9,17 +9,19 @@ use Rattle.yd_ids.specs.Vector.{clock_of}
 use Rattle.yd_ops.specs.declared.runs.Run.{Run}
 use Rattle.yd_received.specs.declared.entry.Entry.{Entry}
 use Rattle.yd_received.specs.Entries.{is_held, IsTakenOf, AreInOrder}
-use Rattle.yd_received.proofs.EntriesLemmas.{entry_at, each_entry}
+use Rattle.yd_received.proofs.EntriesLemmas.{entry_at}
+use Rattle.yd_words.proofs.MemberLemmas.{each_in, in_parts}
 use Rattle.yd_held.specs.declared.noting.Lack.{Lack}
 use Rattle.yd_held.specs.Readiness.{lack_of, is_ready}
-use Rattle.yd_held.specs.Noted.{StandsIn, with_lack, AreNoted, AreMissing, Finds}
+use Rattle.yd_held.specs.Noted.{with_lack, AreNoted, AreMissing, Finds}
+use Rattle.yd_words.specs.Member.{IsIn}
 use Rattle.yd_held.specs.Trying.{Tries, IsNext, AreWaiting}
-use Rattle.yd_held.proofs.NotedLemmas.{in_either, lacks_nothing, noted_among, noted_without, noted_more, missing_with}
+use Rattle.yd_held.proofs.NotedLemmas.{lacks_nothing, noted_among, noted_without, noted_more, missing_with}
 
 -- ---- clients of runs
 
-each_stays : {X Y : Type 0} (f : X → Y) (xs : List X) (ys more : List Y) → ((y : Y) → StandsIn y ys → StandsIn y more) →
-    Each (λ x. StandsIn (f x) ys) xs → Each (λ x. StandsIn (f x) more) xs
+each_stays : {X Y : Type 0} (f : X → Y) (xs : List X) (ys more : List Y) → ((y : Y) → IsIn y ys → IsIn y more) →
+    Each (λ x. IsIn (f x) ys) xs → Each (λ x. IsIn (f x) more) xs
 each_stays f [] ys more stay each = tt
 each_stays f (x ∷ xs) ys more stay each = (stay (f x) each.0, each_stays f xs ys more stay each.1)
 
@@ -31,18 +33,18 @@ each_next P (y ∷ ys) (suc k) x lt e each here = (each.0, each_next P ys k x (o
 
 -- the client of one more run is among the clients then
 pub client_more : (runs : List Run) (k : ℕ) (run : Run) (clients more : List Client) → k < length runs → run ≡ get_or runs k run →
-    Tries run.id.client clients more → Each (λ (r : Run). StandsIn r.id.client clients) (take k runs) → Each (λ (r : Run). StandsIn r.id.client more) (take (k + 1) runs)
+    Tries run.id.client clients more → Each (λ (r : Run). IsIn r.id.client clients) (take k runs) → Each (λ (r : Run). IsIn r.id.client more) (take (k + 1) runs)
 client_more runs k run clients more lt is tries each =
     let next : suc k ≡ k + 1 = omega arith in
-    subst (λ n. Each (λ (r : Run). StandsIn r.id.client more) (take n runs)) next
-    (each_next (λ (r : Run). StandsIn r.id.client more) runs k run lt is (each_stays (λ (r : Run). r.id.client) (take k runs) clients more tries.stay each) tries.here)
+    subst (λ n. Each (λ (r : Run). IsIn r.id.client more) (take n runs)) next
+    (each_next (λ (r : Run). IsIn r.id.client more) runs k run lt is (each_stays (λ (r : Run). r.id.client) (take k runs) clients more tries.stay each) tries.here)
 
 -- the number of a client that is got
 pub some_client : (a b : Client) → ◌≡◌ {A = Option Client} (Some a) (Some b) → a.0 ≡ b.0
 some_client a b e = cc
 
 -- what is got of a list stands in it
-pub got_in : {X : Type 0} (xs : List X) (n : ℕ) (x : X) → slice_get xs n ≡ Some x → StandsIn x xs
+pub got_in : {X : Type 0} (xs : List X) (n : ℕ) (x : X) → slice_get xs n ≡ Some x → IsIn x xs
 got_in [] n x e = absurd cc
 got_in (y ∷ ys) zero x e = inl (sym (some_is y x e))
   where
@@ -56,7 +58,7 @@ module _ (vector : List (Client × ℕ)) (runs : List Run) (ts : List Entry) (ea
     (lacks : List Lack) (tries rest : List Client) (client : Client) (popped : tries ≡ rest ++ client ∷ []) (noted : AreNoted vector runs lacks tries ts) where
   -- it stands last
   noted_popped : AreNoted vector runs lacks (client ∷ rest) ts
-  noted_popped = noted_among vector runs lacks tries (client ∷ rest) ts (λ other i. elim (in_either other rest (client ∷ []) (subst (StandsIn other) popped i)) [
+  noted_popped = noted_among vector runs lacks tries (client ∷ rest) ts (λ other i. elim (in_parts other rest (client ∷ []) (subst (IsIn other) popped i)) [
     | inl j ↦ inr j
     | inr (inl e) ↦ inl e
     | inr (inr none) ↦ absurd none
@@ -84,6 +86,6 @@ module _ (vector : List (Client × ℕ)) (runs : List Run) (ts : List Entry) (ea
         here : (is_ready vector runs (get_or ts at d) ≡ true) × AreNoted vector runs lacks ((get_or ts at d).id.client ∷ rest) ts
         here = (
           lacks_nothing vector runs (get_or ts at d) none
-              (each_entry (λ u. u.id.clock ≡ clock_of vector u.id.client.0 → is_held u ≡ false) ts waiting (get_or ts at d) (entry_at ts at d lt) at_clock) at_clock,
+              (each_in (λ u. u.id.clock ≡ clock_of vector u.id.client.0 → is_held u ≡ false) ts waiting (get_or ts at d) (entry_at ts at d lt) at_clock) at_clock,
           subst (λ c. AreNoted vector runs lacks (c ∷ rest) ts) (sym there.of_client) noted_popped,
         )

@@ -1,6 +1,7 @@
 -- Units that are held and put to wait again are as they were.
-use Rattle.std.proofs.Common.{◌≡◌, ◌≢◌, ℕ, zero, suc, ◌≤◌, false, List, [], ◌∷◌, ◌⊎◌, inl, inr, Option, Some, map, set, refl, sym, ap, ◌∙◌, arith, tests}
+use Rattle.std.proofs.Common.{◌≡◌, ℕ, zero, suc, ◌≤◌, false, List, [], ◌∷◌, inl, inr, Option, Some, map, set, refl, sym, ap, ◌∙◌, arith, tests}
 use Rattle.std.specs.Prelude.{slice_get}
+use Rattle.yd_words.proofs.TestLemmas.{same_or_other}
 use Rattle.yd_ids.specs.declared.id.Client.{Client}
 use Rattle.yd_ids.specs.declared.id.Id.{Id}
 use Rattle.yd_ids.specs.Vector.{clock_of}
@@ -21,9 +22,6 @@ above_not vector x le = grind (arith, tests)
 
 undone_number : (vector : List (Client × ℕ)) (t : Entry) (n : ℕ) → is_below vector t.id ≡ false → undone vector (with_number t n) ≡ undone vector t
 undone_number vector t n e = rw e refl
-
-same_or_other : (m n : ℕ) → (m ≡ n) ⊎ (m ≢ n)
-same_or_other m n = grind arith
 
 module _ (first : List (Client × ℕ)) (at : ℕ) (ts new : List Entry) (vector raised : List (Client × ℕ)) (h : HoldsEntry at ts new vector raised)
     (rises : (client : ℕ) → clock_of first client ≤ clock_of vector client) where

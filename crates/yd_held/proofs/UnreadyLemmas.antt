@@ -9,10 +9,12 @@ use Rattle.yd_ops.specs.declared.lists.List.{List as DocList}
 use Rattle.yd_ops.specs.declared.runs.Run.{Run}
 use Rattle.yd_received.specs.declared.entry.Entry.{Entry}
 use Rattle.yd_received.specs.Entries.{is_held, is_of_first, IsTakenOf}
-use Rattle.yd_received.proofs.EntriesLemmas.{IsEntry, each_entry, entry_each, entry_kept}
+use Rattle.yd_words.specs.Member.{IsIn}
+use Rattle.yd_words.proofs.MemberLemmas.{each_in, in_each}
+use Rattle.yd_words.proofs.FilterLemmas.{one_kept}
 use Rattle.yd_held.specs.declared.noting.Lack.{Lack}
 use Rattle.yd_held.specs.Holding.{IsHolding, AreUnready}
-use Rattle.yd_held.specs.Noted.{StandsIn, IsNoted, IsNotedOrTried, AreNoted}
+use Rattle.yd_held.specs.Noted.{IsNoted, IsNotedOrTried, AreNoted}
 use Rattle.yd_held.specs.Readiness.{is_ready}
 use Rattle.yd_held.specs.Trying.{AreWaiting}
 use Rattle.yd_held.proofs.HeldUnitLemmas.{covers_first}
@@ -21,14 +23,14 @@ use Rattle.yd_held.proofs.HoldingLemmas.{tells, ready_is}
 use Rattle.yd_held.proofs.NotedLemmas.{not_below}
 
 module _ (runs : List Run) (ts : List Entry) (vector : List (Client × ℕ)) (names : List DocList) (h : IsHolding runs ts vector names) where
-  waits : (t : Entry) → IsEntry t ts → t.id.clock ≡ clock_of vector t.id.client.0 → is_held t ≡ false
+  waits : (t : Entry) → IsIn t ts → t.id.clock ≡ clock_of vector t.id.client.0 → is_held t ≡ false
   waits t i at_clock = false_from_ne_true (is_held t) (λ held.
       let there = held_id runs ts h.in_order.each h.in_order.in_order t t.id i held (covers_first runs t (is_taken runs ts h.in_order.each h.in_order.in_order t i)) in
       omega (arith, (tells runs ts vector names h t.id).0 there, at_clock))
 
   -- units at their client's clock wait
   pub are_waiting : AreWaiting vector ts
-  are_waiting = entry_each (λ t. t.id.clock ≡ clock_of vector t.id.client.0 → is_held t ≡ false) ts waits
+  are_waiting = in_each (λ t. t.id.clock ≡ clock_of vector t.id.client.0 → is_held t ≡ false) ts waits
 
 -- ready units lack nothing, so nothing is noted of them
 pub ready_lacks_nothing : (runs : List Run) (vector : List (Client × ℕ)) (lacks : List Lack) (t : Entry) → IsNoted vector runs lacks t → is_ready vector runs t ≡ true → ⊥
@@ -36,8 +38,8 @@ ready_lacks_nothing runs vector lacks t noted e =
     omega (arith, (ready_is vector runs t e).origins noted.id noted.needed, not_below vector noted.id noted.missing)
 
 pub none_ready : (runs : List Run) (ts : List Entry) (vector : List (Client × ℕ)) (lacks : List Lack) → AreNoted vector runs lacks [] ts → AreUnready vector runs ts
-none_ready runs ts vector lacks noted = entry_each (λ t. is_ready vector runs t ≡ false) ts (λ t i. false_from_ne_true (is_ready vector runs t) (λ e.
-    elim (each_entry (IsNotedOrTried vector runs lacks []) ts noted.each t i (ready_is vector runs t e).begins) [
+none_ready runs ts vector lacks noted = in_each (λ t. is_ready vector runs t ≡ false) ts (λ t i. false_from_ne_true (is_ready vector runs t) (λ e.
+    elim (each_in (IsNotedOrTried vector runs lacks []) ts noted.each t i (ready_is vector runs t e).begins) [
       | inl none ↦ none
       | inr there ↦ ready_lacks_nothing runs vector lacks t there e
     ]))
@@ -56,25 +58,25 @@ each_behind P (y ∷ ys) (suc from) zero x each le e = absurd (omega arith)
 each_behind P (y ∷ ys) (suc from) (suc at) x each le e = each_behind P ys from at x each (omega arith) e
 
 module _ (runs : List Run) (from : ℕ) (ts : List Entry) (each : Each (IsTakenOf runs) ts) (clients : List Client)
-    (all : Each (λ (run : Run). StandsIn run.id.client clients) (drop from runs)) where
+    (all : Each (λ (run : Run). IsIn run.id.client clients) (drop from runs)) where
   -- the client of units of a new run is to be tried
-  new_tried : (t : Entry) → IsEntry t ts → from ≤ t.run → StandsIn t.id.client clients
-  new_tried t i le = go (slice_get runs t.run) refl (each_entry (IsTakenOf runs) ts each t i).client (each_entry (IsTakenOf runs) ts each t i).run_there
+  new_tried : (t : Entry) → IsIn t ts → from ≤ t.run → IsIn t.id.client clients
+  new_tried t i le = go (slice_get runs t.run) refl (each_in (IsTakenOf runs) ts each t i).client (each_in (IsTakenOf runs) ts each t i).run_there
     where
       none_there : (rs : List Run) (k : ℕ) → k < length rs → slice_get rs k ≡ None → ⊥
       none_there [] k lt e = absurd (omega arith)
       none_there (r ∷ rs) zero lt e = absurd cc
       none_there (r ∷ rs) (suc k) lt e = none_there rs k (omega arith) e
 
-      go : (z : Option Run) → slice_get runs t.run ≡ z → IfSome z (λ (run : Run). run.id.client ≡ t.id.client) → t.run < length runs → StandsIn t.id.client clients
+      go : (z : Option Run) → slice_get runs t.run ≡ z → IfSome z (λ (run : Run). run.id.client ≡ t.id.client) → t.run < length runs → IsIn t.id.client clients
       go None e same lt = absurd (none_there runs t.run lt e)
-      go (Some run) e same lt = subst (λ c. StandsIn c clients) same (each_behind (λ (r : Run). StandsIn r.id.client clients) runs from t.run run all le e)
+      go (Some run) e same lt = subst (λ c. IsIn c clients) same (each_behind (λ (r : Run). IsIn r.id.client clients) runs from t.run run all le e)
 
   pub noted_first : (vector : List (Client × ℕ)) (lacks : List Lack) → AreNoted vector runs lacks [] (filter (is_of_first from) ts) → AreNoted vector runs lacks clients ts
   noted_first vector lacks noted = record {
     sorted = noted.sorted;
-    each = entry_each (IsNotedOrTried vector runs lacks clients) ts (λ t i at_clock. elim (cases_Bool (is_of_first from t)) [
-      | inl old ↦ elim (each_entry (IsNotedOrTried vector runs lacks []) (filter (is_of_first from) ts) noted.each t (entry_kept (is_of_first from) ts t old i) at_clock) [
+    each = in_each (IsNotedOrTried vector runs lacks clients) ts (λ t i at_clock. elim (cases_Bool (is_of_first from t)) [
+      | inl old ↦ elim (each_in (IsNotedOrTried vector runs lacks []) (filter (is_of_first from) ts) noted.each t (one_kept (is_of_first from) ts t old i) at_clock) [
         | inl none ↦ absurd none
         | inr there ↦ inr there
       ]

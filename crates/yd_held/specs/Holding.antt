@@ -8,10 +8,8 @@ use Rattle.yd_ops.specs.declared.runs.Run.{Run}
 use Rattle.yd_meaning.specs.Held.{held_set}
 use Rattle.yd_received.specs.declared.entry.Entry.{Entry}
 use Rattle.yd_received.specs.Entries.{AreTaken, held_in, is_held}
-use Rattle.yd_held.specs.Held.{HeldValue}
-use Rattle.yd_held.specs.Noted.{AreNoted}
 use Rattle.yd_held.specs.Numbered.{is_in_list, IsVectorOf, AreNumbered}
-use Rattle.yd_received.specs.Received.{ReceivedValue, IsReceived, taken_of, held_of, with_number}
+use Rattle.yd_received.specs.Received.{ReceivedValue, taken_of, with_number}
 use Rattle.yd_held.specs.Readiness.{is_ready}
 
 -- the list with a number has more entries than before
@@ -25,14 +23,6 @@ pub record MarkChanges (stale : List Bool) (old new : List Entry) (count lists :
   pub made : (n : ℕ) → count ≤ n → n < lists → slice_get stale n ≡ Some true
   pub kept : (n : ℕ) → slice_get stale n ≡ Some false → filter (is_in_list n) new ≡ filter (is_in_list n) old
   pub more : (n : ℕ) → slice_get stale n ≡ Some true → HasMore n old new
-
--- all is held that can be; the vector counts it, it has the numbers of its lists, and what waits is noted by what it lacks
-pub record HoldsOf (h : HeldValue) : Type 0 where
-  pub in_order : IsReceived h.received
-  pub held : held_of h.received ≡ held_set (taken_of h.received)
-  pub counted : IsVectorOf h.vector h.received.runs h.received.entries
-  pub numbered : AreNumbered h.received.runs h.received.entries h.names
-  pub noted : AreNoted h.vector h.received.runs h.lacks [] h.received.entries
 
 -- ---- while it is held
 

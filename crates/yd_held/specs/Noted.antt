@@ -1,5 +1,6 @@
 -- What waits, noted by what it lacks: of each client its next units alone, since the later ones lack these first (own).
 use Rattle.std.specs.Prelude.{◌≡◌, ◌⊎◌, ◌<◌, ℕ, Bool, true, false, not, ◌&&◌, ◌||◌, List, [], ◌∷◌, ◌++◌, Option, Some, None, map, filter, length, nat_eq, nat_lt, if◌then◌else◌, HoldsAt}
+use Rattle.yd_words.specs.Member.{IsIn}
 use Rattle.yd_words.specs.Each.{Each}
 use Rattle.yd_ids.specs.declared.id.Client.{Client}
 use Rattle.yd_ids.specs.declared.id.Id.{Id}
@@ -11,11 +12,6 @@ use Rattle.yd_received.specs.Entries.{covers}
 use Rattle.yd_held.specs.declared.noting.Lack.{Lack}
 use Rattle.yd_received.specs.Received.{is_below}
 use Rattle.yd_held.specs.Readiness.{IsOriginOf, first_list, is_ready}
-
--- the element stands in the list
-abbrev pub StandsIn : {X : Type 0} → X → List X → Type 0
-StandsIn x [] = ⊥
-StandsIn x (y ∷ ys) = (x ≡ y) ⊎ StandsIn x ys
 
 -- ---- the notes
 
@@ -53,12 +49,12 @@ pub record IsNoted (vector : List (Client × ℕ)) (runs : List Run) (lacks : Li
   pub id : Id
   pub needed : IsOriginOf id t.left t.right (first_list runs t)
   pub missing : is_below vector id ≡ false
-  pub there : StandsIn (record { id = id; client = t.id.client }) lacks
+  pub there : IsIn (record { id = id; client = t.id.client }) lacks
 
 -- units at their client's clock lack something, which is noted, or their client is still to be tried
 abbrev pub IsNotedOrTried : List (Client × ℕ) → List Run → List Lack → List Client → Entry → Type 0
 IsNotedOrTried vector runs lacks tries t =
-    t.id.clock ≡ clock_of vector t.id.client.0 → StandsIn t.id.client tries ⊎ IsNoted vector runs lacks t
+    t.id.clock ≡ clock_of vector t.id.client.0 → IsIn t.id.client tries ⊎ IsNoted vector runs lacks t
 
 -- so it is with all that was taken
 pub record AreNoted (vector : List (Client × ℕ)) (runs : List Run) (lacks : List Lack) (tries : List Client) (taken : List Entry) : Type 0 where

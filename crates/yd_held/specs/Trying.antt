@@ -5,7 +5,7 @@ use Rattle.yd_ids.specs.declared.id.Client.{Client}
 use Rattle.yd_ids.specs.Vector.{clock_of}
 use Rattle.yd_received.specs.declared.entry.Entry.{Entry}
 use Rattle.yd_received.specs.Entries.{is_held}
-use Rattle.yd_held.specs.Noted.{StandsIn}
+use Rattle.yd_words.specs.Member.{IsIn}
 
 -- the client stands last
 abbrev pub StandsLast : Client → List Client → Type 0
@@ -13,8 +13,8 @@ StandsLast client clients = slice_get clients (length clients - 1) ≡ Some clie
 
 -- the client is among those that are to be tried, as are all that were
 pub record Tries (client : Client) (old new : List Client) : Type 0 where
-  pub here : StandsIn client new
-  pub stay : (other : Client) → StandsIn other old → StandsIn other new
+  pub here : IsIn client new
+  pub stay : (other : Client) → IsIn other old → IsIn other new
 
 -- the units are the client's next ones
 pub record IsNext (vector : List (Client × ℕ)) (client : Client) (t : Entry) : Type 0 where

@@ -4,10 +4,10 @@ ghost use Rattle.std.specs.Prelude.{◌≡◌, ◌<◌, ◌≤◌, [], true, fal
 ghost use Rattle.std.specs.Prelude.{HoldsAt, OnOk, OnErr, IfOk};
 ghost use Rattle.yd_received.specs.Entries.{is_of_first, GrowBy};
 ghost use Rattle.yd_received.specs.Received.{taken_of, undone};
-ghost use Rattle.yd_held.specs.Held.{held_value};
-ghost use Rattle.yd_held.specs.Holding.{HoldsOf, MarkChanges, IsHolding, HoldsMore};
+ghost use Rattle.yd_held.specs.Held.{held_value, HoldsAll};
+ghost use Rattle.yd_held.specs.Holding.{MarkChanges, IsHolding, HoldsMore};
 ghost use Rattle.yd_held.specs.Holding.{HoldsEntry, SetsMark, count_waiting};
-ghost use Rattle.yd_held.specs.Noted.{AreNoted, StayMissing};
+ghost use Rattle.yd_held.specs.Noted.{AreNoted, AreMissing};
 ghost use Rattle.yd_held.specs.Readiness.{is_ready};
 
 use crate::fault::NoMemory;
@@ -26,13 +26,12 @@ pub(crate) fn hold_all(held: &mut HeldParts, from: usize) -> Result<Vec<bool>, N
         held.old.vector held.old.names.items }
     requires noted { AreNoted held.old.vector held.old.received.runs held.old.lacks.items []
         (filter (is_of_first from) held.old.received.entries) }
-    ensures holds { OnOk result (HoldsOf (held_value held.new)) }
+    requires missing { AreMissing held.old.vector held.old.lacks.items }
+    ensures holds { OnOk result (HoldsAll (held_value held.new)) }
     ensures operations { OnOk result (taken_of held.new.received ≡ taken_of held.old.received) }
     ensures marked { IfOk result (λ stale. MarkChanges stale.items
         held.old.received.entries held.new.received.entries
         (length held.old.names.items) (length held.new.names.items)) }
-    ensures missing { OnOk result (StayMissing held.old.vector held.old.lacks.items
-        held.new.vector held.new.lacks.items) }
     ensures undone { map (undone held.old.vector) held.new.received.entries
         ≡ map (undone held.old.vector) held.old.received.entries }
     ensures runs { held.new.received.runs ≡ held.old.received.runs }

@@ -7,7 +7,8 @@ ghost use Rattle.yd_ids.specs.declared.id.Client.{Client};
 ghost use Rattle.yd_ids.specs.Vector.{clock_of};
 ghost use Rattle.yd_ops.specs.declared.runs.Run.{Run};
 ghost use Rattle.yd_ids.specs.Id.{IsId};
-ghost use Rattle.yd_held.specs.Noted.{AreNoted, Finds, StandsIn, StayMissing};
+ghost use Rattle.yd_held.specs.Noted.{AreNoted, Finds, StayMissing};
+ghost use Rattle.yd_words.specs.Member.{IsIn};
 ghost use Rattle.yd_held.specs.Trying.{StandsLast, Tries, IsNext, AreWaiting};
 
 use crate::fault::NoMemory;
@@ -29,7 +30,7 @@ pub(crate) fn clients_from(
 ) -> Result<Vec<Client>, NoMemory>
     requires { from ≤ length runs.now }
     ensures { IfOk result (λ clients.
-        Each (λ (run : Run). StandsIn run.id.client clients.items) (drop from runs.now)) }
+        Each (λ (run : Run). IsIn run.id.client clients.items) (drop from runs.now)) }
 {
     let mut clients = Vec::new(alloc);
     for run in &runs[from..] {

@@ -8,12 +8,13 @@ use Rattle.yd_meaning.specs.Law.{ArePaired}
 use Rattle.yd_received.specs.declared.entry.Entry.{Entry}
 use Rattle.yd_received.specs.Entries.{operations_of_taken, operations_in, IsTakenOf, StandsBefore, AreInOrder, AreTaken}
 use Rattle.yd_received.specs.Received.{with_number}
-use Rattle.yd_received.proofs.EntriesLemmas.{IsEntry, each_entry}
+use Rattle.yd_words.specs.Member.{IsIn}
+use Rattle.yd_words.proofs.MemberLemmas.{each_in}
 
 pub some_is : {X : Type 0} {a b : X} → ◌≡◌ {A = Option X} (Some a) (Some b) → a ≡ b
 some_is e = cc
 
-pub entry_got : (ts : List Entry) (at : ℕ) (t : Entry) → slice_get ts at ≡ Some t → IsEntry t ts
+pub entry_got : (ts : List Entry) (at : ℕ) (t : Entry) → slice_get ts at ≡ Some t → IsIn t ts
 entry_got [] at t e = absurd cc
 entry_got (s ∷ ss) zero t e = inl (sym (some_is e))
 entry_got (s ∷ ss) (suc at) t e = inr (entry_got ss at t e)
@@ -21,19 +22,19 @@ entry_got (s ∷ ss) (suc at) t e = inr (entry_got ss at t e)
 -- ---- another entry at a place
 
 module _ (t u : Entry) where
-  pub set_has_new : (ts : List Entry) (at : ℕ) → slice_get ts at ≡ Some t → IsEntry u (set ts at u)
+  pub set_has_new : (ts : List Entry) (at : ℕ) → slice_get ts at ≡ Some t → IsIn u (set ts at u)
   set_has_new [] at e = absurd cc
   set_has_new (s ∷ ss) zero e = inl refl
   set_has_new (s ∷ ss) (suc at) e = inr (set_has_new ss at e)
 
-  pub set_has : (ts : List Entry) (at : ℕ) → slice_get ts at ≡ Some t → (s : Entry) → IsEntry s ts → (s ≡ t) ⊎ IsEntry s (set ts at u)
+  pub set_has : (ts : List Entry) (at : ℕ) → slice_get ts at ≡ Some t → (s : Entry) → IsIn s ts → (s ≡ t) ⊎ IsIn s (set ts at u)
   set_has [] at e s i = absurd i
   set_has (r ∷ rs) zero e s (inl f) = inl (f ∙ some_is e)
   set_has (r ∷ rs) zero e s (inr i) = inr (inr i)
   set_has (r ∷ rs) (suc at) e s (inl f) = inr (inl f)
   set_has (r ∷ rs) (suc at) e s (inr i) = elim (set_has rs at e s i) [ inl f ↦ inl f | inr j ↦ inr (inr j) ]
 
-  pub set_is : (ts : List Entry) (at : ℕ) (s : Entry) → IsEntry s (set ts at u) → (s ≡ u) ⊎ IsEntry s ts
+  pub set_is : (ts : List Entry) (at : ℕ) (s : Entry) → IsIn s (set ts at u) → (s ≡ u) ⊎ IsIn s ts
   set_is [] at s i = absurd i
   set_is (r ∷ rs) zero s (inl e) = inl e
   set_is (r ∷ rs) zero s (inr i) = inr (inr i)
@@ -78,13 +79,13 @@ module _ (t : Entry) (n : ℕ) where
   pub each_taken-number : (runs : List Run) (ts : List Entry) (at : ℕ) → slice_get ts at ≡ Some t → Each (IsTakenOf runs) ts →
       Each (IsTakenOf runs) (set ts at (with_number t n))
   each_taken-number runs ts at e each = each_set (IsTakenOf runs) ts at (with_number t n) each
-      (taken_with_number runs (each_entry (IsTakenOf runs) ts each t (entry_got ts at t e)))
+      (taken_with_number runs (each_in (IsTakenOf runs) ts each t (entry_got ts at t e)))
 
   pub order-number : (ts : List Entry) (at : ℕ) → slice_get ts at ≡ Some t → AreInOrder ts → AreInOrder (set ts at (with_number t n))
   order-number [] at e order = tt
   order-number (s ∷ ss) zero e order = (subst (λ r. Each (StandsBefore r) ss) (some_is e) order.0, order.1)
   order-number (s ∷ ss) (suc at) e order = (
-    each_set (StandsBefore s) ss at (with_number t n) order.0 (each_entry (StandsBefore s) ss order.0 t (entry_got ss at t e)),
+    each_set (StandsBefore s) ss at (with_number t n) order.0 (each_in (StandsBefore s) ss order.0 t (entry_got ss at t e)),
     order-number ss at e order.1,
   )
 

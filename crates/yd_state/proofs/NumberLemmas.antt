@@ -100,7 +100,7 @@ each_kept P test (t ∷ ts) each = go (test t) refl (each_kept P test ts each.1)
     go false e rest = rest
 
 -- an entry of what was taken: where it is held, its units are among these, and have the list with its number
-record IsEntry (runs : List Run) (held : List Operation) (names : List DocList) (t : Entry) : Type 0 where
+record IsIn (runs : List Run) (held : List Operation) (names : List DocList) (t : Entry) : Type 0 where
   taken : IsTakenOf runs t
   named : IfSome t.list (λ n. slice_get names n ≡ Some (list_of held t.id))
   among : AreAmong runs held t
@@ -111,7 +111,7 @@ some_number (Some n) P f e = (n, refl, f)
 
 module _ (runs : List Run) (held : List Operation) (t : IsTable (rows_of held)) (names : List DocList) where
   -- each unit of a held entry is of the list with the entry's number
-  entry_listed : (s : Entry) → IsEntry runs held names s → is_held s ≡ true → (o : Operation) → IsOneOf o (operations_of_taken runs s) →
+  entry_listed : (s : Entry) → IsIn runs held names s → is_held s ≡ true → (o : Operation) → IsOneOf o (operations_of_taken runs s) →
       (n : ℕ) × (s.list ≡ Some n) × (slice_get names n ≡ Some (list_of held o.id))
   entry_listed s is e o i =
       let (n, there, name) = some_number s.list (λ n. slice_get names n ≡ Some (list_of held s.id)) is.named e in (
@@ -122,7 +122,7 @@ module _ (runs : List Run) (held : List Operation) (t : IsTable (rows_of held)) 
       )
 
   -- the id with a number is in the list with that name
-  number_named : (ts : List Entry) → Each (IsEntry runs held names) ts → (x : Id) (n : ℕ) → number_of ts x ≡ Some n →
+  number_named : (ts : List Entry) → Each (IsIn runs held names) ts → (x : Id) (n : ℕ) → number_of ts x ≡ Some n →
       (slice_get names n ≡ Some (list_of held x)) × IsId x
   number_named [] each x n e = absurd cc
   number_named (s ∷ ts) each x n e = go (covers s x) refl (number_named ts each.1 x n) e
@@ -150,9 +150,9 @@ module _ (runs : List Run) (ts : List Entry) (names : List DocList) (taken : Are
   pub held_table : IsTable (rows_of (held_in runs ts))
   held_table = subst (λ os. IsTable (rows_of os)) (sym held) (held_is_table (operations_in runs ts) (taken_written runs ts taken))
 
-  entries : Each (IsEntry runs (held_in runs ts) names) ts
+  entries : Each (IsIn runs (held_in runs ts) names) ts
   entries = each_both (IsTakenOf runs) (λ (t : Entry). IfSome t.list (λ n. slice_get names n ≡ Some (list_of (held_in runs ts) t.id)) × AreAmong runs (held_in runs ts) t)
-      (IsEntry runs (held_in runs ts) names) (λ t is b. record { taken = is; named = b.0; among = b.1 }) ts taken.each
+      (IsIn runs (held_in runs ts) names) (λ t is b. record { taken = is; named = b.0; among = b.1 }) ts taken.each
       (each_both (λ (t : Entry). IfSome t.list (λ n. slice_get names n ≡ Some (list_of (held_in runs ts) t.id))) (AreAmong runs (held_in runs ts))
       (λ (t : Entry). IfSome t.list (λ n. slice_get names n ≡ Some (list_of (held_in runs ts) t.id)) × AreAmong runs (held_in runs ts) t)
       (λ t named among. (named, among)) ts numbered.named (each_among runs ts))
@@ -164,12 +164,12 @@ module _ (runs : List Run) (ts : List Entry) (names : List DocList) (taken : Are
       let (o, i, same) = operation_with (held_in runs ts) x e in
       subst (λ y. (n : ℕ) × (slice_get names n ≡ Some (list_of (held_in runs ts) y)) × IsSpan (span_of_id y)) same
       (each_operation runs (λ p. (n : ℕ) × (slice_get names n ≡ Some (list_of (held_in runs ts) p.id)) × IsSpan (span_of_id p.id)) (filter is_held ts)
-      (each_weaker (λ (t : Entry). (is_held t ≡ true) × IsEntry runs (held_in runs ts) names t)
+      (each_weaker (λ (t : Entry). (is_held t ≡ true) × IsIn runs (held_in runs ts) names t)
       (λ (t : Entry). (p : Operation) → IsOneOf p (operations_of_taken runs t) → (n : ℕ) × (slice_get names n ≡ Some (list_of (held_in runs ts) p.id)) × IsSpan (span_of_id p.id))
       (λ t b p j. let (n, there, name) = entry_listed runs (held_in runs ts) held_table names t b.1 b.0 p j in (n, name, in_range t b.1 p j))
-      (filter is_held ts) (each_kept (IsEntry runs (held_in runs ts) names) is_held ts entries)) o i)
+      (filter is_held ts) (each_kept (IsIn runs (held_in runs ts) names) is_held ts entries)) o i)
     where
-      in_range : (t : Entry) → IsEntry runs (held_in runs ts) names t → (p : Operation) → IsOneOf p (operations_of_taken runs t) → IsSpan (span_of_id p.id)
+      in_range : (t : Entry) → IsIn runs (held_in runs ts) names t → (p : Operation) → IsOneOf p (operations_of_taken runs t) → IsSpan (span_of_id p.id)
       in_range t is p j = let from = taken_from runs t is.taken p j in record {
         client = subst (λ c. c.0 < 2 ^ 53) (sym from.client) is.taken.id.client;
         end = omega (arith, is.taken.end, from.high);

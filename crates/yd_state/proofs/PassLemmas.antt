@@ -1,10 +1,10 @@
 -- The pass over the lists of what is held: what stands at a number, and what is decided before and after it.
-use Rattle.std.proofs.Common.{◌≡◌, ℕ, zero, suc, ◌+◌, ◌<◌, List, [], ◌∷◌, Some, inl, inr, length, get_or, refl, sym, ap, ◌∙◌, subst, arith}
+use Rattle.std.proofs.Common.{◌≡◌, ℕ, zero, suc, ◌+◌, ◌<◌, List, [], ◌∷◌, Some, length, get_or, refl, sym, ap, ◌∙◌, subst, arith}
 use Rattle.std.specs.Prelude.{IfSome, slice_get}
 use Rattle.std.specs.Global.{Vec}
 use Rattle.std.proofs.lemmas.List.{length-map}
+use Rattle.yd_words.proofs.MemberLemmas.{in_each}
 use Rattle.yd_words.specs.Each.{Each}
-use Rattle.yd_words.specs.Member.{IsIn}
 use Rattle.yd_words.proofs.OptionLemmas.{if_some_each}
 use Rattle.yd_ids.specs.declared.id.Client.{Client}
 use Rattle.yd_ids.specs.declared.id.Id.{Id}
@@ -32,10 +32,6 @@ use Rattle.yd_state.proofs.FateLemmas.{AreDecided, AreListed, HasItemBefore, dec
 use Rattle.yd_state.proofs.NumberLemmas.{held_table, held_listed, item_before}
 
 -- ---- what stands at a number
-
-each_in : (P : Id → Type 0) (xs : List Id) → ((x : Id) → IsIn x xs → P x) → Each P xs
-each_in P [] f = tt
-each_in P (x ∷ xs) f = (f x (inl refl), each_in P xs (λ y i. f y (inr i)))
 
 name_at : (names : List DocList) (n : ℕ) (d : DocList) → n < length names → slice_get names n ≡ Some (get_or names n d)
 name_at [] n d lt = absurd (omega arith)
@@ -102,7 +98,7 @@ module _ (k : HeldValue) (holds : HoldsAll k) (names : List DocList) (same : nam
       Each (λ (id : Id). IsSpan (span_of_id id)) order
   ids_in_range n d e order lt at = subst (Each (λ (id : Id). IsSpan (span_of_id id)))
       (sym (at ∙ order_at (held_in runs ts) names orders ordered n e (get_or names n d) (name_at names n d lt)))
-      (each_in (λ id. IsSpan (span_of_id id)) (order_of (held_in runs ts) (get_or names n d))
+      (in_each (λ id. IsSpan (span_of_id id)) (order_of (held_in runs ts) (get_or names n d))
       (λ x i. (held_listed runs ts names taken held numbered x
       ((in_order_of (held_in runs ts) (held_table runs ts names taken held numbered) (get_or names n d) x).0 i).0).2))
 

@@ -80,6 +80,7 @@ returns-clause-holds c =
       counted = holding.counted;
       numbered = holding.numbered;
       noted = noted;
+      missing = c.in_ok-at.ensures.missing (c.loop-tries.invariant.missing c.requires.missing);
     }
 
 pub returns-clause-marked : goal.returns-clause-marked
@@ -88,6 +89,3 @@ returns-clause-marked c =
     let count = c.len.ensures ∙ c.args.held.now.names.ok.0 in
     rw count at (all_marked c.args.held.now.received held.received c.len.result (length held.names.items) c.loop-tries.stale.items
     (rw c.in_ok-stale.ensures at c.loop-tries.invariant.more))
-
-pub returns-clause-missing : goal.returns-clause-missing
-returns-clause-missing c = λ missing. c.in_ok-at.ensures.missing (c.loop-tries.invariant.missing missing)

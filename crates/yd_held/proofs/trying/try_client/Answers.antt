@@ -1,7 +1,7 @@
 use Rattle.std.proofs.Common.{◌-◌, ◌∙◌, inl, refl, subst, sym, length, [], ◌∷◌}
 use Rattle.std.proofs.lemmas.Bool.{true≢false}
 use Rattle.yd_held.specs.Trying.{StandsLast, Tries}
-use Rattle.yd_held.proofs.NotedLemmas.{in_front, in_back}
+use Rattle.yd_words.proofs.MemberLemmas.{in_left_part, in_right_part}
 use Rattle.yd_held.proofs.TryingLemmas.{got_in}
 use Rattle.yd_held.proofs.trying.try_client.Goals as goal
 
@@ -12,8 +12,8 @@ returns-then-is_last-clause-tries c =
 
 pub returns-clause-tries : goal.returns-clause-tries
 returns-clause-tries c = subst (Tries c.args.client c.args.clients.now.items) (sym c.in_ok-push.ensures.items) (record {
-  here = in_back c.args.client c.args.clients.now.items (c.args.client ∷ []) (inl refl);
-  stay = λ other i. in_front other c.args.clients.now.items (c.args.client ∷ []) i;
+  here = in_right_part c.args.client c.args.clients.now.items (c.args.client ∷ []) (inl refl);
+  stay = λ other i. in_left_part other c.args.clients.now.items (c.args.client ∷ []) i;
 })
 
 pub returns-clause-once : goal.returns-clause-once
