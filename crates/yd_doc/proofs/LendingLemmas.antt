@@ -26,10 +26,12 @@ use Rattle.yd_received.specs.Entries.{units_of, list_at, operations_of_taken, Is
 use Rattle.yd_doc.specs.Lent.{Lent, lent, lent_from, lent_in, IsRow}
 use Rattle.yd_received.specs.Taking.{is_covered}
 use Rattle.yd_state.proofs.NamedLemmas.{named_decides}
-use Rattle.yd_held.proofs.HeldUnitLemmas.{covers_less, less_covers, covers_unit}
+use Rattle.yd_received.proofs.EntryLemmas.{covers_in}
+use Rattle.yd_held.proofs.HeldUnitLemmas.{covers_less, covers_unit}
 use Rattle.yd_received.proofs.WrittenLemmas.{held_written}
 use Rattle.yd_held.proofs.HeldEntryLemmas.{is_taken, entry_held, covers_held, id_held}
-use Rattle.yd_received.proofs.UnitLemmas.{later_none, later_later, later_same, from_unit}
+use Rattle.yd_ops.proofs.OperationLemmas.{later_none, later_later}
+use Rattle.yd_received.proofs.UnitLemmas.{later_same, from_unit}
 
 -- what is asked of a set is whether its spans name the id
 pub asked_named : (deletes : List Span) (x : Id) (b : Bool) → (b ≡ true) ↔ HasId deletes x → b ≡ is_named deletes x
@@ -167,7 +169,7 @@ module _ (runs : List Run) (taken : List Entry) (are : AreTaken runs taken) (id 
     -- so many ids from it on are of its entry
     holds_at : (n : ℕ) → n ≤ t.len - skipped → (i : ℕ) → i < n → Holds (held_in runs taken) all_units (later_id id i) (t.offset + skipped + i)
     holds_at n le i lt =
-        let own : covers t (later_id id i) ≡ true = less_covers t (later_id id i) client (omega (arith, low)) (omega (arith, low)) in
+        let own : covers t (later_id id i) ≡ true = covers_in t (later_id id i) client (omega (arith, low)) (omega (arith, low)) in
         of_one (covers_unit runs t is (later_id id i) own)
       where
         is : IsTakenOf runs t

@@ -2,7 +2,7 @@
 use Rattle.std.proofs.Common.{◌≡◌, ℕ, ◌<◌, true, List, [], ◌∷◌, inl, inr, length, get_or, refl, sym, ◌∙◌, subst}
 use Rattle.std.specs.Prelude.{filter}
 use Rattle.yd_words.specs.Each.{Each}
-use Rattle.yd_words.specs.Member.{IsIn as IsOneOf, IsIn}
+use Rattle.yd_words.specs.Member.{IsIn}
 use Rattle.yd_words.proofs.MemberLemmas.{in_left_part, in_right_part, in_parts, each_in}
 use Rattle.yd_ids.specs.declared.id.Id.{Id}
 use Rattle.yd_ops.specs.declared.runs.Run.{Run}
@@ -19,18 +19,18 @@ use Rattle.yd_received.proofs.TakenLemmas.{has_covered}
 
 -- ---- operations and entries
 
-pub entry_of_one : (runs : List Run) (ts : List Entry) (o : Operation) → IsOneOf o (operations_in runs ts) →
-    (t : Entry) × IsIn t ts × IsOneOf o (operations_of_taken runs t)
+pub entry_of_one : (runs : List Run) (ts : List Entry) (o : Operation) → IsIn o (operations_in runs ts) →
+    (t : Entry) × IsIn t ts × IsIn o (operations_of_taken runs t)
 entry_of_one runs [] o i = absurd i
 entry_of_one runs (t ∷ ts) o i = elim (in_parts o (operations_of_taken runs t) (operations_in runs ts) i) [
   | inl j ↦ (t, inl refl, j)
   | inr j ↦ let (s, k, l) = entry_of_one runs ts o j in (s, inr k, l)
 ]
 
-pub one_of_entry : (runs : List Run) (ts : List Entry) (t : Entry) (o : Operation) → IsIn t ts → IsOneOf o (operations_of_taken runs t) →
-    IsOneOf o (operations_in runs ts)
+pub one_of_entry : (runs : List Run) (ts : List Entry) (t : Entry) (o : Operation) → IsIn t ts → IsIn o (operations_of_taken runs t) →
+    IsIn o (operations_in runs ts)
 one_of_entry runs [] t o i j = absurd i
-one_of_entry runs (s ∷ ss) t o (inl e) j = in_left_part o (operations_of_taken runs s) (operations_in runs ss) (subst (λ u. IsOneOf o (operations_of_taken runs u)) e j)
+one_of_entry runs (s ∷ ss) t o (inl e) j = in_left_part o (operations_of_taken runs s) (operations_in runs ss) (subst (λ u. IsIn o (operations_of_taken runs u)) e j)
 one_of_entry runs (s ∷ ss) t o (inr i) j = in_right_part o (operations_of_taken runs s) (operations_in runs ss) (one_of_entry runs ss t o i j)
 
 -- ---- what is held
@@ -42,14 +42,14 @@ module _ (runs : List Run) (ts : List Entry) (each : Each (IsTakenOf runs) ts) (
   is_taken = each_in (IsTakenOf runs) ts each
 
   -- a held operation is of an entry that is held
-  pub held_entry : (o : Operation) → IsOneOf o (held_in runs ts) → (t : Entry) × IsIn t ts × (is_held t ≡ true) × IsOneOf o (operations_of_taken runs t)
+  pub held_entry : (o : Operation) → IsIn o (held_in runs ts) → (t : Entry) × IsIn t ts × (is_held t ≡ true) × IsIn o (operations_of_taken runs t)
   held_entry o i = let (t, j, k) = entry_of_one runs (filter is_held ts) o i in let (held, l) = kept_one is_held ts t j in (t, l, held, k)
 
-  pub entry_held : (t : Entry) → IsIn t ts → is_held t ≡ true → (o : Operation) → IsOneOf o (operations_of_taken runs t) → IsOneOf o (held_in runs ts)
+  pub entry_held : (t : Entry) → IsIn t ts → is_held t ≡ true → (o : Operation) → IsIn o (operations_of_taken runs t) → IsIn o (held_in runs ts)
   entry_held t i held o j = one_of_entry runs (filter is_held ts) t o (one_kept is_held ts t held i) j
 
   -- what is held is received
-  pub held_received : (o : Operation) → IsOneOf o (held_in runs ts) → IsOneOf o (operations_in runs ts)
+  pub held_received : (o : Operation) → IsIn o (held_in runs ts) → IsIn o (operations_in runs ts)
   held_received o i = let (t, j, held, k) = held_entry o i in one_of_entry runs ts t o j k
 
   -- an id that is there is covered by an entry

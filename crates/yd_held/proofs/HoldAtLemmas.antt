@@ -3,6 +3,7 @@ use Rattle.std.proofs.Common.{◌≡◌, ◌≢◌, ℕ, suc, ◌+◌, ◌<◌, 
 use Rattle.std.specs.Prelude.{HoldsAt, slice_get, is_some, IfSome}
 use Rattle.std.proofs.lemmas.List.{get_or_default}
 use Rattle.std.proofs.lemmas.Option.{slice_get_read, slice_get_within}
+use Rattle.yd_words.proofs.OptionLemmas.{some_is}
 use Rattle.yd_words.proofs.TestLemmas.{same_or_other}
 use Rattle.yd_ids.specs.declared.id.Client.{Client}
 use Rattle.yd_ids.specs.declared.id.Id.{Id}
@@ -19,7 +20,7 @@ use Rattle.yd_held.specs.Readiness.{first_list, is_ready}
 use Rattle.yd_received.specs.Received.{ReceivedValue, GetsNumber, with_number}
 use Rattle.yd_words.proofs.MemberLemmas.{each_in}
 use Rattle.yd_held.specs.Holding.{IsHolding, HoldsMore, HoldsEntry, SetsMark, count_waiting}
-use Rattle.yd_received.proofs.ChangeLemmas.{some_is, entry_got, filter-set, filter-grows, operations-number}
+use Rattle.yd_received.proofs.ChangeLemmas.{entry_got, filter-set, filter-grows, operations-number}
 use Rattle.yd_held.proofs.NumberingLemmas.{fewer_wait}
 use Rattle.yd_held.proofs.HoldingLemmas.{ready_is}
 use Rattle.yd_held.proofs.HoldListLemmas.{numbered_id}
@@ -130,7 +131,7 @@ module _ (r : ReceivedValue) (seen : List Entry) (vector : List (Client × ℕ))
     placed_is = λ i. record { runs = g.runs_are i; entries = entries i }
       where
         entries : new.entries ≡ set ts at (with_number t n)
-        entries = g.placed ∙ ap (λ u. set ts at (with_number u n)) (some_is (sym g.there ∙ s.got))
+        entries = g.placed ∙ ap (λ u. set ts at (with_number u n)) (some_is g.entry t (sym g.there ∙ s.got))
 
     pub fewer_waiting : count_waiting new.entries < count_waiting ts
     fewer_waiting = subst (λ (q : ReceivedValue). count_waiting q.entries < count_waiting ts) (sym placed_is) (fewer_wait t n s.ready.waits ts at s.got)

@@ -1,7 +1,7 @@
 -- The lists of what is held: they stay when more is held, and the units of an entry are of one.
 use Rattle.std.proofs.Common.{◌≡◌, ℕ, zero, suc, ◌+◌, ◌<◌, ◌≤◌, true, List, inl, inr, Option, Some, None, refl, sym, ap, ◌∙◌, subst, arith, true≢false}
 use Rattle.std.specs.Prelude.{slice_get, is_some, IfSome}
-use Rattle.yd_words.specs.Member.{IsIn, IsIn as IsOneOf}
+use Rattle.yd_words.specs.Member.{IsIn}
 use Rattle.yd_ids.specs.declared.id.Client.{Client}
 use Rattle.yd_ids.specs.declared.id.Id.{Id}
 use Rattle.yd_ids.proofs.IdLemmas.{same_numbers}
@@ -24,15 +24,16 @@ use Rattle.yd_held.specs.Readiness.{first_list}
 use Rattle.yd_held.specs.Holding.{IsHolding}
 use Rattle.yd_words.proofs.MemberLemmas.{each_in}
 use Rattle.yd_held.proofs.NumberOfLemmas.{number_of-one}
-use Rattle.yd_held.proofs.HeldUnitLemmas.{id_at, unit_cases, covers_unit, covers_less, less_covers}
+use Rattle.yd_received.proofs.EntryLemmas.{covers_in}
+use Rattle.yd_held.proofs.HeldUnitLemmas.{id_at, unit_cases, covers_unit, covers_less}
 use Rattle.yd_held.proofs.HeldEntryLemmas.{is_taken, id_held, entry_held}
 use Rattle.yd_held.proofs.HoldingLemmas.{is_table}
 
 -- ---- when more is held
 
 module _ (os more : List Operation) (own : os ≡ held_set os) (t : IsTable (rows_of os)) (u : IsTable (rows_of more))
-    (stay : (o : Operation) → IsOneOf o os → IsOneOf o more) where
-  list_step : (o : Operation) → IsOneOf o os → ((x : Id) → IsIn x (needs o) → list_of more x ≡ list_of os x) → list_of more o.id ≡ list_of os o.id
+    (stay : (o : Operation) → IsIn o os → IsIn o more) where
+  list_step : (o : Operation) → IsIn o os → ((x : Id) → IsIn x (needs o) → list_of more x ≡ list_of os x) → list_of more o.id ≡ list_of os o.id
   list_step o i f = list_of-one more u o (stay o i)
       ∙ by o.left_origin o.right_origin (λ y e. f y (left_needed o y e)) (λ y e. f y (right_needed o y e))
       ∙ sym (list_of-one os t o i)
@@ -46,16 +47,16 @@ module _ (os more : List Operation) (own : os ≡ held_set os) (t : IsTable (row
   -- a held id keeps its list
   pub list_stays : (x : Id) → has_operation os x ≡ true → list_of more x ≡ list_of os x
   list_stays x e = let (o, i, f) = operation_with os x e in subst (λ y. list_of more y ≡ list_of os y) f
-      (held_least os (λ y. list_of more y ≡ list_of os y) list_step o (subst (λ hs. IsOneOf o hs) own i))
+      (held_least os (λ y. list_of more y ≡ list_of os y) list_step o (subst (λ hs. IsIn o hs) own i))
 
 -- ---- the units of an entry
 
 module _ (os : List Operation) (table : IsTable (rows_of os)) (runs : List Run) (t : Entry) (k : IsTakenOf runs t)
-    (all : (o : Operation) → IsOneOf o (operations_of_taken runs t) → IsOneOf o os) where
+    (all : (o : Operation) → IsIn o (operations_of_taken runs t) → IsIn o os) where
   list_at_clock : (j clock : ℕ) → clock ≡ t.id.clock + j → clock < t.id.clock + t.len → list_of os (id_at t.id.client clock) ≡ list_of os t.id
   list_at_clock zero clock e lt = ap (list_of os) (same_numbers (id_at t.id.client clock) t.id refl (omega (arith, e)))
   list_at_clock (suc j) clock e lt =
-      let (o, i, f) = covers_unit runs t k (id_at t.id.client clock) (less_covers t (id_at t.id.client clock) refl (omega (arith, e)) lt) in
+      let (o, i, f) = covers_unit runs t k (id_at t.id.client clock) (covers_in t (id_at t.id.client clock) refl (omega (arith, e)) lt) in
       sym (ap (list_of os) f) ∙ elim (unit_cases runs t k o i) [
         | inl first ↦ ap (list_of os) first.has_id
         | inr later ↦ list_of-left os table o (all o i) (id_at t.id.client later.0) later.1.has_left
@@ -79,7 +80,7 @@ module _ (os : List Operation) (table : IsTable (rows_of os)) (runs : List Run) 
   -- and so the list by the entry's origins
   pub entry_list : list_of os t.id ≡ list_by_origins t.left t.right (list_or_root (first_list runs t)) (list_of os)
   entry_list =
-      let (o, i, f) = covers_unit runs t k t.id (less_covers t t.id refl (omega arith) (omega (arith, k.has_units))) in
+      let (o, i, f) = covers_unit runs t k t.id (covers_in t t.id refl (omega arith) (omega (arith, k.has_units))) in
       elim (unit_cases runs t k o i) [
         | inl first ↦ sym (ap (list_of os) f) ∙ list_of-one os table o (all o i)
             ∙ ap (λ z. list_by_origins z o.right_origin (list_or_root o.list) (list_of os)) first.has_left

@@ -1,9 +1,9 @@
 -- One entry more is held: what is held is its own held set again, and the raised vector counts it.
-use Rattle.std.proofs.Common.{◌≡◌, ◌≢◌, ℕ, ◌+◌, ◌<◌, true, List, ◌⊎◌, inl, inr, Some, set, refl, sym, ap, ◌∙◌, subst, arith}
+use Rattle.std.proofs.Common.{◌≡◌, ℕ, ◌+◌, ◌<◌, true, List, ◌⊎◌, inl, inr, Some, set, refl, sym, ap, ◌∙◌, subst, arith}
 use Rattle.std.specs.Prelude.{◌↔◌, slice_get}
 use Rattle.yd_words.specs.Each.{Each}
-use Rattle.yd_words.specs.Member.{IsIn, IsIn as IsOneOf}
-use Rattle.yd_words.proofs.TestLemmas.{split}
+use Rattle.yd_words.specs.Member.{IsIn}
+use Rattle.yd_words.proofs.TestLemmas.{split, same_or_other}
 use Rattle.yd_ids.specs.declared.id.Client.{Client}
 use Rattle.yd_ids.specs.declared.id.Id.{Id}
 use Rattle.yd_ids.specs.Vector.{clock_of, RaisesOnly}
@@ -21,7 +21,8 @@ use Rattle.yd_held.specs.Numbered.{IsVectorOf}
 use Rattle.yd_held.specs.Readiness.{IsOriginOf, first_list}
 use Rattle.yd_received.specs.Received.{with_number}
 use Rattle.yd_held.specs.Holding.{IsHolding}
-use Rattle.yd_held.proofs.HeldUnitLemmas.{covers_less, less_covers, covers_unit, unit_covers}
+use Rattle.yd_received.proofs.EntryLemmas.{covers_in}
+use Rattle.yd_held.proofs.HeldUnitLemmas.{covers_less, covers_unit, unit_covers}
 use Rattle.yd_received.proofs.WrittenLemmas.{taken_written, held_written}
 use Rattle.yd_held.proofs.HeldEntryLemmas.{is_taken, held_entry, entry_held, held_received, one_of_entry}
 use Rattle.yd_received.proofs.ChangeLemmas.{entry_got, set_has_new, set_has, set_is, each_taken-number, order-number, operations-number}
@@ -32,9 +33,6 @@ pub record Setting (runs : List Run) (ts : List Entry) (vector : List (Client ×
   pub holding : IsHolding runs ts vector names
   pub got : slice_get ts at ≡ Some t
   pub ready : IsReady vector runs t
-
-same_or_other : (m n : ℕ) → (m ≡ n) ⊎ (m ≢ n)
-same_or_other m n = grind arith
 
 module _ (runs : List Run) (ts : List Entry) (vector : List (Client × ℕ)) (names : List DocList) (at : ℕ) (t : Entry)
     (s : Setting runs ts vector names at t) (n : ℕ) where
@@ -73,7 +71,7 @@ module _ (runs : List Run) (ts : List Entry) (vector : List (Client × ℕ)) (na
 
   -- ---- what is held then
 
-  pub stays_held : (o : Operation) → IsOneOf o before → IsOneOf o after
+  pub stays_held : (o : Operation) → IsIn o before → IsIn o after
   stays_held o i =
       let (u, j, held, k) = held_entry runs ts s.holding.in_order.each s.holding.in_order.in_order o i in
       elim (set_has t (with_number t n) ts at s.got u j) [
@@ -81,18 +79,18 @@ module _ (runs : List Run) (ts : List Entry) (vector : List (Client × ℕ)) (na
         | inr l ↦ entry_held runs numbered each_after order_after u l held o k
       ]
 
-  pub is_held_now : (o : Operation) → IsOneOf o (operations_of_taken runs t) → IsOneOf o after
+  pub is_held_now : (o : Operation) → IsIn o (operations_of_taken runs t) → IsIn o after
   is_held_now o i = entry_held runs numbered each_after order_after (with_number t n) (set_has_new t (with_number t n) ts at s.got) refl o i
 
-  pub held_now : (o : Operation) → IsOneOf o after → IsOneOf o before ⊎ IsOneOf o (operations_of_taken runs t)
+  pub held_now : (o : Operation) → IsIn o after → IsIn o before ⊎ IsIn o (operations_of_taken runs t)
   held_now o i =
       let (u, j, held, k) = held_entry runs numbered each_after order_after o i in
       elim (set_is t (with_number t n) ts at u j) [
-        | inl e ↦ inr (subst (λ v. IsOneOf o (operations_of_taken runs v)) e k)
+        | inl e ↦ inr (subst (λ v. IsIn o (operations_of_taken runs v)) e k)
         | inr l ↦ inl (entry_held runs ts s.holding.in_order.each s.holding.in_order.in_order u l held o k)
       ]
 
-  in_received : (o : Operation) → IsOneOf o after → IsOneOf o received
+  in_received : (o : Operation) → IsIn o after → IsIn o received
   in_received o i = elim (held_now o i) [
     | inl j ↦ held_received runs ts s.holding.in_order.each s.holding.in_order.in_order o j
     | inr j ↦ one_of_entry runs ts t o here j
@@ -127,7 +125,7 @@ module _ (runs : List Run) (ts : List Entry) (vector : List (Client × ℕ)) (na
         there : x.clock < clock_of raised x.client.0 → has_operation after x ≡ true
         there lt = elim (same_or_other t.id.client.0 x.client.0) [
           | inl same ↦ elim (split t.id.clock x.clock) [
-            | inl low ↦ let (o, i, f) = covers_unit runs t this_taken x (less_covers t x same low (omega (arith, lt, clock_of_same x same))) in
+            | inl low ↦ let (o, i, f) = covers_unit runs t this_taken x (covers_in t x same low (omega (arith, lt, clock_of_same x same))) in
                 id_there after o x (is_held_now o i) f
             | inr less ↦ ids_stay before after x stays_held ((tells runs ts vector names s.holding x).1
                 (omega (arith, less, s.ready.begins, ap (λ c. clock_of vector c) same)))
@@ -138,7 +136,7 @@ module _ (runs : List Run) (ts : List Entry) (vector : List (Client × ℕ)) (na
 
     ready_units : AreReady received t.id.client (clock_of vector t.id.client.0) (t.id.clock + t.len)
     ready_units k low high =
-        let (o, i, e) = covers_unit runs t this_taken (record { client = t.id.client; clock = k }) (less_covers t (record { client = t.id.client; clock = k }) refl (omega (arith, low, s.ready.begins)) high) in (
+        let (o, i, e) = covers_unit runs t this_taken (record { client = t.id.client; clock = k }) (covers_in t (record { client = t.id.client; clock = k }) refl (omega (arith, low, s.ready.begins)) high) in (
           o,
           one_of_entry runs ts t o here i,
           e,
@@ -155,11 +153,11 @@ module _ (runs : List Run) (ts : List Entry) (vector : List (Client × ℕ)) (na
     pub own_after : held_set after ≡ after
     own_after = held_set-part received after (taken_written runs ts s.holding.in_order) within closed
       where
-        within : (o : Operation) → IsOneOf o after → IsOneOf o (held_set received)
+        within : (o : Operation) → IsIn o after → IsIn o (held_set received)
         within o i = below_held received (taken_written runs ts s.holding.in_order) (clock_of raised) reached_after o (in_received o i)
             ((tells_after o.id).0 (id_is_there after o i))
 
-        closed : (o : Operation) → IsOneOf o after → (x : Id) → IsIn x (needs o) → has_operation after x ≡ true
+        closed : (o : Operation) → IsIn o after → (x : Id) → IsIn x (needs o) → has_operation after x ≡ true
         closed o i x j = elim (held_now o i) [
           | inl k ↦ ids_stay before after x stays_held (has_needs runs ts vector names s.holding o k x j)
           | inr k ↦ elim (unit_needs runs t this_taken o k x j) [

@@ -1,8 +1,9 @@
 -- While units are held: the vector tells which ids are, and which ids an entry needs.
-use Rattle.std.proofs.Common.{◌≡◌, ℕ, zero, suc, ◌<◌, Bool, true, false, List, ◌++◌, ◌⊎◌, inl, inr, Option, Some, None, refl, sym, ap, ◌∙◌, subst, arith, tests, nat_eq, true≢false}
+use Rattle.std.proofs.Common.{◌≡◌, ℕ, zero, suc, ◌<◌, ◌≤◌, Bool, true, false, List, ◌++◌, ◌⊎◌, inl, inr, Option, Some, None, refl, sym, ap, ◌∙◌, subst, arith, tests, nat_eq, true≢false}
 use Rattle.std.specs.Prelude.{◌↔◌, not, ◌&&◌}
-use Rattle.yd_words.specs.Member.{IsIn, IsIn as IsOneOf}
+use Rattle.yd_words.specs.Member.{IsIn}
 use Rattle.yd_words.proofs.MemberLemmas.{in_parts}
+use Rattle.yd_words.proofs.OptionLemmas.{some_is}
 use Rattle.yd_words.proofs.TestLemmas.{both_hold}
 use Rattle.yd_ids.specs.declared.id.Client.{Client}
 use Rattle.yd_ids.specs.declared.id.Id.{Id}
@@ -53,11 +54,8 @@ need_cases o x i = elim (in_parts x (id_before o.id.client o.id.clock) (given o.
   ]
 ]
 
-some_is : {a b : Id} → ◌≡◌ {A = Option Id} (Some a) (Some b) → a ≡ b
-some_is e = cc
-
 -- an operation of an entry needs smaller clocks of its client, and what the first needs
-pub unit_needs : (runs : List Run) (t : Entry) → IsTakenOf runs t → (o : Operation) → IsOneOf o (operations_of_taken runs t) → (x : Id) → IsIn x (needs o) →
+pub unit_needs : (runs : List Run) (t : Entry) → IsTakenOf runs t → (o : Operation) → IsIn o (operations_of_taken runs t) → (x : Id) → IsIn x (needs o) →
     HasSmallerClock x o.id ⊎ IsOriginOf x t.left t.right (first_list runs t)
 unit_needs runs t k o i x j = elim (need_cases o x j) [
   | inl smaller ↦ inl smaller
@@ -67,7 +65,7 @@ unit_needs runs t k o i x j = elim (need_cases o x j) [
         (subst (λ z. IsOriginOf x o.left_origin o.right_origin z) first.has_list origin)))
     | inr later ↦ elim origin [
       | inl e ↦
-          let before : x ≡ record { client = t.id.client; clock = later.0 } = some_is (sym e ∙ later.1.has_left) in
+          let before : x ≡ record { client = t.id.client; clock = later.0 } = some_is x (record { client = t.id.client; clock = later.0 }) (sym e ∙ later.1.has_left) in
           inl (
             ap (λ (y : Id). y.client) before ∙ sym (ap (λ (y : Id). y.client) later.1.has_id),
             omega (arith, ap (λ (y : Id). y.clock) before, ap (λ (y : Id). y.clock) later.1.has_id),
@@ -85,6 +83,9 @@ below_less vector x e = grind (arith, tests)
 
 pub less_below : (vector : List (Client × ℕ)) (x : Id) → x.clock < clock_of vector x.client.0 → is_below vector x ≡ true
 less_below vector x lt = grind (arith, tests)
+
+pub above_not : (vector : List (Client × ℕ)) (x : Id) → clock_of vector x.client.0 ≤ x.clock → is_below vector x ≡ false
+above_not vector x le = grind (arith, tests)
 
 pub below_some : (vector : List (Client × ℕ)) (z : Option Id) → is_none_or_below vector z ≡ true → (x : Id) → z ≡ Some x → x.clock < clock_of vector x.client.0
 below_some vector z e x f = below_less vector x (subst (λ w. is_none_or_below vector w ≡ true) f e)
@@ -141,12 +142,12 @@ module _ (runs : List Run) (ts : List Entry) (vector : List (Client × ℕ)) (na
   pub is_table : IsTable (rows_of held)
   is_table = subst (λ hs. IsTable (rows_of hs)) (sym h.own) (held_is_table held is_written)
 
-  pub has_needs : (o : Operation) → IsOneOf o held → (x : Id) → IsIn x (needs o) → has_operation held x ≡ true
-  has_needs o i x j = subst (λ hs. has_operation hs x ≡ true) (sym h.own) (held_needs held o (subst (λ hs. IsOneOf o hs) h.own i) x j)
+  pub has_needs : (o : Operation) → IsIn o held → (x : Id) → IsIn x (needs o) → has_operation held x ≡ true
+  has_needs o i x j = subst (λ hs. has_operation hs x ≡ true) (sym h.own) (held_needs held o (subst (λ hs. IsIn o hs) h.own i) x j)
 
   -- what is held is held of all that is received
-  pub held_of_all : (o : Operation) → IsOneOf o held → IsOneOf o (held_set (operations_in runs ts))
-  held_of_all o i = held_grows held (operations_in runs ts) (held_received runs ts h.in_order.each h.in_order.in_order) o (subst (λ hs. IsOneOf o hs) h.own i)
+  pub held_of_all : (o : Operation) → IsIn o held → IsIn o (held_set (operations_in runs ts))
+  held_of_all o i = held_grows held (operations_in runs ts) (held_received runs ts h.in_order.each h.in_order.in_order) o (subst (λ hs. IsIn o hs) h.own i)
 
   pub reached : AreReached (operations_in runs ts) (clock_of vector)
   reached x lt = ids_stay held (held_set (operations_in runs ts)) x held_of_all ((tells x).1 lt)

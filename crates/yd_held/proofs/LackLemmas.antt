@@ -1,8 +1,10 @@
 -- The order of lacks, one more at its place, and those that units meet, which stand in a row.
-use Rattle.std.proofs.Common.{◌≡◌, ℕ, zero, suc, ◌+◌, ◌-◌, ◌<◌, ◌≤◌, Bool, true, false, cond, not, List, [], ◌∷◌, ◌++◌, inl, inr, length, get_or, take, drop, filter, refl, sym, ap, ◌∙◌, arith, tests, true≢false}
+use Rattle.std.proofs.Common.{◌≡◌, ℕ, zero, suc, ◌+◌, ◌-◌, ◌<◌, ◌≤◌, Bool, true, false, cond, not, List, [], ◌∷◌, ◌++◌, inl, inr, length, get_or, take, drop, filter, refl, ap, ◌∙◌, arith, tests}
 use Rattle.std.specs.List.Sorted.{IsPartitionedBy}
 use Rattle.yd_words.specs.Each.{Each}
 use Rattle.yd_words.proofs.EachLemmas.{each_weaker}
+use Rattle.yd_words.proofs.FilterLemmas.{kept_one}
+use Rattle.yd_words.proofs.MemberLemmas.{each_in, in_each}
 use Rattle.yd_ids.specs.declared.id.Id.{Id}
 use Rattle.yd_ids.proofs.IdLemmas.{same_numbers}
 use Rattle.yd_received.specs.declared.entry.Entry.{Entry}
@@ -98,30 +100,12 @@ module _ (l : Lack) where
 
 -- ---- those that are taken out
 
-pub kept_in : {X : Type 0} (test : X → Bool) (xs : List X) (x : X) → test x ≡ true → IsIn x xs → IsIn x (filter test xs)
-kept_in test [] x e i = absurd i
-kept_in test (y ∷ ys) x e i = go (test y) refl i (kept_in test ys x e)
-  where
-    go : (b : Bool) → test y ≡ b → IsIn x (y ∷ ys) → (IsIn x ys → IsIn x (filter test ys)) → IsIn x (cond b (y ∷ filter test ys) (filter test ys))
-    go true f (inl g) rest = inl g
-    go true f (inr j) rest = inr (rest j)
-    go false f (inl g) rest = absurd (true≢false (sym e ∙ ap test g ∙ f))
-    go false f (inr j) rest = rest j
-
-each_kept : (P : Lack → Type 0) (test : Lack → Bool) (ls : List Lack) → Each P ls → Each P (filter test ls)
-each_kept P test [] each = tt
-each_kept P test (l ∷ ls) each = go (test l) (each_kept P test ls each.1)
-  where
-    go : (b : Bool) → Each P (filter test ls) → Each P (cond b (l ∷ filter test ls) (filter test ls))
-    go true rest = (each.0, rest)
-    go false rest = rest
-
 pub sorted_kept : (test : Lack → Bool) (ls : List Lack) → AreSorted ls → AreSorted (filter test ls)
 sorted_kept test [] sorted = tt
 sorted_kept test (l ∷ ls) sorted = go (test l) (sorted_kept test ls sorted.1)
   where
     go : (b : Bool) → AreSorted (filter test ls) → AreSorted (cond b (l ∷ filter test ls) (filter test ls))
-    go true rest = (each_kept (λ m. stands_before l m ≡ true) test ls sorted.0, rest)
+    go true rest = (in_each (λ m. stands_before l m ≡ true) (filter test ls) (λ m i. each_in (λ k. stands_before l k ≡ true) ls sorted.0 m (kept_one test ls m i).1), rest)
     go false rest = rest
 
 module _ (held : Entry) where

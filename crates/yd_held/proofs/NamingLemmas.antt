@@ -5,6 +5,7 @@ use Rattle.std.specs.List.{position_or_len}
 use Rattle.std.proofs.lemmas.List.Quantifiers.{position-Some}
 use Rattle.std.proofs.lemmas.Option.{slice_get-get_or}
 use Rattle.std.proofs.lemmas.Bool.{ltb-false}
+use Rattle.yd_words.proofs.OptionLemmas.{some_is}
 use Rattle.yd_ops.specs.declared.lists.List.{List as DocList}
 use Rattle.yd_meaning.specs.Names.{same_list}
 use Rattle.yd_meaning.specs.ListNames.{same_list_decides}
@@ -20,9 +21,6 @@ none_passes {X = X} p (y ∷ ys) le m x e = go (p y) refl le (λ f. none_passes 
         (m : ℕ) → slice_get (y ∷ ys) m ≡ Some x → p x ≡ false
     go true f le rest m e = absurd (omega arith)
     go false f le rest zero e = ap (λ z. p z) (sym (some_is y x e)) ∙ f
-      where
-        some_is : (a b : X) → ◌≡◌ {A = Option X} (Some a) (Some b) → a ≡ b
-        some_is a b e = cc
     go false f le rest (suc m) e = rest (omega arith) m x e
 
 module _ (name : DocList) where

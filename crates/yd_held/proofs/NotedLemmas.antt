@@ -1,8 +1,9 @@
 -- What is noted of units that wait: it stays right when a client is found to have none, when a lack is noted, and when units are held.
-use Rattle.std.proofs.Common.{◌≡◌, ℕ, ◌+◌, ◌<◌, ◌≤◌, Bool, true, false, cond, not, nat_eq, List, [], ◌∷◌, ◌++◌, inl, inr, Option, Some, None, map, filter, refl, sym, ap, ◌∙◌, subst, arith, tests, true≢false}
+use Rattle.std.proofs.Common.{◌≡◌, ℕ, ◌+◌, ◌≤◌, Bool, true, false, cond, not, nat_eq, List, [], ◌∷◌, ◌++◌, inl, inr, Option, Some, None, map, filter, refl, sym, ap, ◌∙◌, subst, arith, tests, true≢false}
 use Rattle.std.proofs.lemmas.Bool.{cases_Bool}
 use Rattle.yd_words.proofs.MemberLemmas.{in_left_part, in_right_part}
 use Rattle.yd_words.specs.Each.{Each}
+use Rattle.yd_words.proofs.FilterLemmas.{one_kept}
 use Rattle.yd_words.proofs.TestLemmas.{split, hold_both, same_or_other}
 use Rattle.yd_ids.specs.declared.id.Client.{Client}
 use Rattle.yd_ids.specs.declared.id.Id.{Id}
@@ -21,9 +22,11 @@ use Rattle.yd_held.specs.Readiness.{IsOriginOf, is_none_or_below, missing_of, fi
 use Rattle.yd_held.specs.Noted.{AreSorted, with_lack, Wakes, IsNoted, IsNotedOrTried, AreNoted, AreMissing}
 use Rattle.yd_held.specs.Holding.{HoldsEntry}
 use Rattle.yd_held.specs.Trying.{IsNext}
-use Rattle.yd_held.proofs.HeldUnitLemmas.{covers_first, less_covers}
+use Rattle.yd_received.proofs.EntryLemmas.{covers_in}
+use Rattle.yd_held.proofs.HeldUnitLemmas.{covers_first}
+use Rattle.yd_held.proofs.HoldingLemmas.{above_not}
 use Rattle.yd_received.proofs.ChangeLemmas.{set_is}
-use Rattle.yd_held.proofs.LackLemmas.{kept_in, sorted_kept, with_has, with_stays, with_sorted, each_with}
+use Rattle.yd_held.proofs.LackLemmas.{sorted_kept, with_has, with_stays, with_sorted, each_with}
 
 -- ---- standing in a list
 
@@ -37,14 +40,8 @@ one_client a b e = λ i. record { 0 = e i }
 
 -- ---- what units lack
 
-below_less : (vector : List (Client × ℕ)) (x : Id) → is_below vector x ≡ true → x.clock < clock_of vector x.client.0
-below_less vector x e = grind (arith, tests)
-
 pub not_below : (vector : List (Client × ℕ)) (x : Id) → is_below vector x ≡ false → clock_of vector x.client.0 ≤ x.clock
 not_below vector x e = grind (arith, tests)
-
-above_not : (vector : List (Client × ℕ)) (x : Id) → clock_of vector x.client.0 ≤ x.clock → is_below vector x ≡ false
-above_not vector x le = grind (arith, tests)
 
 missing_is : (vector : List (Client × ℕ)) (z : Option Id) (x : Id) → missing_of vector z ≡ Some x → (z ≡ Some x) × (is_below vector x ≡ false)
 missing_is vector None x e = absurd cc
@@ -173,17 +170,17 @@ module _ (vector : List (Client × ℕ)) (runs : List Run) (lacks left : List La
   woken l i e = subst (IsIn l.client) (sym wakes.tried)
       (in_left_part l.client (tries ++ map (λ (l : Lack). l.client) (filter (λ (l : Lack). covers h.entry l.id) lacks)) (h.entry.id.client ∷ [])
       (in_right_part l.client tries (map (λ (l : Lack). l.client) (filter (λ (l : Lack). covers h.entry l.id) lacks))
-      (in_map (λ (l : Lack). l.client) l (filter (λ (l : Lack). covers h.entry l.id) lacks) (kept_in (λ (l : Lack). covers h.entry l.id) lacks l e i))))
+      (in_map (λ (l : Lack). l.client) l (filter (λ (l : Lack). covers h.entry l.id) lacks) (one_kept (λ (l : Lack). covers h.entry l.id) lacks l e i))))
 
   stays : (l : Lack) → IsIn l lacks → covers h.entry l.id ≡ false → IsIn l left
-  stays l i e = subst (IsIn l) (sym wakes.stays) (kept_in (λ (l : Lack). not (covers h.entry l.id)) lacks l (ap not e) i)
+  stays l i e = subst (IsIn l) (sym wakes.stays) (one_kept (λ (l : Lack). not (covers h.entry l.id)) lacks l (ap not e) i)
 
   -- an id that is missing and not of the units is missing then
   still_missing : (x : Id) → is_below vector x ≡ false → covers h.entry x ≡ false → is_below raised x ≡ false
   still_missing x e other = above_not raised x (elim (same_or_other x.client.0 h.entry.id.client.0) [
     | inl same ↦ elim (split (h.entry.id.clock + h.entry.len) x.clock) [
       | inl le ↦ omega (arith, le, not_below vector x e, h.raises.this_client, begins, ap (λ c. clock_of raised c) same, ap (λ c. clock_of vector c) same)
-      | inr lt ↦ absurd (true≢false (sym (less_covers h.entry x (sym same) (omega (arith, not_below vector x e, begins, ap (λ c. clock_of vector c) same)) lt) ∙ other))
+      | inr lt ↦ absurd (true≢false (sym (covers_in h.entry x (sym same) (omega (arith, not_below vector x e, begins, ap (λ c. clock_of vector c) same)) lt) ∙ other))
     ]
     | inr differs ↦ omega (arith, not_below vector x e, h.raises.other_clients x.client.0 differs)
   ])

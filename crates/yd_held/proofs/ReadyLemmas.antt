@@ -1,7 +1,7 @@
 -- Where no entry is ready, all is held that can be.
 use Rattle.std.proofs.Common.{◌≡◌, ℕ, ◌<◌, Bool, true, false, List, inl, inr, nat_eq, refl, sym, ap, ◌∙◌, subst, arith, tests, true≢false}
 use Rattle.std.specs.Prelude.{not}
-use Rattle.yd_words.specs.Member.{IsIn, IsIn as IsOneOf}
+use Rattle.yd_words.specs.Member.{IsIn}
 use Rattle.yd_words.proofs.TestLemmas.{hold_both}
 use Rattle.yd_ids.specs.declared.id.Client.{Client}
 use Rattle.yd_ids.specs.declared.id.Id.{Id}
@@ -23,7 +23,8 @@ use Rattle.yd_received.specs.Entries.{operations_of_taken, operations_in, held_i
 use Rattle.yd_held.specs.Readiness.{first_list, is_ready}
 use Rattle.yd_held.specs.Holding.{IsHolding, AreUnready}
 use Rattle.yd_words.proofs.MemberLemmas.{each_in}
-use Rattle.yd_held.proofs.HeldUnitLemmas.{IsFirst, id_at, unit_cases, less_covers}
+use Rattle.yd_received.proofs.EntryLemmas.{covers_in}
+use Rattle.yd_held.proofs.HeldUnitLemmas.{IsFirst, id_at, unit_cases}
 use Rattle.yd_received.proofs.WrittenLemmas.{taken_written}
 use Rattle.yd_held.proofs.HeldEntryLemmas.{is_taken, entry_of_one, entry_held, held_received, covers_held}
 use Rattle.yd_held.proofs.HoldingLemmas.{some_below, tells, held_of_all, reached, is_written}
@@ -57,14 +58,14 @@ module _ (runs : List Run) (ts : List Entry) (vector : List (Client × ℕ)) (na
   final : AreFinal received (clock_of vector)
   final o i at_clock needed = let (t, j, k) = entry_of_one runs ts o i in go t j k (is_held t) refl
     where
-      go : (t : Entry) → IsIn t ts → IsOneOf o (operations_of_taken runs t) → (b : Bool) → is_held t ≡ b → ⊥
+      go : (t : Entry) → IsIn t ts → IsIn o (operations_of_taken runs t) → (b : Bool) → is_held t ≡ b → ⊥
       go t j k true e = omega (arith, at_clock, below o.id (id_is_there held o (entry_held runs ts h.in_order.each h.in_order.in_order t j e o k)))
       go t j k false e = elim (unit_cases runs t (is_taken runs ts h.in_order.each h.in_order.in_order t j) o k) [
         | inl first ↦ first_lacks t j e o first at_clock needed
         | inr later ↦
             let before_there = (tells runs ts vector names h (id_at t.id.client later.0)).1 (needed (id_at t.id.client later.0) (left_needed o (id_at t.id.client later.0) later.1.has_left)) in
             true≢false (sym (covers_held runs ts h.in_order.each h.in_order.in_order t (id_at t.id.client later.0) j
-            (less_covers t (id_at t.id.client later.0) refl later.1.above (omega (arith, later.1.below))) before_there) ∙ e)
+            (covers_in t (id_at t.id.client later.0) refl later.1.above (omega (arith, later.1.below))) before_there) ∙ e)
       ]
 
   -- ---- lemmas for callers
@@ -76,9 +77,9 @@ module _ (runs : List Run) (ts : List Entry) (vector : List (Client × ℕ)) (na
       written : IsWritten received
       written = taken_written runs ts h.in_order
 
-      back : (o : Operation) → IsOneOf o (held_set received) → IsOneOf o held
+      back : (o : Operation) → IsIn o (held_set received) → IsIn o held
       back o i =
           let lt = (held_is_below received written (clock_of vector) (reached runs ts vector names h) final o.id).0 (id_is_there (held_set received) o i) in
           let (p, j, e) = operation_with held o.id ((tells runs ts vector names h o.id).1 lt) in
           let one : p ≡ o = one_operation received (written_distinct received written) p o (held_received runs ts h.in_order.each h.in_order.in_order p j) (held_is_received received o i) e in
-          subst (λ q. IsOneOf q held) one j
+          subst (λ q. IsIn q held) one j

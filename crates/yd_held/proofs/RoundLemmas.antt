@@ -2,6 +2,7 @@
 use Rattle.std.proofs.Common.{◌≡◌, ℕ, zero, suc, ◌≤◌, ◌<◌, Bool, true, false, List, [], ◌∷◌, ◌++◌, inl, inr, Some, length, set, get_or, map, refl, sym, ap, ◌∙◌, subst, arith, append-nil, append_assoc}
 use Rattle.std.specs.Prelude.{HoldsAt, slice_get, replicate}
 use Rattle.std.proofs.lemmas.Option.{slice_get_within, slice_get-get_or}
+use Rattle.yd_words.proofs.OptionLemmas.{some_is}
 use Rattle.yd_ids.specs.declared.id.Client.{Client}
 use Rattle.yd_ids.specs.Vector.{clock_of}
 use Rattle.yd_ops.specs.declared.runs.Run.{Run}
@@ -49,9 +50,6 @@ grow_then xs ys zs (more, e) (others, f) = (more ++ others, f ∙ ap (λ l. l ++
 module _ (runs : List Run) (at : ℕ) (ts new : List Entry) (vector raised : List (Client × ℕ)) (lacks : List Lack) (tries : List Client)
     (h : HoldsEntry at ts new vector raised)
     (ready : HoldsAt (λ (t : Entry). (is_ready vector runs t ≡ true) × AreNoted vector runs lacks (t.id.client ∷ tries) ts) ts at) where
-  some_is : (a b : Entry) → Some a ≡ Some b → a ≡ b
-  some_is a b e = cc
-
   here : get_or ts at h.entry ≡ h.entry
   here = some_is (get_or ts at h.entry) h.entry (sym (slice_get-get_or ts at h.entry (slice_get_within ts at h.entry h.there)) ∙ h.there)
 

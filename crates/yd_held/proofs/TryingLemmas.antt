@@ -3,6 +3,7 @@ use Rattle.std.proofs.Common.{◌≡◌, ℕ, zero, suc, ◌+◌, ◌<◌, true,
 use Rattle.std.specs.Prelude.{HoldsAt, slice_get}
 use Rattle.std.proofs.lemmas.List.{get_or_default}
 use Rattle.yd_words.specs.Each.{Each}
+use Rattle.yd_words.proofs.OptionLemmas.{some_is}
 use Rattle.yd_ids.specs.declared.id.Client.{Client}
 use Rattle.yd_ids.specs.declared.id.Id.{Id}
 use Rattle.yd_ids.specs.Vector.{clock_of}
@@ -47,9 +48,6 @@ some_client a b e = cc
 pub got_in : {X : Type 0} (xs : List X) (n : ℕ) (x : X) → slice_get xs n ≡ Some x → IsIn x xs
 got_in [] n x e = absurd cc
 got_in (y ∷ ys) zero x e = inl (sym (some_is y x e))
-  where
-    some_is : {X : Type 0} (a b : X) → ◌≡◌ {A = Option X} (Some a) (Some b) → a ≡ b
-    some_is a b e = cc
 got_in (y ∷ ys) (suc n) x e = inr (got_in ys n x e)
 
 -- ---- the client that is tried

@@ -1,24 +1,19 @@
 -- Units that are held and put to wait again are as they were.
-use Rattle.std.proofs.Common.{◌≡◌, ℕ, zero, suc, ◌≤◌, false, List, [], ◌∷◌, inl, inr, Option, Some, map, set, refl, sym, ap, ◌∙◌, arith, tests}
+use Rattle.std.proofs.Common.{◌≡◌, ℕ, zero, suc, ◌≤◌, false, List, [], ◌∷◌, inl, inr, Some, map, set, refl, sym, ap, ◌∙◌, arith}
 use Rattle.std.specs.Prelude.{slice_get}
+use Rattle.yd_words.proofs.OptionLemmas.{some_is}
 use Rattle.yd_words.proofs.TestLemmas.{same_or_other}
 use Rattle.yd_ids.specs.declared.id.Client.{Client}
-use Rattle.yd_ids.specs.declared.id.Id.{Id}
 use Rattle.yd_ids.specs.Vector.{clock_of}
 use Rattle.yd_received.specs.declared.entry.Entry.{Entry}
 use Rattle.yd_received.specs.Received.{is_below, with_number, undone}
 use Rattle.yd_held.specs.Holding.{HoldsEntry}
-
-some_is : {X : Type 0} (a b : X) → ◌≡◌ {A = Option X} (Some a) (Some b) → a ≡ b
-some_is a b e = cc
+use Rattle.yd_held.proofs.HoldingLemmas.{above_not}
 
 map-set : {X Y : Type 0} (f : X → Y) (xs : List X) (at : ℕ) (x y : X) → slice_get xs at ≡ Some x → f y ≡ f x → map f (set xs at y) ≡ map f xs
 map-set f [] at x y e same = refl
 map-set f (z ∷ zs) zero x y e same = ap (λ w. w ∷ map f zs) (same ∙ ap f (sym (some_is z x e)))
 map-set f (z ∷ zs) (suc at) x y e same = ap (λ ws. f z ∷ ws) (map-set f zs at x y e same)
-
-above_not : (vector : List (Client × ℕ)) (x : Id) → clock_of vector x.client.0 ≤ x.clock → is_below vector x ≡ false
-above_not vector x le = grind (arith, tests)
 
 undone_number : (vector : List (Client × ℕ)) (t : Entry) (n : ℕ) → is_below vector t.id ≡ false → undone vector (with_number t n) ≡ undone vector t
 undone_number vector t n e = rw e refl

@@ -3,6 +3,7 @@ use Rattle.std.proofs.Common.{◌≡◌, ℕ, zero, suc, ◌<◌, ◌≤◌, tru
 use Rattle.std.specs.Prelude.{slice_get, IfSome}
 use Rattle.std.proofs.lemmas.Bool.{cases_Bool, false_from_ne_true}
 use Rattle.yd_words.specs.Each.{Each}
+use Rattle.yd_words.proofs.OptionLemmas.{some_is}
 use Rattle.yd_ids.specs.declared.id.Client.{Client}
 use Rattle.yd_ids.specs.Vector.{clock_of}
 use Rattle.yd_ops.specs.declared.lists.List.{List as DocList}
@@ -50,9 +51,6 @@ none_ready runs ts vector lacks noted = in_each (λ t. is_ready vector runs t �
 each_behind : {X : Type 0} (P : X → Type 0) (xs : List X) (from at : ℕ) (x : X) → Each P (drop from xs) → from ≤ at → slice_get xs at ≡ Some x → P x
 each_behind P [] from at x each le e = absurd cc
 each_behind P (y ∷ ys) zero zero x each le e = subst P (some_is y x e) each.0
-  where
-    some_is : {X : Type 0} (a b : X) → ◌≡◌ {A = Option X} (Some a) (Some b) → a ≡ b
-    some_is a b e = cc
 each_behind P (y ∷ ys) zero (suc at) x each le e = each_behind P ys zero at x each.1 (omega arith) e
 each_behind P (y ∷ ys) (suc from) zero x each le e = absurd (omega arith)
 each_behind P (y ∷ ys) (suc from) (suc at) x each le e = each_behind P ys from at x each (omega arith) e

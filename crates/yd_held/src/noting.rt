@@ -2,13 +2,12 @@
 
 ghost use Rattle.std.specs.Prelude.{◌≡◌, ◌≤◌, ◌+◌, ◌++◌, true, false, length, take, drop, map, slice_range, OnOk};
 ghost use Rattle.yd_words.specs.Each.{Each};
-ghost use Rattle.yd_ids.specs.Ids.{is_same, is_smaller};
 ghost use Rattle.yd_held.specs.declared.noting.Lack.{Lack};
 ghost use Rattle.yd_ids.specs.Id.{IsClock};
 ghost use Rattle.yd_held.specs.Noted.{stands_before, same_lack, first_lack, with_lack, AreSorted, Wakes};
 
 use crate::fault::NoMemory;
-use yd_ids::{Client, Id};
+use yd_ids::{Client, Id, is_same, is_smaller};
 use yd_received::Entry;
 
 /// An id that a client's next units lack: they need it, and it is not held.
@@ -116,18 +115,4 @@ fn is_same_lack(a: Lack, b: Lack) -> bool
     ensures { result ≡ same_lack a b }
 {
     is_same(a.id, b.id) && a.client.0 == b.client.0
-}
-
-/// The first has the smaller client, or of one client the smaller clock.
-fn is_smaller(a: Id, b: Id) -> bool
-    ensures { result ≡ is_smaller a b }
-{
-    a.client.0 < b.client.0 || (a.client.0 == b.client.0 && a.clock < b.clock)
-}
-
-/// Both are one.
-fn is_same(a: Id, b: Id) -> bool
-    ensures { result ≡ is_same a b }
-{
-    a.client.0 == b.client.0 && a.clock == b.clock
 }

@@ -5,7 +5,7 @@ use Rattle.std.proofs.lemmas.List.{take-append-drop}
 use Rattle.std.proofs.lemmas.List.Elements.{filter-append}
 use Rattle.std.proofs.lemmas.Option.{slice_get_within}
 use Rattle.yd_words.specs.Each.{Each}
-use Rattle.yd_words.specs.Member.{IsIn as IsOneOf}
+use Rattle.yd_words.specs.Member.{IsIn}
 use Rattle.yd_words.proofs.EachLemmas.{each_append}
 use Rattle.yd_words.proofs.MemberLemmas.{in_left_part, in_right_part, in_parts}
 use Rattle.yd_ids.specs.Id.{IsId}
@@ -51,9 +51,9 @@ filter_with test ts at t fails =
     ∙ ap (λ us. filter test us) (take-append-drop at ts)
 
 -- the operations with one more are those and its own
-pub one_with : (runs : List Run) (ts : List Entry) (at : ℕ) (t : Entry) (o : Operation) → IsOneOf o (operations_in runs (take at ts ++ t ∷ drop at ts)) →
-    IsOneOf o (operations_in runs ts) ⊎ IsOneOf o (operations_of_taken runs t)
-one_with runs ts at t o i = elim (in_parts o front (operations_of_taken runs t ++ back) (subst (IsOneOf o) (operations_in-append runs (take at ts) (t ∷ drop at ts)) i)) [
+pub one_with : (runs : List Run) (ts : List Entry) (at : ℕ) (t : Entry) (o : Operation) → IsIn o (operations_in runs (take at ts ++ t ∷ drop at ts)) →
+    IsIn o (operations_in runs ts) ⊎ IsIn o (operations_of_taken runs t)
+one_with runs ts at t o i = elim (in_parts o front (operations_of_taken runs t ++ back) (subst (IsIn o) (operations_in-append runs (take at ts) (t ∷ drop at ts)) i)) [
   | inl j ↦ inl (whole (in_left_part o front back j))
   | inr j ↦ elim (in_parts o (operations_of_taken runs t) back j) [ inl k ↦ inr k | inr k ↦ inl (whole (in_right_part o front back k)) ]
 ]
@@ -64,11 +64,11 @@ one_with runs ts at t o i = elim (in_parts o front (operations_of_taken runs t +
     back : List Operation
     back = operations_in runs (drop at ts)
 
-    whole : IsOneOf o (front ++ back) → IsOneOf o (operations_in runs ts)
-    whole j = subst (λ us. IsOneOf o (operations_in runs us)) (take-append-drop at ts) (subst (IsOneOf o) (sym (operations_in-append runs (take at ts) (drop at ts))) j)
+    whole : IsIn o (front ++ back) → IsIn o (operations_in runs ts)
+    whole j = subst (λ us. IsIn o (operations_in runs us)) (take-append-drop at ts) (subst (IsIn o) (sym (operations_in-append runs (take at ts) (drop at ts))) j)
 
-pub one_stays : (runs : List Run) (ts : List Entry) (at : ℕ) (t : Entry) (o : Operation) → IsOneOf o (operations_in runs ts) → IsOneOf o (operations_in runs (take at ts ++ t ∷ drop at ts))
-one_stays runs ts at t o i = subst (IsOneOf o) (sym (operations_in-append runs (take at ts) (t ∷ drop at ts))) (elim (in_parts o front back parts) [
+pub one_stays : (runs : List Run) (ts : List Entry) (at : ℕ) (t : Entry) (o : Operation) → IsIn o (operations_in runs ts) → IsIn o (operations_in runs (take at ts ++ t ∷ drop at ts))
+one_stays runs ts at t o i = subst (IsIn o) (sym (operations_in-append runs (take at ts) (t ∷ drop at ts))) (elim (in_parts o front back parts) [
   | inl j ↦ in_left_part o front (operations_of_taken runs t ++ back) j
   | inr j ↦ in_right_part o front (operations_of_taken runs t ++ back) (in_right_part o (operations_of_taken runs t) back j)
 ])
@@ -79,11 +79,11 @@ one_stays runs ts at t o i = subst (IsOneOf o) (sym (operations_in-append runs (
     back : List Operation
     back = operations_in runs (drop at ts)
 
-    parts : IsOneOf o (front ++ back)
-    parts = subst (IsOneOf o) (operations_in-append runs (take at ts) (drop at ts)) (subst (λ us. IsOneOf o (operations_in runs us)) (sym (take-append-drop at ts)) i)
+    parts : IsIn o (front ++ back)
+    parts = subst (IsIn o) (operations_in-append runs (take at ts) (drop at ts)) (subst (λ us. IsIn o (operations_in runs us)) (sym (take-append-drop at ts)) i)
 
-pub one_new : (runs : List Run) (ts : List Entry) (at : ℕ) (t : Entry) (o : Operation) → IsOneOf o (operations_of_taken runs t) → IsOneOf o (operations_in runs (take at ts ++ t ∷ drop at ts))
-one_new runs ts at t o i = subst (IsOneOf o) (sym (operations_in-append runs (take at ts) (t ∷ drop at ts)))
+pub one_new : (runs : List Run) (ts : List Entry) (at : ℕ) (t : Entry) (o : Operation) → IsIn o (operations_of_taken runs t) → IsIn o (operations_in runs (take at ts ++ t ∷ drop at ts))
+one_new runs ts at t o i = subst (IsIn o) (sym (operations_in-append runs (take at ts) (t ∷ drop at ts)))
     (in_right_part o (operations_in runs (take at ts)) (operations_of_taken runs t ++ operations_in runs (drop at ts)) (in_left_part o (operations_of_taken runs t) (operations_in runs (drop at ts)) i))
 
 -- ---- units of a run

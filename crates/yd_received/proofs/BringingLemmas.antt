@@ -3,7 +3,7 @@ use Rattle.std.proofs.Common.{◌≡◌, ℕ, zero, suc, ◌+◌, ◌<◌, ◌�
 use Rattle.std.specs.Prelude.{slice_get}
 use Rattle.std.proofs.lemmas.Bool.{true≢false}
 use Rattle.std.proofs.lemmas.List.{take_all}
-use Rattle.yd_words.specs.Member.{IsIn as IsOneOf}
+use Rattle.yd_words.specs.Member.{IsIn}
 use Rattle.yd_ids.specs.declared.id.Id.{Id}
 use Rattle.yd_ops.specs.declared.lists.List.{List as DocList}
 use Rattle.yd_ops.specs.declared.runs.Run.{Run}
@@ -19,7 +19,8 @@ use Rattle.yd_received.specs.Taking.{BringsOne, is_covered, AreCovered, IsRun, I
 use Rattle.yd_received.proofs.PieceLemmas.{part_unit}
 use Rattle.yd_received.proofs.StepLemmas.{walk_known, walk_ends}
 use Rattle.yd_received.proofs.TakenLemmas.{has_covered, grown_each, grown_in}
-use Rattle.yd_received.proofs.UnitLemmas.{later_none, later_later, later_same}
+use Rattle.yd_ops.proofs.OperationLemmas.{later_none, later_later}
+use Rattle.yd_received.proofs.UnitLemmas.{later_same}
 
 -- ---- a run that is kept
 
@@ -62,11 +63,11 @@ module _ (runs : List Run) (taken : List Entry) (run : RunValue) (are : AreTaken
   pub known_brings_none : len_of run.content ≤ known → BringsOne (operations_of_run run) (operations_in runs taken) → ⊥
   known_brings_none all (o, i, none) =
       let (k, lt, e, u) = part_unit run 0 (len_of run.content) o
-      (subst (IsOneOf o) (sym (take_all (len_of run.content) (operations_of_run run) (omega (arith, length-operations_of_run run)))) i) in
+      (subst (IsIn o) (sym (take_all (len_of run.content) (operations_of_run run) (omega (arith, length-operations_of_run run)))) i) in
       true≢false (sym (has_covered runs taken (later_id run.id k) are.each ∙ covered k (omega arith))
       ∙ ap (λ x. has_operation (operations_in runs taken) x) (later_same run.id k (0 + k) (omega arith) ∙ sym e) ∙ none)
 
-unit_there : (id : Id) (left right : Option Id) (list : Option DocList) (units : List UnitContent) (n : ℕ) → n < length units → (o : Operation) × IsOneOf o (operations_from id left right list units) × (o.id ≡ later_id id n)
+unit_there : (id : Id) (left right : Option Id) (list : Option DocList) (units : List UnitContent) (n : ℕ) → n < length units → (o : Operation) × IsIn o (operations_from id left right list units) × (o.id ≡ later_id id n)
 unit_there id left right list [] n lt = absurd (omega arith)
 unit_there id left right list (unit ∷ units) zero lt = (record { id = id; left_origin = left; right_origin = right; list = list; content = unit }, inl refl, sym (later_none id))
 unit_there id left right list (unit ∷ units) (suc n) lt =

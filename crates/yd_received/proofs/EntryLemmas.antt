@@ -10,7 +10,7 @@ use Rattle.yd_ids.proofs.IdLemmas.{same_client}
 use Rattle.yd_ops.specs.Operation.{later_id}
 use Rattle.yd_received.specs.declared.entry.Entry.{Entry}
 use Rattle.yd_received.specs.Entries.{StandsBefore, AreInOrder, covers}
-use Rattle.yd_received.proofs.UnitLemmas.{later_none, later_later}
+use Rattle.yd_ops.proofs.OperationLemmas.{later_none, later_later}
 use Rattle.yd_received.specs.Taking.{is_covered, AreCovered, HasUnits, EndsBy, EndsBehind, ends_by, BeginsBehind, IsRoom, IsGap}
 
 -- what is read of a place without an entry
@@ -88,7 +88,7 @@ covered_at [] n d x lt e = absurd (omega arith)
 covered_at (t ∷ ts) zero d x lt e = or_left (covers t x) (is_covered ts x) e
 covered_at (t ∷ ts) (suc n) d x lt e = or_right (covers t x) (is_covered ts x) (covered_at ts n d x (omega arith) e)
 
-covers_in : (t : Entry) (x : Id) → t.id.client.0 ≡ x.client.0 → t.id.clock ≤ x.clock → x.clock < t.id.clock + t.len → covers t x ≡ true
+pub covers_in : (t : Entry) (x : Id) → t.id.client.0 ≡ x.client.0 → t.id.clock ≤ x.clock → x.clock < t.id.clock + t.len → covers t x ≡ true
 covers_in t x e le lt = grind (arith, tests)
 
 -- ---- lemmas for callers: the ids in a row from one on

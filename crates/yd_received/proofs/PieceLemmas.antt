@@ -2,7 +2,7 @@
 use Rattle.std.proofs.Common.{◌≡◌, ◌↔◌, ℕ, zero, suc, ◌+◌, ◌-◌, ◌<◌, Bool, true, false, List, [], ◌∷◌, length, take, drop, Option, Some, ◌⊎◌, inl, inr, refl, sym, ap, ◌∙◌, subst, arith, length-drop, length-take}
 use Rattle.std.specs.Prelude.{slice_get}
 use Rattle.std.proofs.lemmas.Bool.{cases_lt, cases_Bool, true≢false}
-use Rattle.yd_words.specs.Member.{IsIn as IsOneOf}
+use Rattle.yd_words.specs.Member.{IsIn}
 use Rattle.yd_ids.specs.declared.id.Id.{Id}
 use Rattle.yd_ops.specs.declared.lists.List.{List as DocList}
 use Rattle.yd_ops.specs.Operation.{UnitContent, Operation, later_id, units_of_content, operations_from, operations_of_run, IsHighUnit, IsLowUnit}
@@ -16,7 +16,8 @@ use Rattle.yd_meaning.proofs.PartnerLemmas.{high_unit, low_unit}
 use Rattle.yd_meaning.proofs.PairingLemmas.{high_torn, low_torn, other_torn}
 use Rattle.yd_received.specs.Taking.{PartsPair, left_at, list_from, IsPiece, operations_of_piece}
 use Rattle.yd_received.proofs.CutLemmas.{cut_inside, cut_low, cut_high, low_cut, high_cut}
-use Rattle.yd_received.proofs.UnitLemmas.{later_later, later_same, part_from, from_unit, one_of_take, one_of_drop}
+use Rattle.yd_ops.proofs.OperationLemmas.{later_later}
+use Rattle.yd_received.proofs.UnitLemmas.{later_same, part_from, from_unit, one_of_take, one_of_drop}
 
 -- ---- units of a run by their places
 
@@ -35,18 +36,18 @@ get_in_drop (suc n) (y ∷ ys) i = get_in_drop n ys i ∙ sym (ap (λ k. slice_g
     next = omega arith
 
 -- an operation of so many from unit n on is that of one of these units
-pub part_unit : (run : RunValue) (n count : ℕ) (o : Operation) → IsOneOf o (take count (drop n (operations_of_run run))) →
+pub part_unit : (run : RunValue) (n count : ℕ) (o : Operation) → IsIn o (take count (drop n (operations_of_run run))) →
     (i : ℕ) × (i < count) × (o.id ≡ later_id run.id (n + i)) × (slice_get (units_of_content run.content) (n + i) ≡ Some o.content)
 part_unit run n count o j =
     let (i, lt, e, u) = from_unit (later_id run.id n) (left_at run.id run.left n) run.right (list_from run.list n) (take count (drop n (units_of_content run.content))) o
-    (subst (IsOneOf o) (part_from n count run.id run.left run.right run.list (units_of_content run.content)) j) in (
+    (subst (IsIn o) (part_from n count run.id run.left run.right run.list (units_of_content run.content)) j) in (
       i,
       omega (arith, length-take count (drop n (units_of_content run.content))),
       e ∙ later_later run.id n i,
       sym (get_in_drop n (units_of_content run.content) i) ∙ get_in_take count (drop n (units_of_content run.content)) i o.content u,
     )
 
-pub part_in_run : (run : RunValue) (n count : ℕ) (o : Operation) → IsOneOf o (take count (drop n (operations_of_run run))) → IsOneOf o (operations_of_run run)
+pub part_in_run : (run : RunValue) (n count : ℕ) (o : Operation) → IsIn o (take count (drop n (operations_of_run run))) → IsIn o (operations_of_run run)
 part_in_run run n count o j = one_of_drop n (operations_of_run run) o (one_of_take count (drop n (operations_of_run run)) o j)
 
 -- ---- torn halves
@@ -61,7 +62,7 @@ module _ (run : RunValue) (old : List Operation) (valid : IsValidContent run.con
   IsUnit n o = slice_get (units_of_content run.content) n ≡ Some o.content
 
   -- none of whole pairs is torn
-  pub whole_not_torn : IsPiece run.content from (from + new) count false → (o : Operation) → IsOneOf o (take count (drop from whole)) →
+  pub whole_not_torn : IsPiece run.content from (from + new) count false → (o : Operation) → IsIn o (take count (drop from whole)) →
       is_torn whole old o ≡ false
   whole_not_torn piece o j =
       let (i, lt, e, u) = part_unit run from count o j in
@@ -98,7 +99,7 @@ module _ (run : RunValue) (old : List Operation) (valid : IsValidContent run.con
   pub half_is_torn : IsPiece run.content from (from + new) count true →
       (PartsPair run.content from → (k : ℕ) → from ≡ k + 1 → has_operation old (later_id run.id k) ≡ true) →
       (from + new < len_of run.content → has_operation old (later_id run.id (from + new)) ≡ true) →
-      (o : Operation) → IsOneOf o (take count (drop from whole)) → is_torn whole old o ≡ true
+      (o : Operation) → IsIn o (take count (drop from whole)) → is_torn whole old o ≡ true
   half_is_torn piece before behind o j =
       let (i, lt, e, u) = part_unit run from count o j in
       let first : i ≡ 0 = omega (arith, (piece.torn refl).0) in
@@ -124,22 +125,22 @@ module _ (run : RunValue) (old : List Operation) (valid : IsValidContent run.con
 -- ---- what is taken
 
 one_as_half : (id : Id) (left right : Option Id) (list : Option DocList) (units : List UnitContent) (half : UnitContent) → 0 < length units → (q : Operation) →
-    IsOneOf q (record { id = id; left_origin = left; right_origin = right; list = list; content = half } ∷ []) →
-    (o : Operation) × IsOneOf o (operations_from id left right list (take 1 units)) × (q ≡ record { id = o.id; left_origin = o.left_origin; right_origin = o.right_origin; list = o.list; content = half })
+    IsIn q (record { id = id; left_origin = left; right_origin = right; list = list; content = half } ∷ []) →
+    (o : Operation) × IsIn o (operations_from id left right list (take 1 units)) × (q ≡ record { id = o.id; left_origin = o.left_origin; right_origin = o.right_origin; list = o.list; content = half })
 one_as_half id left right list [] half some q i = absurd (omega arith)
 one_as_half id left right list (unit ∷ units) half some q (inl e) = (record { id = id; left_origin = left; right_origin = right; list = list; content = unit }, inl refl, e)
 one_as_half id left right list (unit ∷ units) half some q (inr i) = absurd i
 
-half_as_one : (id : Id) (left right : Option Id) (list : Option DocList) (units : List UnitContent) (half : UnitContent) (o : Operation) → IsOneOf o (operations_from id left right list (take 1 units)) →
-    IsOneOf {X = Operation} (record { id = o.id; left_origin = o.left_origin; right_origin = o.right_origin; list = o.list; content = half }) (record { id = id; left_origin = left; right_origin = right; list = list; content = half } ∷ [])
+half_as_one : (id : Id) (left right : Option Id) (list : Option DocList) (units : List UnitContent) (half : UnitContent) (o : Operation) → IsIn o (operations_from id left right list (take 1 units)) →
+    IsIn {X = Operation} (record { id = o.id; left_origin = o.left_origin; right_origin = o.right_origin; list = o.list; content = half }) (record { id = id; left_origin = left; right_origin = right; list = list; content = half } ∷ [])
 half_as_one id left right list [] half o i = absurd i
 half_as_one id left right list (unit ∷ units) half o (inl e) = inl (ap (λ (p : Operation). record { id = p.id; left_origin = p.left_origin; right_origin = p.right_origin; list = p.list; content = half }) e)
 half_as_one id left right list (unit ∷ units) half o (inr i) = absurd i
 
 -- the operations of a piece are those of the run, or the half torn
 pub piece_taken : (run : RunValue) (from count : ℕ) (torn : Bool) → (torn ≡ true → count ≡ 1) → from < len_of run.content → (q : Operation) →
-    IsOneOf q (operations_of_piece run from count torn) ↔ ((o : Operation) × IsOneOf o (take count (drop from (operations_of_run run))) × (q ≡ as_taken torn o))
-piece_taken run from count false one lt q = ((λ i. (q, i, refl)), (λ found. let (o, i, e) = found in subst (λ p. IsOneOf p (take count (drop from (operations_of_run run)))) (sym e) i))
+    IsIn q (operations_of_piece run from count torn) ↔ ((o : Operation) × IsIn o (take count (drop from (operations_of_run run))) × (q ≡ as_taken torn o))
+piece_taken run from count false one lt q = ((λ i. (q, i, refl)), (λ found. let (o, i, e) = found in subst (λ p. IsIn p (take count (drop from (operations_of_run run)))) (sym e) i))
 piece_taken run from count true one lt q = (there, back)
   where
     some : 0 < length (drop from (units_of_content run.content))
@@ -148,11 +149,11 @@ piece_taken run from count true one lt q = (there, back)
     part : take count (drop from (operations_of_run run)) ≡ operations_from (later_id run.id from) (left_at run.id run.left from) run.right (list_from run.list from) (take 1 (drop from (units_of_content run.content)))
     part = ap (λ n. take n (drop from (operations_of_run run))) (one refl) ∙ part_from from 1 run.id run.left run.right run.list (units_of_content run.content)
 
-    there : IsOneOf q (operations_of_piece run from count true) → (o : Operation) × IsOneOf o (take count (drop from (operations_of_run run))) × (q ≡ as_taken true o)
+    there : IsIn q (operations_of_piece run from count true) → (o : Operation) × IsIn o (take count (drop from (operations_of_run run))) × (q ≡ as_taken true o)
     there i =
         let (o, j, e) = one_as_half (later_id run.id from) (left_at run.id run.left from) run.right (list_from run.list from) (drop from (units_of_content run.content)) _ some q i in
-        (o, subst (IsOneOf o) (sym part) j, e)
+        (o, subst (IsIn o) (sym part) j, e)
 
-    back : (o : Operation) × IsOneOf o (take count (drop from (operations_of_run run))) × (q ≡ as_taken true o) → IsOneOf q (operations_of_piece run from count true)
-    back (o, j, e) = subst (λ p. IsOneOf p (operations_of_piece run from count true)) (sym e)
-        (half_as_one (later_id run.id from) (left_at run.id run.left from) run.right (list_from run.list from) (drop from (units_of_content run.content)) _ o (subst (IsOneOf o) part j))
+    back : (o : Operation) × IsIn o (take count (drop from (operations_of_run run))) × (q ≡ as_taken true o) → IsIn q (operations_of_piece run from count true)
+    back (o, j, e) = subst (λ p. IsIn p (operations_of_piece run from count true)) (sym e)
+        (half_as_one (later_id run.id from) (left_at run.id run.left from) run.right (list_from run.list from) (drop from (units_of_content run.content)) _ o (subst (IsIn o) part j))

@@ -5,7 +5,7 @@ use Rattle.std.proofs.lemmas.Bool.{cases_Bool, true≢false, false_from_ne_true,
 use Rattle.std.proofs.lemmas.List.{take_all}
 use Rattle.std.proofs.lemmas.Option.{slice_get_within}
 use Rattle.yd_words.specs.Each.{Each}
-use Rattle.yd_words.specs.Member.{IsIn as IsOneOf}
+use Rattle.yd_words.specs.Member.{IsIn}
 use Rattle.yd_words.proofs.EachLemmas.{each_weaker}
 use Rattle.yd_ids.specs.declared.id.Id.{Id}
 use Rattle.yd_ops.specs.declared.runs.Run.{Run}
@@ -25,7 +25,8 @@ use Rattle.yd_received.proofs.CutLemmas.{cut_inside}
 use Rattle.yd_received.proofs.EntryLemmas.{room_is_free}
 use Rattle.yd_received.proofs.PieceLemmas.{part_unit, whole_not_torn, half_is_torn, piece_taken}
 use Rattle.yd_received.proofs.TakenLemmas.{grown_get, grown_each, grown_in, grow_none, grow_more, in_written}
-use Rattle.yd_received.proofs.UnitLemmas.{later_none, later_later, later_same}
+use Rattle.yd_ops.proofs.OperationLemmas.{later_none, later_later}
+use Rattle.yd_received.proofs.UnitLemmas.{later_same}
 use Rattle.yd_received.proofs.WalkLemmas.{IsWalked, covered_known, free_unknown, front_more, part_more, parts_of, walk_passed}
 
 room_less : (taken : List Entry) (at : ℕ) (id : Id) (count new : ℕ) → count ≤ new → IsRoom taken at id new → IsRoom taken at id count
@@ -56,7 +57,7 @@ module _ (run : RunValue) (old_runs : List Run) (old_taken : List Entry) (runs :
   behind less = covered_known run old_runs old_taken runs taken from walked (from + next.new) (omega arith)
       (subst (λ x. is_covered taken x ≡ true) (later_later run.id from next.new) (next.gap.ends (omega arith)))
 
-  torn_alike : (torn : Bool) → IsPiece run.content from (from + next.new) count torn → (o : Operation) → IsOneOf o (take count (drop from whole)) →
+  torn_alike : (torn : Bool) → IsPiece run.content from (from + next.new) count torn → (o : Operation) → IsIn o (take count (drop from whole)) →
       is_torn whole old o ≡ torn
   torn_alike true piece o i = half_is_torn run old is.valid.content paired from next.new count free piece (λ cut k e. walked.cut cut none k e) behind o i
     where
@@ -68,7 +69,7 @@ module _ (run : RunValue) (old_runs : List Run) (old_taken : List Entry) (runs :
   one e = (next.piece.torn e).0
 
   -- what is taken of the piece
-  piece_is : (q : Operation) → IsOneOf q (operations_of_piece run from count next.torn) → IsTakenFrom whole old (take (from + count) whole) q
+  piece_is : (q : Operation) → IsIn q (operations_of_piece run from count next.torn) → IsTakenFrom whole old (take (from + count) whole) q
   piece_is q i =
       let (o, j, e) = (piece_taken run from count next.torn one lt q).0 i in
       let (k, less, x, u) = part_unit run from count o j in (
@@ -78,31 +79,31 @@ module _ (run : RunValue) (old_runs : List Run) (old_taken : List Entry) (runs :
         e ∙ ap (λ t. as_taken t o) (sym (torn_alike next.torn next.piece o j)),
       )
 
-  is_piece : (o q : Operation) → IsOneOf o (take count (drop from whole)) → q ≡ as_taken (is_torn whole old o) o →
-      IsOneOf q (operations_of_piece run from count next.torn)
+  is_piece : (o q : Operation) → IsIn o (take count (drop from whole)) → q ≡ as_taken (is_torn whole old o) o →
+      IsIn q (operations_of_piece run from count next.torn)
   is_piece o q j e = (piece_taken run from count next.torn one lt q).1 (o, j, e ∙ ap (λ t. as_taken t o) (torn_alike next.torn next.piece o j))
 
-  there : (q : Operation) → IsOneOf q (operations_in new_runs new_taken) →
-      IsOneOf q old ⊎ IsTakenFrom whole old (take (from + count) whole) q
-  there q i = elim (one_with new_runs taken next.at next.adds.entry q (subst (λ ts. IsOneOf q (operations_in new_runs ts)) next.adds.placed i)) [
-    | inl j ↦ elim ((walked.operations q).0 (subst (IsOneOf q) (grown_in runs new_runs taken next.adds.grows walked.each) j)) [
+  there : (q : Operation) → IsIn q (operations_in new_runs new_taken) →
+      IsIn q old ⊎ IsTakenFrom whole old (take (from + count) whole) q
+  there q i = elim (one_with new_runs taken next.at next.adds.entry q (subst (λ ts. IsIn q (operations_in new_runs ts)) next.adds.placed i)) [
+    | inl j ↦ elim ((walked.operations q).0 (subst (IsIn q) (grown_in runs new_runs taken next.adds.grows walked.each) j)) [
       | inl k ↦ inl k
       | inr (o, k, none, e) ↦ inr (o, front_more run old_runs old_taken runs taken from walked count o k, none, e)
     ]
-    | inr j ↦ inr (piece_is q (subst (IsOneOf q) next.adds.operations j))
+    | inr j ↦ inr (piece_is q (subst (IsIn q) next.adds.operations j))
   ]
 
-  stays : (q : Operation) → IsOneOf q (operations_in runs taken) → IsOneOf q (operations_in new_runs new_taken)
-  stays q i = subst (λ ts. IsOneOf q (operations_in new_runs ts)) (sym next.adds.placed)
-      (one_stays new_runs taken next.at next.adds.entry q (subst (IsOneOf q) (sym (grown_in runs new_runs taken next.adds.grows walked.each)) i))
+  stays : (q : Operation) → IsIn q (operations_in runs taken) → IsIn q (operations_in new_runs new_taken)
+  stays q i = subst (λ ts. IsIn q (operations_in new_runs ts)) (sym next.adds.placed)
+      (one_stays new_runs taken next.at next.adds.entry q (subst (IsIn q) (sym (grown_in runs new_runs taken next.adds.grows walked.each)) i))
 
-  back : (q : Operation) → IsOneOf q old ⊎ IsTakenFrom whole old (take (from + count) whole) q →
-      IsOneOf q (operations_in new_runs new_taken)
+  back : (q : Operation) → IsIn q old ⊎ IsTakenFrom whole old (take (from + count) whole) q →
+      IsIn q (operations_in new_runs new_taken)
   back q (inl i) = stays q ((walked.operations q).1 (inl i))
   back q (inr (o, i, none, e)) = elim (parts_of run old_runs old_taken runs taken from walked count o i) [
     | inl j ↦ stays q ((walked.operations q).1 (inr (o, j, none, e)))
-    | inr j ↦ subst (λ ts. IsOneOf q (operations_in new_runs ts)) (sym next.adds.placed)
-        (one_new new_runs taken next.at next.adds.entry q (subst (IsOneOf q) (sym next.adds.operations) (is_piece o q j e)))
+    | inr j ↦ subst (λ ts. IsIn q (operations_in new_runs ts)) (sym next.adds.placed)
+        (one_new new_runs taken next.at next.adds.entry q (subst (IsIn q) (sym next.adds.operations) (is_piece o q j e)))
   ]
 
   room : IsRoom taken next.at next.adds.entry.id next.adds.entry.len
@@ -214,4 +215,4 @@ walk_ends run old_runs old_taken runs taken from is are walked all = record {
 
     received : operations_in runs taken ≡ with_run run (operations_in old_runs old_taken)
     received = with_run_alone run (operations_in old_runs old_taken) (operations_in runs taken) written (in_written runs taken walked.each walked.in_order)
-        (λ q. subst (λ os. IsOneOf q (operations_in runs taken) ↔ (IsOneOf q (operations_in old_runs old_taken) ⊎ IsTakenFrom (operations_of_run run) (operations_in old_runs old_taken) os q)) whole (walked.operations q))
+        (λ q. subst (λ os. IsIn q (operations_in runs taken) ↔ (IsIn q (operations_in old_runs old_taken) ⊎ IsTakenFrom (operations_of_run run) (operations_in old_runs old_taken) os q)) whole (walked.operations q))

@@ -2,7 +2,7 @@
 use Rattle.std.proofs.Common.{◌≡◌, ℕ, zero, suc, ◌+◌, ◌<◌, ◌≤◌, true, ◌||◌, ◌&&◌, nat_eq, nat_le, nat_lt, List, [], ◌∷◌, ◌++◌, length, take, drop, min, Option, Some, None, inl, inr, refl, sym, ap, ◌∙◌, subst, arith, tests, append_assoc, append-nil, length-append, length-drop, length-take}
 use Rattle.std.specs.Prelude.{slice_get, IfSome}
 use Rattle.yd_words.specs.Each.{Each}
-use Rattle.yd_words.specs.Member.{IsIn as IsOneOf}
+use Rattle.yd_words.specs.Member.{IsIn}
 use Rattle.yd_words.proofs.EachLemmas.{each_weaker}
 use Rattle.yd_words.proofs.MemberLemmas.{in_parts}
 use Rattle.yd_ids.specs.declared.id.Id.{Id}
@@ -33,7 +33,7 @@ has_taken runs t x is =
     ∙ ap (λ n. nat_eq t.id.client.0 x.client.0 && (nat_le t.id.clock x.clock && nat_lt x.clock (t.id.clock + n))) (units_taken runs t is)
 
 -- an operation of an entry has one of its ids
-pub taken_id : (runs : List Run) (t : Entry) (o : Operation) → IsTakenOf runs t → IsOneOf o (operations_of_taken runs t) → (i : ℕ) × (i < t.len) × (o.id ≡ later_id t.id i)
+pub taken_id : (runs : List Run) (t : Entry) (o : Operation) → IsTakenOf runs t → IsIn o (operations_of_taken runs t) → (i : ℕ) × (i < t.len) × (o.id ≡ later_id t.id i)
 taken_id runs t o is j =
     let (i, lt, e, u) = from_unit t.id t.left t.right (list_at (slice_get runs t.run) t.offset) (take t.len (drop t.offset (units_of (slice_get runs t.run)))) o j in
     (i, omega (arith, units_taken runs t is), e)
@@ -56,7 +56,7 @@ before_in s t i j (inl lt) less = grind (arith, tests)
 before_in s t i j (inr (same, le)) less = let e : s.id.client.0 ≡ t.id.client.0 = ap (λ c. c.0) same in grind (arith, tests)
 
 before_all : (runs : List Run) (s : Entry) (ts : List Entry) (o p : Operation) → IsTakenOf runs s → Each (IsTakenOf runs) ts → Each (StandsBefore s) ts →
-    IsOneOf o (operations_of_taken runs s) → IsOneOf p (operations_in runs ts) → is_written_before o.id p.id ≡ true
+    IsIn o (operations_of_taken runs s) → IsIn p (operations_in runs ts) → is_written_before o.id p.id ≡ true
 before_all runs s [] o p is each before i j = absurd j
 before_all runs s (t ∷ ts) o p is each before i j = elim (in_parts p (operations_of_taken runs t) (operations_in runs ts) j) [
   | inl k ↦
@@ -66,7 +66,7 @@ before_all runs s (t ∷ ts) o p is each before i j = elim (in_parts p (operatio
   | inr k ↦ before_all runs s ts o p is each.1 before.1 i k
 ]
 
-written_both : (os ps : List Operation) → IsWritten os → IsWritten ps → ((o p : Operation) → IsOneOf o os → IsOneOf p ps → is_written_before o.id p.id ≡ true) → IsWritten (os ++ ps)
+written_both : (os ps : List Operation) → IsWritten os → IsWritten ps → ((o p : Operation) → IsIn o os → IsIn p ps → is_written_before o.id p.id ≡ true) → IsWritten (os ++ ps)
 written_both [] ps v w before = w
 written_both (o ∷ os) ps v w before = (
   (λ p i. elim (in_parts p os ps i) [ inl j ↦ v.0 p j | inr j ↦ before o p (inl refl) j ]),

@@ -1,21 +1,16 @@
 -- The operations of units in a row: a part of them, and their ids.
 use Rattle.std.proofs.Common.{◌≡◌, ℕ, zero, suc, ◌+◌, ◌<◌, Bool, true, false, ◌||◌, ◌&&◌, nat_eq, nat_le, nat_lt, List, [], ◌∷◌, ◌++◌, length, take, drop, Option, Some, None, inl, inr, refl, sym, ap, ◌∙◌, arith, tests}
 use Rattle.std.specs.Prelude.{slice_get}
-use Rattle.yd_words.specs.Member.{IsIn as IsOneOf}
+use Rattle.yd_words.specs.Member.{IsIn}
 use Rattle.yd_ids.specs.declared.id.Id.{Id}
 use Rattle.yd_ids.specs.Ids.{is_same}
 use Rattle.yd_ops.specs.declared.lists.List.{List as DocList}
 use Rattle.yd_ops.specs.Operation.{UnitContent, Operation, later_id, operations_from}
+use Rattle.yd_ops.proofs.OperationLemmas.{later_none, later_later}
 use Rattle.yd_meaning.specs.Received.{has_operation}
 use Rattle.yd_received.specs.Taking.{left_at, list_from}
 
 -- ---- ids in a row
-
-pub later_none : (id : Id) → later_id id 0 ≡ id
-later_none id = ap (λ (c : ℕ). record { client = id.client; clock = c }) (omega arith)
-
-pub later_later : (id : Id) (i k : ℕ) → later_id (later_id id i) k ≡ later_id id (i + k)
-later_later id i k = ap (λ (c : ℕ). record { client = id.client; clock = c }) (omega arith)
 
 pub later_same : (id : Id) (i k : ℕ) → i ≡ k → later_id id i ≡ later_id id k
 later_same id i k e = ap (λ (n : ℕ). later_id id n) e
@@ -60,7 +55,7 @@ part_from n count id left right list units =
 -- ---- each of them
 
 -- an operation is that of a unit
-pub from_unit : (id : Id) (left right : Option Id) (list : Option DocList) (units : List UnitContent) (o : Operation) → IsOneOf o (operations_from id left right list units) →
+pub from_unit : (id : Id) (left right : Option Id) (list : Option DocList) (units : List UnitContent) (o : Operation) → IsIn o (operations_from id left right list units) →
     (i : ℕ) × (i < length units) × (o.id ≡ later_id id i) × (slice_get units i ≡ Some o.content)
 from_unit id left right list [] o j = absurd j
 from_unit id left right list (unit ∷ units) o (inl e) = (0, omega arith, ap (λ (r : Operation). r.id) e ∙ sym (later_none id), ap (λ (r : Operation). Some r.content) (sym e))
@@ -91,13 +86,13 @@ has_parts (o ∷ os) ps x = ap (λ t. is_same o.id x || t) (has_parts os ps x) �
     or_or true b c = refl
     or_or false b c = refl
 
-pub one_of_take : (n : ℕ) (os : List Operation) (o : Operation) → IsOneOf o (take n os) → IsOneOf o os
+pub one_of_take : (n : ℕ) (os : List Operation) (o : Operation) → IsIn o (take n os) → IsIn o os
 one_of_take zero os o i = absurd i
 one_of_take (suc n) [] o i = absurd i
 one_of_take (suc n) (p ∷ ps) o (inl e) = inl e
 one_of_take (suc n) (p ∷ ps) o (inr i) = inr (one_of_take n ps o i)
 
-pub one_of_drop : (n : ℕ) (os : List Operation) (o : Operation) → IsOneOf o (drop n os) → IsOneOf o os
+pub one_of_drop : (n : ℕ) (os : List Operation) (o : Operation) → IsIn o (drop n os) → IsIn o os
 one_of_drop zero os o i = i
 one_of_drop (suc n) [] o i = i
 one_of_drop (suc n) (p ∷ ps) o i = inr (one_of_drop n ps o i)

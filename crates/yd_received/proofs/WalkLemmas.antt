@@ -4,7 +4,7 @@ use Rattle.std.specs.Prelude.{filter}
 use Rattle.std.proofs.Math.Seq.{take-add}
 use Rattle.std.proofs.lemmas.Bool.{true≢false, false_from_ne_true}
 use Rattle.yd_words.specs.Each.{Each}
-use Rattle.yd_words.specs.Member.{IsIn as IsOneOf}
+use Rattle.yd_words.specs.Member.{IsIn}
 use Rattle.yd_words.proofs.MemberLemmas.{in_left_part, in_right_part, in_parts}
 use Rattle.yd_ids.specs.declared.id.Id.{Id}
 use Rattle.yd_ops.specs.declared.runs.Run.{Run}
@@ -18,7 +18,8 @@ use Rattle.yd_received.specs.Entries.{IsTakenOf, AreInOrder, operations_in, is_h
 use Rattle.yd_received.specs.Taking.{is_covered, AreCovered, PartsPair}
 use Rattle.yd_received.proofs.PieceLemmas.{part_unit}
 use Rattle.yd_received.proofs.TakenLemmas.{has_covered}
-use Rattle.yd_received.proofs.UnitLemmas.{later_later, later_same, later_one}
+use Rattle.yd_ops.proofs.OperationLemmas.{later_later}
+use Rattle.yd_received.proofs.UnitLemmas.{later_same, later_one}
 
 -- what is taken where the units of a run before this one are taken in: of what was there before the run nothing changes
 pub record IsWalked (run : RunValue) (old_runs : List Run) (old_taken : List Entry) (runs : List Run) (taken : List Entry) (from : ℕ) : Type 0 where
@@ -26,8 +27,8 @@ pub record IsWalked (run : RunValue) (old_runs : List Run) (old_taken : List Ent
   pub grows : GrowBy old_runs runs
   pub each : Each (IsTakenOf runs) taken
   pub in_order : AreInOrder taken
-  pub operations : (q : Operation) → IsOneOf q (operations_in runs taken) ↔
-      (IsOneOf q (operations_in old_runs old_taken) ⊎ IsTakenFrom (operations_of_run run) (operations_in old_runs old_taken) (take from (operations_of_run run)) q)
+  pub operations : (q : Operation) → IsIn q (operations_in runs taken) ↔
+      (IsIn q (operations_in old_runs old_taken) ⊎ IsTakenFrom (operations_of_run run) (operations_in old_runs old_taken) (take from (operations_of_run run)) q)
   pub held : filter is_held taken ≡ filter is_held old_taken
   pub cut : PartsPair run.content from → has_operation (operations_in old_runs old_taken) (later_id run.id from) ≡ false →
       (k : ℕ) → from ≡ k + 1 → has_operation (operations_in old_runs old_taken) (later_id run.id k) ≡ true
@@ -58,14 +59,14 @@ module _ (run : RunValue) (old_runs : List Run) (old_taken : List Entry) (runs :
       true≢false (sym (ids_stay old (operations_in runs taken) x (λ q i. (walked.operations q).1 (inl i)) e) ∙ has_covered runs taken x walked.each ∙ free))
 
   -- operations of the run up to a later unit
-  pub front_more : (count : ℕ) (o : Operation) → IsOneOf o (take from whole) → IsOneOf o (take (from + count) whole)
-  front_more count o i = subst (IsOneOf o) (sym (take-add from count whole)) (in_left_part o (take from whole) (take count (drop from whole)) i)
+  pub front_more : (count : ℕ) (o : Operation) → IsIn o (take from whole) → IsIn o (take (from + count) whole)
+  front_more count o i = subst (IsIn o) (sym (take-add from count whole)) (in_left_part o (take from whole) (take count (drop from whole)) i)
 
-  pub part_more : (count : ℕ) (o : Operation) → IsOneOf o (take count (drop from whole)) → IsOneOf o (take (from + count) whole)
-  part_more count o i = subst (IsOneOf o) (sym (take-add from count whole)) (in_right_part o (take from whole) (take count (drop from whole)) i)
+  pub part_more : (count : ℕ) (o : Operation) → IsIn o (take count (drop from whole)) → IsIn o (take (from + count) whole)
+  part_more count o i = subst (IsIn o) (sym (take-add from count whole)) (in_right_part o (take from whole) (take count (drop from whole)) i)
 
-  pub parts_of : (count : ℕ) (o : Operation) → IsOneOf o (take (from + count) whole) → IsOneOf o (take from whole) ⊎ IsOneOf o (take count (drop from whole))
-  parts_of count o i = in_parts o (take from whole) (take count (drop from whole)) (subst (IsOneOf o) (take-add from count whole) i)
+  pub parts_of : (count : ℕ) (o : Operation) → IsIn o (take (from + count) whole) → IsIn o (take from whole) ⊎ IsIn o (take count (drop from whole))
+  parts_of count o i = in_parts o (take from whole) (take count (drop from whole)) (subst (IsIn o) (take-add from count whole) i)
 
   -- ---- units that were taken before
 
@@ -83,12 +84,12 @@ module _ (run : RunValue) (old_runs : List Run) (old_taken : List Entry) (runs :
       known : (i : ℕ) → i < count → has_operation old (later_id run.id (from + i)) ≡ true
       known i lt = covered_known (from + i) (omega arith) (subst (λ x. is_covered taken x ≡ true) (later_later run.id from i) (covered i lt))
 
-      there : (q : Operation) → IsOneOf q (operations_in runs taken) →
-          IsOneOf q old ⊎ IsTakenFrom whole old (take (from + count) whole) q
+      there : (q : Operation) → IsIn q (operations_in runs taken) →
+          IsIn q old ⊎ IsTakenFrom whole old (take (from + count) whole) q
       there q i = elim ((walked.operations q).0 i) [ inl j ↦ inl j | inr (o, j, none, e) ↦ inr (o, front_more count o j, none, e) ]
 
-      back : (q : Operation) → IsOneOf q old ⊎ IsTakenFrom whole old (take (from + count) whole) q →
-          IsOneOf q (operations_in runs taken)
+      back : (q : Operation) → IsIn q old ⊎ IsTakenFrom whole old (take (from + count) whole) q →
+          IsIn q (operations_in runs taken)
       back q (inl i) = (walked.operations q).1 (inl i)
       back q (inr (o, i, none, e)) = elim (parts_of count o i) [
         | inl j ↦ (walked.operations q).1 (inr (o, j, none, e))

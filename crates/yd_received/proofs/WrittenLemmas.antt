@@ -2,7 +2,7 @@
 use Rattle.std.proofs.Common.{◌≡◌, ℕ, ◌+◌, ◌<◌, ◌≤◌, List, [], ◌∷◌, Option, Some, None, inl, inr, take, drop, length, ap, subst, arith}
 use Rattle.std.specs.Prelude.{filter, slice_get}
 use Rattle.yd_words.specs.Each.{Each}
-use Rattle.yd_words.specs.Member.{IsIn as IsOneOf}
+use Rattle.yd_words.specs.Member.{IsIn}
 use Rattle.yd_words.proofs.MemberLemmas.{in_parts}
 use Rattle.yd_ids.specs.declared.id.Id.{Id}
 use Rattle.yd_ops.specs.declared.lists.List.{List as DocList}
@@ -18,7 +18,7 @@ use Rattle.yd_received.proofs.TakenLemmas.{units_taken, in_written}
 
 -- what is true of the operations of each entry is true of all operations
 pub each_operation : (runs : List Run) (P : Operation → Type 0) (ts : List Entry) →
-    Each (λ (t : Entry). (o : Operation) → IsOneOf o (operations_of_taken runs t) → P o) ts → (o : Operation) → IsOneOf o (operations_in runs ts) → P o
+    Each (λ (t : Entry). (o : Operation) → IsIn o (operations_of_taken runs t) → P o) ts → (o : Operation) → IsIn o (operations_in runs ts) → P o
 each_operation runs P [] each o i = absurd i
 each_operation runs P (t ∷ ts) each o i = elim (in_parts o (operations_of_taken runs t) (operations_in runs ts) i) [
   | inl j ↦ each.0 o j
@@ -34,7 +34,7 @@ pub record IsFrom (id : Id) (count : ℕ) (x : Id) : Type 0 where
   pub high : x.clock < id.clock + count
 
 pub from_here : (id : Id) (left right : Option Id) (list : Option DocList) (units : List UnitContent) (o : Operation) →
-    IsOneOf o (operations_from id left right list units) → IsFrom id (length units) o.id
+    IsIn o (operations_from id left right list units) → IsFrom id (length units) o.id
 from_here id left right list [] o i = absurd i
 from_here id left right list (unit ∷ units) o (inl e) = let clock : o.id.clock ≡ id.clock = ap (λ q. q.id.clock) e in
     record { client = ap (λ q. q.id.client) e; low = omega arith; high = omega arith }
@@ -44,7 +44,7 @@ from_here id left right list (unit ∷ units) o (inr i) = let later = from_here 
 -- ---- lemmas for callers
 
 -- the ids of its operations are those of its units
-pub taken_from : (runs : List Run) (t : Entry) → IsTakenOf runs t → (o : Operation) → IsOneOf o (operations_of_taken runs t) → IsFrom t.id t.len o.id
+pub taken_from : (runs : List Run) (t : Entry) → IsTakenOf runs t → (o : Operation) → IsIn o (operations_of_taken runs t) → IsFrom t.id t.len o.id
 taken_from runs t is o i = subst (λ n. IsFrom t.id n o.id) (units_taken runs t is)
     (from_here t.id t.left t.right (list_at (slice_get runs t.run) t.offset) (take t.len (drop t.offset (units_of (slice_get runs t.run)))) o i)
 

@@ -1,7 +1,7 @@
 -- What an update brings that was not received before, and how its runs are taken in, unit after unit (own).
 use Rattle.std.specs.Prelude.{◌≡◌, ℕ, zero, suc, ◌+◌, ◌-◌, ◌<◌, ◌≤◌, ◌⊎◌, Bool, true, false, ◌&&◌, ◌||◌, nat_eq, nat_le, nat_lt, List, [], ◌∷◌, ◌++◌, Option, Some, None, length, take, drop, filter, slice_get}
 use Rattle.yd_words.specs.Each.{Each}
-use Rattle.yd_words.specs.Member.{IsIn as IsOneOf}
+use Rattle.yd_words.specs.Member.{IsIn}
 use Rattle.yd_ids.specs.declared.id.Id.{Id}
 use Rattle.yd_ids.specs.Id.{IsClient, IsClock}
 use Rattle.yd_units.specs.Half.{IsCut}
@@ -17,7 +17,7 @@ use Rattle.yd_received.specs.Entries.{AreTaken, IsTakenOf, operations_of_taken, 
 
 -- one of the operations has an id that no received operation has
 abbrev pub BringsOne : List Operation → List Operation → Type 0
-BringsOne os received = (o : Operation) × IsOneOf o os × (has_operation received o.id ≡ false)
+BringsOne os received = (o : Operation) × IsIn o os × (has_operation received o.id ≡ false)
 
 -- an operation of the update has an id that no received operation has
 abbrev pub BringsOperation : UpdateValue → List Operation → Type 0
