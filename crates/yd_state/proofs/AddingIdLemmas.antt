@@ -3,6 +3,7 @@ use Rattle.std.proofs.Common.{◌≡◌, ℕ, ◌+◌, ◌<◌, List, [], ◌∷
 use Rattle.std.specs.Prelude.{◌↔◌}
 use Rattle.std.proofs.lemmas.List.{take_more}
 use Rattle.yd_words.specs.Member.{IsIn}
+use Rattle.yd_words.proofs.MemberLemmas.{in_left_part, in_right_part, in_parts}
 use Rattle.yd_words.proofs.TestLemmas.{split}
 use Rattle.yd_ids.specs.declared.id.Id.{Id}
 use Rattle.yd_ids.specs.declared.id.Span.{Span}
@@ -20,22 +21,6 @@ pub record IsAdding (old new : List Span) (span : Span) (ids : List Id) : Type 0
 -- what is read of a place without an id
 abbrev pub no_id : Id
 no_id = record { client = record { 0 = 0 }; clock = 0 }
-
--- ---- ids in a list
-
-in_front : (x : Id) (xs ys : List Id) → IsIn x xs → IsIn x (xs ++ ys)
-in_front x [] ys i = absurd i
-in_front x (z ∷ zs) ys (inl e) = inl e
-in_front x (z ∷ zs) ys (inr i) = inr (in_front x zs ys i)
-
-in_back : (x : Id) (xs ys : List Id) → IsIn x ys → IsIn x (xs ++ ys)
-in_back x [] ys i = i
-in_back x (z ∷ zs) ys i = inr (in_back x zs ys i)
-
-in_either : (x : Id) (xs ys : List Id) → IsIn x (xs ++ ys) → IsIn x xs ⊎ IsIn x ys
-in_either x [] ys i = inr i
-in_either x (z ∷ zs) ys (inl e) = inl (inl e)
-in_either x (z ∷ zs) ys (inr i) = elim (in_either x zs ys i) [ inl j ↦ inl (inr j) | inr j ↦ inr j ]
 
 -- ---- the span that is still to be added
 
@@ -82,12 +67,12 @@ adding_longer old now span ids index d within so_far is client clock = subst (Is
           | inl j ↦ more_left x ((so_far.all x).0 (inl j))
           | inr j ↦ elim ((in_longer span id x client clock).0 j) [
             | inl k ↦ more_left x ((so_far.all x).0 (inr k))
-            | inr k ↦ inr (in_back x front (id ∷ []) (inl (in_one id x k)))
+            | inr k ↦ inr (in_right_part x front (id ∷ []) (inl (in_one id x k)))
           ]
         ]),
         (λ b. elim b [
           | inl j ↦ with_longer x ((so_far.all x).1 (inl j))
-          | inr j ↦ elim (in_either x front (id ∷ []) j) [
+          | inr j ↦ elim (in_parts x front (id ∷ []) j) [
             | inl k ↦ with_longer x ((so_far.all x).1 (inr k))
             | inr (inl e) ↦ inr ((in_longer span id x client clock).1 (inr (one_in id x e)))
             | inr (inr k) ↦ absurd k
@@ -98,7 +83,7 @@ adding_longer old now span ids index d within so_far is client clock = subst (Is
       where
         more_left : (x : Id) → HasId old x ⊎ IsIn x front → HasId old x ⊎ IsIn x (front ++ id ∷ [])
         more_left x (inl i) = inl i
-        more_left x (inr i) = inr (in_front x front (id ∷ []) i)
+        more_left x (inr i) = inr (in_left_part x front (id ∷ []) i)
 
         with_longer : (x : Id) → HasId now x ⊎ InSpan span x → HasId now x ⊎ InSpan (longer span) x
         with_longer x (inl i) = inl i
@@ -115,12 +100,12 @@ adding_next old now new span ids index d within so_far is adds = subst (IsAdding
       is_span = is;
       all = λ x. (
         (λ i. elim i [
-          | inl j ↦ elim ((so_far.all x).0 ((adds x).0 j)) [ inl k ↦ inl k | inr k ↦ inr (in_front x front (id ∷ []) k) ]
-          | inr j ↦ inr (in_back x front (id ∷ []) (inl (in_one id x j)))
+          | inl j ↦ elim ((so_far.all x).0 ((adds x).0 j)) [ inl k ↦ inl k | inr k ↦ inr (in_left_part x front (id ∷ []) k) ]
+          | inr j ↦ inr (in_right_part x front (id ∷ []) (inl (in_one id x j)))
         ]),
         (λ b. elim b [
           | inl j ↦ inl ((adds x).1 ((so_far.all x).1 (inl j)))
-          | inr j ↦ elim (in_either x front (id ∷ []) j) [
+          | inr j ↦ elim (in_parts x front (id ∷ []) j) [
             | inl k ↦ inl ((adds x).1 ((so_far.all x).1 (inr k)))
             | inr (inl e) ↦ inr (one_in id x e)
             | inr (inr k) ↦ absurd k

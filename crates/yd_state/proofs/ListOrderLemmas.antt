@@ -2,7 +2,7 @@
 use Rattle.std.proofs.Common.{◌≡◌, ℕ, Bool, List, Option, Some, None, take, drop, map, sym, ap, ◌∙◌, subst, arith, tests}
 use Rattle.std.specs.Prelude.{Decides, IfSome, filter, nat_eq, slice_get}
 use Rattle.yd_words.specs.Each.{Each}
-use Rattle.yd_words.specs.Member.{IsIn, IsIn as IsOneOf}
+use Rattle.yd_words.specs.Member.{IsIn}
 use Rattle.yd_words.proofs.EachLemmas.{each_both}
 use Rattle.yd_words.proofs.TestLemmas.{one_answer}
 use Rattle.yd_ids.specs.declared.id.Id.{Id}
@@ -47,7 +47,7 @@ module _ (runs : List Run) (ts : List Entry) (names : List DocList) (are : AreHe
   held_rows = rows_of-operations runs (filter is_held ts) (each_kept is_held (IsTakenOf runs) ts are.taken.each)
 
   -- each unit of a held entry is of the list of the first
-  unit_list : (t : Entry) → IsTakenOf runs t → ((o : Operation) → IsOneOf o (operations_of_taken runs t) → IsOneOf o held) →
+  unit_list : (t : Entry) → IsTakenOf runs t → ((o : Operation) → IsIn o (operations_of_taken runs t) → IsIn o held) →
       (x : Id) → IsIn x (ids_of (rows_of_stretch (stretch_of t))) → list_of held x ≡ list_of held t.id
   unit_list t is within x i =
       let (o, j, e) = row_one (operations_of_taken runs t) x (subst (λ rows. IsIn x (ids_of rows)) (sym (rows_of-taken runs t is)) i) in
@@ -73,7 +73,7 @@ module _ (runs : List Run) (ts : List Entry) (names : List DocList) (are : AreHe
         (each_both _ _ _ (λ t f g. (f, g)) ts (each_held runs ts) are.numbered.named)
       where
         go : (t : Entry) → IsTakenOf runs t → (z : Option ℕ) →
-            IfSome z (λ m. (o : Operation) → IsOneOf o (operations_of_taken runs t) → IsOneOf o held) × IfSome z (λ m. slice_get names m ≡ Some (list_of held t.id)) →
+            IfSome z (λ m. (o : Operation) → IsIn o (operations_of_taken runs t) → IsIn o held) × IfSome z (λ m. slice_get names m ≡ Some (list_of held t.id)) →
             IfSome z (λ m. (x : Id) → IsIn x (ids_of (rows_of_stretch (stretch_of t))) → is_own x ≡ nat_eq m n)
         go t is None h = tt
         go t is (Some m) h = λ x i. own_number t m h.1 x (unit_list t is h.0 x i)

@@ -2,7 +2,7 @@
 use Rattle.std.proofs.Common.{◌≡◌, ℕ, ◌+◌, ◌^◌, ◌<◌, ◌≤◌, Bool, true, false, List, [], ◌∷◌, ◌++◌, Option, Some, None, inl, inr, length, take, drop, refl, sym, ap, ◌∙◌, subst, arith, tests, true≢false}
 use Rattle.std.specs.Prelude.{IfSome, filter, is_some, if◌then◌else◌, slice_get}
 use Rattle.yd_words.specs.Each.{Each}
-use Rattle.yd_words.specs.Member.{IsIn as IsOneOf}
+use Rattle.yd_words.specs.Member.{IsIn}
 use Rattle.yd_words.proofs.EachLemmas.{each_weaker, each_both}
 use Rattle.yd_words.proofs.TestLemmas.{split}
 use Rattle.yd_words.proofs.MemberLemmas.{in_left_part, in_right_part}
@@ -31,7 +31,7 @@ use Rattle.yd_received.proofs.WrittenLemmas.{each_operation, taken_from, taken_w
 
 -- each id of units in a row is that of one of their operations
 one_from : (id : Id) (left right : Option Id) (list : Option DocList) (units : List UnitContent) (x : Id) → id.client.0 ≡ x.client.0 → id.clock ≤ x.clock →
-    x.clock < id.clock + length units → (o : Operation) × IsOneOf o (operations_from id left right list units) × (o.id ≡ x)
+    x.clock < id.clock + length units → (o : Operation) × IsIn o (operations_from id left right list units) × (o.id ≡ x)
 one_from id left right list [] x client low high = absurd (omega arith)
 one_from id left right list (unit ∷ units) x client low high = elim (split x.clock id.clock) [
   | inl le ↦ (record { id = id; left_origin = left; right_origin = right; list = list; content = unit }, inl refl, same_numbers id x client (omega arith))
@@ -39,7 +39,7 @@ one_from id left right list (unit ∷ units) x client low high = elim (split x.c
 ]
 
 -- each id that an entry covers is that of one of its operations, and in range
-unit_covered : (runs : List Run) (t : Entry) → IsTakenOf runs t → (x : Id) → covers t x ≡ true → (o : Operation) × IsOneOf o (operations_of_taken runs t) × (o.id ≡ x) × IsId x
+unit_covered : (runs : List Run) (t : Entry) → IsTakenOf runs t → (x : Id) → covers t x ≡ true → (o : Operation) × IsIn o (operations_of_taken runs t) × (o.id ≡ x) × IsId x
 unit_covered runs t is x e =
     let (o, i, same) = one_from t.id t.left t.right (list_at (slice_get runs t.run) t.offset) (take t.len (drop t.offset (units_of (slice_get runs t.run)))) x
     client low (subst (λ count. x.clock < t.id.clock + count) (sym (units_taken runs t is)) high) in
@@ -56,15 +56,15 @@ unit_covered runs t is x e =
 
 -- where all are held, each is of the list of the first
 list_from : (held : List Operation) → IsTable (rows_of held) → (id : Id) (left right : Option Id) (list : Option DocList) (units : List UnitContent) →
-    ((o : Operation) → IsOneOf o (operations_from id left right list units) → IsOneOf o held) →
-    (o : Operation) → IsOneOf o (operations_from id left right list units) → list_of held o.id ≡ list_of held id
+    ((o : Operation) → IsIn o (operations_from id left right list units) → IsIn o held) →
+    (o : Operation) → IsIn o (operations_from id left right list units) → list_of held o.id ≡ list_of held id
 list_from held t id left right list [] within o i = absurd i
 list_from held t id left right list (unit ∷ units) within o (inl e) = ap (λ q. list_of held q.id) e
 list_from held t id left right list (unit ∷ units) within o (inr i) =
     list_from held t (later_id id 1) (Some id) right None units (λ p j. within p (inr j)) o i ∙ second units i (λ p j. within p (inr j))
   where
-    second : (us : List UnitContent) → IsOneOf o (operations_from (later_id id 1) (Some id) right None us) →
-        ((p : Operation) → IsOneOf p (operations_from (later_id id 1) (Some id) right None us) → IsOneOf p held) → list_of held (later_id id 1) ≡ list_of held id
+    second : (us : List UnitContent) → IsIn o (operations_from (later_id id 1) (Some id) right None us) →
+        ((p : Operation) → IsIn p (operations_from (later_id id 1) (Some id) right None us) → IsIn p held) → list_of held (later_id id 1) ≡ list_of held id
     second [] j inside = absurd j
     second (u ∷ us) j inside =
         let next : Operation = record { id = later_id id 1; left_origin = Some id; right_origin = right; list = None; content = u } in
@@ -74,7 +74,7 @@ list_from held t id left right list (unit ∷ units) within o (inr i) =
 
 -- the operations of an entry are among these, where the entry is held
 abbrev AreAmong : List Run → List Operation → Entry → Type 0
-AreAmong runs os t = is_held t ≡ true → (o : Operation) → IsOneOf o (operations_of_taken runs t) → IsOneOf o os
+AreAmong runs os t = is_held t ≡ true → (o : Operation) → IsIn o (operations_of_taken runs t) → IsIn o os
 
 each_among : (runs : List Run) (ts : List Entry) → Each (AreAmong runs (operations_in runs (filter is_held ts))) ts
 each_among runs [] = tt
@@ -100,7 +100,7 @@ each_kept P test (t ∷ ts) each = go (test t) refl (each_kept P test ts each.1)
     go false e rest = rest
 
 -- an entry of what was taken: where it is held, its units are among these, and have the list with its number
-record IsIn (runs : List Run) (held : List Operation) (names : List DocList) (t : Entry) : Type 0 where
+record IsNumberedIn (runs : List Run) (held : List Operation) (names : List DocList) (t : Entry) : Type 0 where
   taken : IsTakenOf runs t
   named : IfSome t.list (λ n. slice_get names n ≡ Some (list_of held t.id))
   among : AreAmong runs held t
@@ -111,7 +111,7 @@ some_number (Some n) P f e = (n, refl, f)
 
 module _ (runs : List Run) (held : List Operation) (t : IsTable (rows_of held)) (names : List DocList) where
   -- each unit of a held entry is of the list with the entry's number
-  entry_listed : (s : Entry) → IsIn runs held names s → is_held s ≡ true → (o : Operation) → IsOneOf o (operations_of_taken runs s) →
+  entry_listed : (s : Entry) → IsNumberedIn runs held names s → is_held s ≡ true → (o : Operation) → IsIn o (operations_of_taken runs s) →
       (n : ℕ) × (s.list ≡ Some n) × (slice_get names n ≡ Some (list_of held o.id))
   entry_listed s is e o i =
       let (n, there, name) = some_number s.list (λ n. slice_get names n ≡ Some (list_of held s.id)) is.named e in (
@@ -122,7 +122,7 @@ module _ (runs : List Run) (held : List Operation) (t : IsTable (rows_of held)) 
       )
 
   -- the id with a number is in the list with that name
-  number_named : (ts : List Entry) → Each (IsIn runs held names) ts → (x : Id) (n : ℕ) → number_of ts x ≡ Some n →
+  number_named : (ts : List Entry) → Each (IsNumberedIn runs held names) ts → (x : Id) (n : ℕ) → number_of ts x ≡ Some n →
       (slice_get names n ≡ Some (list_of held x)) × IsId x
   number_named [] each x n e = absurd cc
   number_named (s ∷ ts) each x n e = go (covers s x) refl (number_named ts each.1 x n) e
@@ -133,7 +133,7 @@ module _ (runs : List Run) (held : List Operation) (t : IsTable (rows_of held)) 
           one_number : {a b : ℕ} → Some a ≡ Some b → a ≡ b
           one_number e = cc
 
-          of_one : (o : Operation) → IsOneOf o (operations_of_taken runs s) → o.id ≡ x → s.list ≡ Some n →
+          of_one : (o : Operation) → IsIn o (operations_of_taken runs s) → o.id ≡ x → s.list ≡ Some n →
               (m : ℕ) × (s.list ≡ Some m) × (slice_get names m ≡ Some (list_of held o.id)) → slice_get names n ≡ Some (list_of held x)
           of_one o i same there (m, one, name) = subst (λ y. slice_get names n ≡ Some (list_of held y)) same (ap (slice_get names) (one_number (sym there ∙ one)) ∙ name)
 
@@ -150,9 +150,9 @@ module _ (runs : List Run) (ts : List Entry) (names : List DocList) (taken : Are
   pub held_table : IsTable (rows_of (held_in runs ts))
   held_table = subst (λ os. IsTable (rows_of os)) (sym held) (held_is_table (operations_in runs ts) (taken_written runs ts taken))
 
-  entries : Each (IsIn runs (held_in runs ts) names) ts
+  entries : Each (IsNumberedIn runs (held_in runs ts) names) ts
   entries = each_both (IsTakenOf runs) (λ (t : Entry). IfSome t.list (λ n. slice_get names n ≡ Some (list_of (held_in runs ts) t.id)) × AreAmong runs (held_in runs ts) t)
-      (IsIn runs (held_in runs ts) names) (λ t is b. record { taken = is; named = b.0; among = b.1 }) ts taken.each
+      (IsNumberedIn runs (held_in runs ts) names) (λ t is b. record { taken = is; named = b.0; among = b.1 }) ts taken.each
       (each_both (λ (t : Entry). IfSome t.list (λ n. slice_get names n ≡ Some (list_of (held_in runs ts) t.id))) (AreAmong runs (held_in runs ts))
       (λ (t : Entry). IfSome t.list (λ n. slice_get names n ≡ Some (list_of (held_in runs ts) t.id)) × AreAmong runs (held_in runs ts) t)
       (λ t named among. (named, among)) ts numbered.named (each_among runs ts))
@@ -164,12 +164,12 @@ module _ (runs : List Run) (ts : List Entry) (names : List DocList) (taken : Are
       let (o, i, same) = operation_with (held_in runs ts) x e in
       subst (λ y. (n : ℕ) × (slice_get names n ≡ Some (list_of (held_in runs ts) y)) × IsSpan (span_of_id y)) same
       (each_operation runs (λ p. (n : ℕ) × (slice_get names n ≡ Some (list_of (held_in runs ts) p.id)) × IsSpan (span_of_id p.id)) (filter is_held ts)
-      (each_weaker (λ (t : Entry). (is_held t ≡ true) × IsIn runs (held_in runs ts) names t)
-      (λ (t : Entry). (p : Operation) → IsOneOf p (operations_of_taken runs t) → (n : ℕ) × (slice_get names n ≡ Some (list_of (held_in runs ts) p.id)) × IsSpan (span_of_id p.id))
+      (each_weaker (λ (t : Entry). (is_held t ≡ true) × IsNumberedIn runs (held_in runs ts) names t)
+      (λ (t : Entry). (p : Operation) → IsIn p (operations_of_taken runs t) → (n : ℕ) × (slice_get names n ≡ Some (list_of (held_in runs ts) p.id)) × IsSpan (span_of_id p.id))
       (λ t b p j. let (n, there, name) = entry_listed runs (held_in runs ts) held_table names t b.1 b.0 p j in (n, name, in_range t b.1 p j))
-      (filter is_held ts) (each_kept (IsIn runs (held_in runs ts) names) is_held ts entries)) o i)
+      (filter is_held ts) (each_kept (IsNumberedIn runs (held_in runs ts) names) is_held ts entries)) o i)
     where
-      in_range : (t : Entry) → IsIn runs (held_in runs ts) names t → (p : Operation) → IsOneOf p (operations_of_taken runs t) → IsSpan (span_of_id p.id)
+      in_range : (t : Entry) → IsNumberedIn runs (held_in runs ts) names t → (p : Operation) → IsIn p (operations_of_taken runs t) → IsSpan (span_of_id p.id)
       in_range t is p j = let from = taken_from runs t is.taken p j in record {
         client = subst (λ c. c.0 < 2 ^ 53) (sym from.client) is.taken.id.client;
         end = omega (arith, is.taken.end, from.high);

@@ -3,7 +3,7 @@ use Rattle.std.proofs.Common.{◌≡◌, ℕ, Bool, true, false, List, [], ◌�
 use Rattle.std.specs.Prelude.{IfSome, filter, if◌then◌else◌, nat_eq}
 use Rattle.std.proofs.lemmas.List.Elements.{filter-append}
 use Rattle.yd_words.specs.Each.{Each}
-use Rattle.yd_words.specs.Member.{IsIn, IsIn as IsOneOf}
+use Rattle.yd_words.specs.Member.{IsIn}
 use Rattle.yd_words.proofs.EachLemmas.{each_weaker}
 use Rattle.yd_words.proofs.MemberLemmas.{in_left_part, in_right_part}
 use Rattle.yd_ids.specs.declared.id.Id.{Id}
@@ -24,15 +24,15 @@ use Rattle.yd_state.proofs.AmongLemmas.{rows_where}
 
 -- of held units in a row, each is of the list of the first
 pub list_of-later : (held : List Operation) → IsTable (rows_of held) → (id : Id) (left right : Option Id) (list : Option DocList) (units : List UnitContent) →
-    ((o : Operation) → IsOneOf o (operations_from id left right list units) → IsOneOf o held) →
-    (o : Operation) → IsOneOf o (operations_from id left right list units) → list_of held o.id ≡ list_of held id
+    ((o : Operation) → IsIn o (operations_from id left right list units) → IsIn o held) →
+    (o : Operation) → IsIn o (operations_from id left right list units) → list_of held o.id ≡ list_of held id
 list_of-later held t id left right list [] within o i = absurd i
 list_of-later held t id left right list (unit ∷ units) within o (inl e) = ap (λ q. list_of held q.id) e
 list_of-later held t id left right list (unit ∷ units) within o (inr i) =
     list_of-later held t (later_id id 1) (Some id) right None units (λ p j. within p (inr j)) o i ∙ next units i (λ p j. within p (inr j))
   where
-    next : (us : List UnitContent) → IsOneOf o (operations_from (later_id id 1) (Some id) right None us) →
-        ((p : Operation) → IsOneOf p (operations_from (later_id id 1) (Some id) right None us) → IsOneOf p held) → list_of held (later_id id 1) ≡ list_of held id
+    next : (us : List UnitContent) → IsIn o (operations_from (later_id id 1) (Some id) right None us) →
+        ((p : Operation) → IsIn p (operations_from (later_id id 1) (Some id) right None us) → IsIn p held) → list_of held (later_id id 1) ≡ list_of held id
     next [] j inside = absurd j
     next (u ∷ us) j inside =
         let second : Operation = record { id = later_id id 1; left_origin = Some id; right_origin = right; list = None; content = u } in
@@ -44,18 +44,18 @@ with_list t z = record { id = t.id; len = t.len; left = t.left; right = t.right;
 
 -- the operations of entries that are held are among those that are held
 pub each_held : (runs : List Run) (ts : List Entry) →
-    Each (λ (t : Entry). IfSome t.list (λ m. (o : Operation) → IsOneOf o (operations_of_taken runs t) → IsOneOf o (operations_in runs (filter is_held ts)))) ts
+    Each (λ (t : Entry). IfSome t.list (λ m. (o : Operation) → IsIn o (operations_of_taken runs t) → IsIn o (operations_in runs (filter is_held ts)))) ts
 each_held runs [] = tt
 each_held runs (t ∷ ts) = go t.list (each_held runs ts)
   where
     Held : List Operation → Entry → Type 0
-    Held os s = IfSome s.list (λ m. (o : Operation) → IsOneOf o (operations_of_taken runs s) → IsOneOf o os)
+    Held os s = IfSome s.list (λ m. (o : Operation) → IsIn o (operations_of_taken runs s) → IsIn o os)
 
     wider : (s : Entry) → Held (operations_in runs (filter is_held ts)) s → Held (operations_of_taken runs t ++ operations_in runs (filter is_held ts)) s
     wider s h = widen s.list h
       where
-        widen : (z : Option ℕ) → IfSome z (λ m. (o : Operation) → IsOneOf o (operations_of_taken runs s) → IsOneOf o (operations_in runs (filter is_held ts))) →
-            IfSome z (λ m. (o : Operation) → IsOneOf o (operations_of_taken runs s) → IsOneOf o (operations_of_taken runs t ++ operations_in runs (filter is_held ts)))
+        widen : (z : Option ℕ) → IfSome z (λ m. (o : Operation) → IsIn o (operations_of_taken runs s) → IsIn o (operations_in runs (filter is_held ts))) →
+            IfSome z (λ m. (o : Operation) → IsIn o (operations_of_taken runs s) → IsIn o (operations_of_taken runs t ++ operations_in runs (filter is_held ts)))
         widen None f = tt
         widen (Some m) f = λ o i. in_right_part o (operations_of_taken runs t) (operations_in runs (filter is_held ts)) (f o i)
 

@@ -1,5 +1,5 @@
 -- How much waits, entry by entry and span by span; and the counts of ids in maximal spans are in range.
-use Rattle.std.proofs.Common.{◌≡◌, ℕ, suc, ◌+◌, ◌-◌, ◌*◌, ◌^◌, ◌≤◌, Bool, true, false, List, [], ◌∷◌, ◌++◌, Option, Some, None, inl, inr, length, take, drop, refl, sym, ap, ◌∙◌, subst, arith}
+use Rattle.std.proofs.Common.{◌≡◌, ℕ, ◌+◌, ◌-◌, ◌*◌, ◌^◌, ◌≤◌, Bool, true, false, List, [], ◌∷◌, ◌++◌, Option, Some, None, inl, inr, length, take, drop, refl, sym, ap, ◌∙◌, subst, arith}
 use Rattle.std.specs.Prelude.{filter, slice_get, if◌then◌else◌}
 use Rattle.std.specs.List.{sum_by}
 use Rattle.std.proofs.lemmas.List.{length-append}
@@ -12,9 +12,9 @@ use Rattle.yd_ids.specs.Id.{IsSpan}
 use Rattle.yd_ids.specs.Span.{EndsBefore}
 use Rattle.yd_ids.specs.Set.{AreMaximal}
 use Rattle.yd_ids.specs.Vector.{clock_of}
-use Rattle.yd_ops.specs.declared.lists.List.{List as DocList}
 use Rattle.yd_ops.specs.declared.runs.Run.{Run}
-use Rattle.yd_ops.specs.Operation.{UnitContent, Operation, later_id, operations_from}
+use Rattle.yd_ops.specs.Operation.{Operation}
+use Rattle.yd_ops.proofs.OperationLemmas.{length-operations_from}
 use Rattle.yd_meaning.specs.Received.{IsWritten}
 use Rattle.yd_meaning.specs.Held.{held_set, held_clock, count_of_ids, named_count}
 use Rattle.yd_received.specs.declared.entry.Entry.{Entry}
@@ -28,12 +28,8 @@ use Rattle.yd_state.proofs.CountLemmas.{count_in, count_named}
 
 -- ---- units
 
-length-from : (id : Id) (left right : Option Id) (list : Option DocList) (units : List UnitContent) → length (operations_from id left right list units) ≡ length units
-length-from id left right list [] = refl
-length-from id left right list (unit ∷ units) = ap suc (length-from (later_id id 1) (Some id) right None units)
-
 length-taken : (runs : List Run) (t : Entry) → IsTakenOf runs t → length (operations_of_taken runs t) ≡ t.len
-length-taken runs t is = length-from t.id t.left t.right (list_at (slice_get runs t.run) t.offset) (take t.len (drop t.offset (units_of (slice_get runs t.run))))
+length-taken runs t is = length-operations_from t.id t.left t.right (list_at (slice_get runs t.run) t.offset) (take t.len (drop t.offset (units_of (slice_get runs t.run))))
     ∙ units_taken runs t is
 
 -- the units that wait and those that are held are all units
