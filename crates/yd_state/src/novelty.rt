@@ -7,7 +7,8 @@ ghost use Rattle.yd_ids.specs.Set.{HasId};
 use crate::fault::NoMemory;
 use yd_ids::IdSet;
 
-/// Not each id of `more` is in one of the other sets. It takes time with their numbers of spans.
+/// Not each id of `more` is in one of the other sets. Where one of the two has them all, it takes no
+/// memory, and time with the spans of `more` alone; else it takes time with all spans.
 pub(crate) fn brings_deletion(
     named: &IdSet,
     deletes: &IdSet,
@@ -16,6 +17,12 @@ pub(crate) fn brings_deletion(
     ensures { IfOk result (λ brings. IsTrue brings
         ↔ (((x : Id) → HasId more.now x → HasId named.now x ⊎ HasId deletes.now x) → ⊥)) }
 {
+    if named.has_all(more) {
+        return Ok(false);
+    }
+    if deletes.has_all(more) {
+        return Ok(false);
+    }
     let mut known = named.copy()?;
     known.union(deletes)?;
     let mut all = known.copy()?;
