@@ -3,7 +3,7 @@ use Rattle.std.proofs.Common.{◌≡◌, ℕ, zero, suc, ◌+◌, ◌-◌, ◌<�
 use Rattle.std.specs.Prelude.{◌↔◌, slice_get, Decides}
 use Rattle.std.proofs.lemmas.Option.{slice_get-get_or}
 use Rattle.std.proofs.lemmas.Bool.{or_right}
-use Rattle.yd_words.specs.Member.{AreDistinct, IsIn as IsOneOf, IsIn}
+use Rattle.yd_words.specs.Member.{AreDistinct, IsIn}
 use Rattle.yd_words.proofs.TestLemmas.{one_answer}
 use Rattle.yd_ids.specs.declared.id.Id.{Id}
 use Rattle.yd_ids.specs.declared.id.Span.{Span}
@@ -118,7 +118,7 @@ entry_covers (s ∷ ss) t x (inr i) e = or_right (covers s x) (is_covered ss x) 
 
 -- the held operation with an id holds the unit
 abbrev Holds : List Operation → List UnitContent → Id → ℕ → Type 0
-Holds held units x k = (o : Operation) × IsOneOf o held × (o.id ≡ x) × (slice_get units k ≡ Some o.content)
+Holds held units x k = (o : Operation) × IsIn o held × (o.id ≡ x) × (slice_get units k ≡ Some o.content)
 
 -- ids in a row lend the units that their operations hold, and then come the others
 lent_row : (held : List Operation) → AreDistinct (ids_of (rows_of held)) → (deletes : List Span) (units : List UnitContent) (deleted : Bool) (n k : ℕ) (id : Id) (order : List Id) →
@@ -181,7 +181,7 @@ module _ (runs : List Run) (taken : List Entry) (are : AreTaken runs taken) (id 
         low : t.id.clock ≤ id.clock
         low = (covers_less t id is_its).1
 
-        with_unit : (o : Operation) → IsOneOf o (operations_of_taken runs t) → o.id ≡ later_id id i →
+        with_unit : (o : Operation) → IsIn o (operations_of_taken runs t) → o.id ≡ later_id id i →
             (m : ℕ) × (m < length (take t.len (drop t.offset all_units))) × (o.id ≡ later_id t.id m) × (slice_get (take t.len (drop t.offset all_units)) m ≡ Some o.content) →
             Holds (held_in runs taken) all_units (later_id id i) (t.offset + skipped + i)
         with_unit o j e (m, less, f, unit) =
@@ -192,7 +192,7 @@ module _ (runs : List Run) (taken : List Entry) (are : AreTaken runs taken) (id 
               part_unit t.offset t.len all_units m (t.offset + skipped + i) o.content unit (omega arith),
             )
 
-        of_one : (o : Operation) × IsOneOf o (operations_of_taken runs t) × (o.id ≡ later_id id i) → Holds (held_in runs taken) all_units (later_id id i) (t.offset + skipped + i)
+        of_one : (o : Operation) × IsIn o (operations_of_taken runs t) × (o.id ≡ later_id id i) → Holds (held_in runs taken) all_units (later_id id i) (t.offset + skipped + i)
         of_one (o, j, e) = with_unit o j e (from_unit t.id t.left t.right (list_at (slice_get runs t.run) t.offset) (take t.len (drop t.offset all_units)) o j)
 
     run_there : (d : Run) → slice_get runs t.run ≡ Some (get_or runs t.run d)
