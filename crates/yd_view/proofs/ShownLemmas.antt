@@ -2,6 +2,7 @@
 use Rattle.std.proofs.Common.{◌≡◌, ◌+◌, ℕ, Bool, true, false, ◌&&◌, ◌||◌, not, List, [], ◌∷◌, Option, Some, None, inl, inr, map, refl, sym, ap, ◌∙◌, arith}
 use Rattle.std.specs.Prelude.{filter, if◌then◌else◌}
 use Rattle.yd_words.specs.Member.{IsIn}
+use Rattle.yd_words.proofs.FilterLemmas.{kept_one}
 use Rattle.yd_ids.specs.declared.id.Id.{Id}
 use Rattle.yd_ids.specs.Ids.{is_same, is_same_neighbour}
 use Rattle.yd_ids.proofs.IdLemmas.{same_numbers, same_is, same_itself}
@@ -100,15 +101,6 @@ live_lent deleted (o ∷ os) = go (deleted o.id) (live_lent deleted os)
     go true e = e
     go false e = ap (λ (us : List Seen). seen o ∷ us) e
 
-one_kept : (test : Operation → Bool) (os : List Operation) (o : Operation) → IsIn o (filter test os) → IsIn o os
-one_kept test [] o i = i
-one_kept test (p ∷ ps) o i = go (test p) i (one_kept test ps o)
-  where
-    go : (t : Bool) → IsIn o (if t then p ∷ filter test ps else filter test ps) → (IsIn o (filter test ps) → IsIn o ps) → IsIn o (p ∷ ps)
-    go true (inl e) rest = inl e
-    go true (inr j) rest = inr (rest j)
-    go false j rest = inr (rest j)
-
 -- ---- lemmas for callers
 
 -- the text of what is lent of a list is the text of the list, where its units are of a received set with whole pairs
@@ -117,7 +109,7 @@ pub lent_shown : (received : List Operation) (document : Document) (list : DocLi
 lent_shown received document list paired within =
     ap (text_of_seen false) (live_lent document.deleted (document.units list))
     ∙ sym (shown_seen-is received paired None false (live_units document list)
-    (λ o i. within o (one_kept (λ p. not (document.deleted p.id)) (document.units list) o i))
+    (λ o i. within o (kept_one (λ p. not (document.deleted p.id)) (document.units list) o i).1)
     (first (live_units document list)))
   where
     first : (os : List Operation) → JoinsFirst None false os
