@@ -1,7 +1,6 @@
-//! Reading updates in format V1: what they hold, and where each cut is short.
+//! Reading updates and state vectors in format V1: what they hold.
 
-use std::alloc::Global;
-use std::process::Abort;
+use crate::v2::ABC;
 use std::test::Fail;
 use yd_any::Any;
 use yd_fields::{Cause, Column, FieldReader, Parts, ReadError, Spot, read_any};
@@ -9,45 +8,7 @@ use yd_ids::{Client, Id};
 use yd_num::Signed;
 use yd_ops::{Content, Parent, Struct};
 use yd_reading::{read_any_field, read_update};
-use yd_samples::{ABC, BOARD, BOARD_PARTS, EDITS, EDITS_PARTS};
 use yd_v1::{V1Reader, read_v1, read_vector};
-
-/// The fault that a file is refused for, if it is.
-fn fault_of(alloc: Global, bytes: &[u8]) -> Option<(Cause, u64)> {
-    match read_v1(alloc, bytes) {
-        Err(ReadError::Fault { cause, spot }) => Some((cause, spot.at)),
-        _ => None,
-    }
-}
-
-/// The greatest of these places that is not past this one.
-fn place_at(places: &[u64], at: u64) -> u64 {
-    let mut found = 0;
-    for place in places {
-        if *place <= at {
-            found = *place;
-        }
-    }
-    found
-}
-
-#[test]
-fn each_cut_is_short_at_its_own_part(rt: HostRuntime) -> Result<(), Fail> {
-    are_short(&rt, &BOARD, &BOARD_PARTS);
-    are_short(&rt, &EDITS, &EDITS_PARTS);
-    Ok(())
-}
-
-fn are_short(rt: &(impl Abort + AllocGlobal), bytes: &[u8], places: &[u64]) {
-    for len in 0..bytes.len() {
-        let place = place_at(places, len as u64);
-        assert_eq!(rt;
-            fault_of(rt.alloc(), &bytes[..len]),
-            Some((Cause::ShortInput, place)),
-            "{len} bytes"
-        );
-    }
-}
 
 #[test]
 fn an_update_holds_its_run(rt: HostRuntime) -> Result<(), Fail> {

@@ -2,14 +2,12 @@
 
 ghost use Rattle.yd_ids.specs.Id.{IsId};
 
-use std::alloc::Global;
 use std::process::Abort;
 use std::test::Fail;
 use yd_any::{Any, Json};
 use yd_fields::{FieldReader, FieldWriter};
 use yd_ids::{Client, Id};
-use yd_parts::{Cause, Column, NoMemory, ReadError, Spot};
-use yd_samples::ABC;
+use yd_parts::{Column, NoMemory, Spot};
 use yd_v1::{read_v1, write_v1};
 use yd_v2::{V2Reader, V2Writer, read_v2, write_v2};
 
@@ -20,7 +18,10 @@ const FIELDS: [u8; 37] = [
     1, 7, 126, 1, 9, 125, 5, 0x80, 1, 6, 0,
 ];
 
-/// "abc" in the root `t`, as `ABC` has it in V1.
+/// One update of client 1 in V1: "abc" in the root `t`.
+pub(crate) const ABC: [u8; 13] = [1, 1, 1, 0, 4, 1, 1, 116, 3, 97, 98, 99, 0];
+
+/// The same in V2.
 const ABC_V2: [u8; 24] = [
     0, 0, 1, 1, 0, 0, 1, 4, 7, 4, 116, 97, 98, 99, 1, 3, 1, 1, 0, 0, 1, 1, 0, 0,
 ];
@@ -120,7 +121,7 @@ fn the_rest_of_v2_is_read_one_by_one(rt: HostRuntime) -> Result<(), Fail> {
     Ok(())
 }
 
-pub(crate) fn at(column: Column, at: u64) -> Spot {
+fn at(column: Column, at: u64) -> Spot {
     Spot { column, at }
 }
 
@@ -133,55 +134,4 @@ fn an_update_is_the_same_in_both_formats(rt: HostRuntime) -> Result<(), Fail> {
     let bytes = write_v2(rt.alloc(), &update)?;
     assert_eq!(rt; bytes.as_slice(), ABC_V2.as_slice());
     Ok(())
-}
-
-#[test]
-fn the_reader_takes_other_spellings_of_columns(rt: HostRuntime) -> Result<(), Fail> {
-    // The last run of the info bytes has its count; the number of no structs more is padded.
-    let counted = [
-        0, 0, 1, 1, 0, 0, 2, 4, 0, 7, 4, 116, 97, 98, 99, 1, 3, 1, 1, 0, 0, 1, 1, 0, 0,
-    ];
-    is_abc(&rt, &counted)?;
-    let padded = [
-        0, 0, 1, 1, 0, 0, 1, 4, 7, 4, 116, 97, 98, 99, 1, 3, 1, 1, 0, 0, 1, 1, 0, 0x80, 0,
-    ];
-    is_abc(&rt, &padded)?;
-    Ok(())
-}
-
-fn is_abc(rt: &(impl Abort + AllocGlobal), bytes: &[u8]) -> Result<(), Fail> {
-    let update = read_v2(rt.alloc(), bytes)?;
-    let again = write_v1(rt.alloc(), &update)?;
-    assert_eq!(rt; again.as_slice(), ABC.as_slice());
-    Ok(())
-}
-
-#[test]
-fn each_cut_of_a_file_in_columns_is_refused(rt: HostRuntime) -> Result<(), Fail> {
-    // The head is cut at the length of each column, and the rest at its first number that is gone.
-    let heads = [
-        0, 1, 2, 2, 4, 5, 6, 6, 8, 8, 8, 8, 8, 8, 8, 8, 16, 16, 18, 19,
-    ];
-    for len in 0..20 {
-        let spot = at(Column::Head, heads[len]);
-        assert_eq!(rt;
-            fault_of(rt.alloc(), &ABC_V2[..len]),
-            Some((Cause::ShortInput, spot))
-        );
-    }
-    for len in 20..24 {
-        let spot = at(Column::Rest, (len - 20) as u64);
-        assert_eq!(rt;
-            fault_of(rt.alloc(), &ABC_V2[..len]),
-            Some((Cause::ShortInput, spot))
-        );
-    }
-    Ok(())
-}
-
-pub(crate) fn fault_of(alloc: Global, bytes: &[u8]) -> Option<(Cause, Spot)> {
-    match read_v2(alloc, bytes) {
-        Err(ReadError::Fault { cause, spot }) => Some((cause, spot)),
-        _ => None,
-    }
 }
