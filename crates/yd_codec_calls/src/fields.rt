@@ -6,6 +6,7 @@ use yd_any::{Any, AnyList, AnyPairs, Json, Text};
 use yd_fields::{FieldWriter, NoMemory, write_any, write_update};
 use yd_ids::{Client, Id};
 use yd_num::Bytes;
+use yd_ops::Content;
 use yd_parts::{Cause, Column, ReadError, Spot, counted};
 use yd_reading::{flag_of, range_of, read_any_field, value_of_text};
 use yd_v1::{V1Reader, V1Writer, read_v1};
@@ -83,6 +84,34 @@ fn is_spelled(rt: &(impl Abort + AllocGlobal), value: &Any, want: &[u8]) -> Resu
     write_any(&mut bytes, &again)?;
     assert_eq!(rt; bytes.as_slice(), want);
     Ok(())
+}
+
+// A list of six: `undefined`, -65, -2 as a big number, `true`, an object of `null` and a float, and a
+// list of a byte string and "xy".
+const VALUES: [u8; 38] = [
+    117, 6, 127, 125, 0xc1, 1, 122, 255, 255, 255, 255, 255, 255, 255, 254, 120, 118, 2, 1, 107,
+    126, 1, 108, 124, 1, 2, 3, 4, 117, 2, 116, 2, 9, 8, 119, 2, 120, 121,
+];
+
+#[test]
+fn copies_of_any_values_are_written_alike(rt: HostRuntime) -> Result<(), Fail> {
+    let value = read_any_field(rt.alloc(), &mut V1Reader::new(&VALUES))?;
+    assert!(rt; value.is_valid());
+    let mut values = AnyList::new(rt.alloc());
+    values.push(value)?;
+    let content = Content::Any(values.copy()?);
+    assert!(rt; content.is_valid());
+    holds_the_values(&rt, &content.copy()?)
+}
+
+fn holds_the_values(rt: &(impl Abort + AllocGlobal), content: &Content) -> Result<(), Fail> {
+    let Content::Any(values) = content else {
+        return Err(Fail::from("no values"));
+    };
+    let Some(value) = values.as_slice().first() else {
+        return Err(Fail::from("no value"));
+    };
+    is_spelled(rt, value, &VALUES)
 }
 
 #[test]
