@@ -1,0 +1,5 @@
+pub mod JoinLemmas
+pub mod OwnLemmas
+pub mod PresenceLemmas
+pub mod RowLemmas
+pub mod TableLemmas

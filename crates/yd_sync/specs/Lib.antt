@@ -1,0 +1,4 @@
+pub mod Standing
+pub mod Table
+pub mod TableEvent
+pub mod TableLaw
