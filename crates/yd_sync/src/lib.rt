@@ -1,9 +1,7 @@
-//! Messages of a shared document, and who is there.
+//! Who is there: entries of clients, and what is defined of a table of them.
 //!
-//! A message asks for what one lacks, tells an update, or tells who is there (y-protocols, in the
-//! envelope of y-websocket). An [`Awareness`] has of each client the last clock and state that came:
-//! entries in any order and repeated make one table where no two disagree, and nobody else ends
-//! one's own state. Both are proved of every list of entries ([`law`]).
+//! Entries in any order and repeated make one table where no two disagree, and nobody else ends
+//! one's own state: both are proved of every list of entries ([`law`]). No code keeps a table yet.
 //!
 //! ```rust
 //! let mut entries = AwareList::new(alloc);
