@@ -1,5 +1,10 @@
+pub mod AnswerLemmas
+pub mod EntryLemmas
+pub mod FrontLemmas
 pub mod JoinLemmas
+pub mod MessageLemmas
 pub mod OwnLemmas
 pub mod PresenceLemmas
 pub mod RowLemmas
 pub mod TableLemmas
+pub mod WrittenLemmas

@@ -4,7 +4,7 @@ use Rattle.yd_words.specs.Each.{Each}
 use Rattle.yd_words.proofs.EachLemmas.{each_weaker}
 use Rattle.yd_ids.specs.declared.id.Client.{Client}
 use Rattle.yd_sync.specs.declared.entry.AwareEntry.{AwareEntry}
-use Rattle.yd_sync.specs.Table.{AreRows, Row, after_entries, after_entry, ends_own, is_newer_in, raised, row_of, seated, without_states}
+use Rattle.yd_sync.specs.Table.{AreRows, Row, after_entries, after_entry, ends_own, is_newer_in, raised, seated, without_states}
 use Rattle.yd_sync.proofs.PresenceLemmas.{tested, same_number}
 
 less_trans : (k m n : ℕ) → nat_lt k m ≡ true → nat_lt m n ≡ true → nat_lt k n ≡ true

@@ -1,3 +1,10 @@
+pub mod Entry
+pub mod Envelope
+pub mod Message
+pub mod MessageGrammar
+pub mod MessageLaw
+pub mod MessageReading
+pub mod MessageWriting
 pub mod Standing
 pub mod Table
 pub mod TableEvent

@@ -1,6 +1,17 @@
-//! The laws of awareness, each the contract of an empty function.
+//! The laws of messages and of awareness, each the contract of an empty function.
 
+ghost use Rattle.yd_sync.specs.MessageLaw.{MessagesAreOne, MessagesAreRead};
 ghost use Rattle.yd_sync.specs.TableLaw.{OwnStateStays, TablesJoin, TablesMeet, TakenSuffice};
+
+/// Bytes are read as the message that they stand for, or refused for their first deviation.
+pub fn messages_are_read()
+    ensures { MessagesAreRead }
+{}
+
+/// Bytes stand for one message, or have one first deviation, and never both.
+pub fn messages_are_one()
+    ensures { MessagesAreOne }
+{}
 
 /// Of each client but one's own a table has what remains of all entries that came or are answered.
 pub fn tables_join()

@@ -1,18 +1,31 @@
-//! Who is there: entries of clients, and what is defined of a table of them.
+//! Messages of a shared document, read and written exactly, and what is defined of who is there.
 //!
-//! Entries in any order and repeated make one table where no two disagree, and nobody else ends
-//! one's own state: both are proved of every list of entries ([`law`]). No code keeps a table yet.
+//! A message asks for what one lacks, tells an update, or tells who is there (y-protocols, in the
+//! envelope of y-websocket). [`read_message`] answers the one message that bytes stand for, or their
+//! first deviation; [`write_message`] answers bytes that stand for the message again. What entries
+//! make of a table of who is there is defined, with its laws ([`law`]); no code keeps a table yet.
 //!
 //! ```rust
-//! let mut entries = AwareList::new(alloc);
-//! entries.push(AwareEntry { client: Client(1), clock: 1, state: None })?;
-//! assert!(rt; entries.as_slice().len() == 1);
+//! let message = read_message(alloc, &[3])?;
+//! assert!(rt; matches!(message, Message::Query));
 //! ```
 #![tactic(auto)]
 
 mod entry;
+mod entry_reading;
+mod entry_writing;
+mod envelope;
+mod fault;
+mod kind;
 pub mod law;
+mod message;
+mod reading;
 mod seat;
+mod writing;
 
 pub use entry::{AwareEntry, AwareList};
-pub use yd_parts::NoMemory;
+pub use fault::{MessageError, MessageFault};
+pub use message::Message;
+pub use reading::read_message;
+pub use writing::write_message;
+pub use yd_parts::{Cause, Column, NoMemory, Spot};
