@@ -1,6 +1,7 @@
 pub mod ExactLemmas
 pub mod FileLemmas
 pub mod FitLemmas
+pub mod LogLemmas
 pub mod SpellsLemmas
 pub mod VectorWrittenLemmas
 pub mod WrittenLemmas

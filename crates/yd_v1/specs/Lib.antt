@@ -1,4 +1,5 @@
 pub mod Bytes
 pub mod Grammar
 pub mod Law
+pub mod Log
 pub mod Reading

@@ -4,6 +4,7 @@ ghost use Rattle.yd_reading.specs.Files.{FilesAreOne, FilesAreRead};
 ghost use Rattle.yd_fields.specs.UpdatePlan.{vector_plan};
 ghost use Rattle.yd_v1.specs.Grammar.{FailsV1, FillsV1, HasFirstFaultV1, StandsForV1};
 ghost use Rattle.yd_v1.specs.Law.{FieldsAreRead, FieldsComeBackV1};
+ghost use Rattle.yd_v1.specs.Log.{HasFirstFaultLog, StandsForLog, log_reading};
 ghost use Rattle.yd_v1.specs.Reading.{v1_reading, vector_reading};
 
 /// The fields of V1 are read as they stand, and fail just where none stands.
@@ -27,4 +28,14 @@ pub fn files_are_read()
 pub fn files_are_one()
     ensures updates { FilesAreOne StandsForV1 HasFirstFaultV1 }
     ensures vectors { FilesAreOne (FillsV1 vector_plan) (FailsV1 vector_plan) }
+{}
+
+/// A log is read as the updates that it stands for, or refused for the first fault in it.
+pub fn logs_are_read()
+    ensures { FilesAreRead log_reading StandsForLog HasFirstFaultLog }
+{}
+
+/// A log stands for one list of updates, or has one first fault, and never both.
+pub fn logs_are_one()
+    ensures { FilesAreOne StandsForLog HasFirstFaultLog }
 {}

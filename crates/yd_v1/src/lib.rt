@@ -4,7 +4,8 @@
 //! In V1 the fields of an update stand one after another, each in its parts ([`V1Reader`],
 //! [`V1Writer`]). [`read_v1`] answers the update that a file stands for, or the first fault in it,
 //! by cause and place; [`write_v1`] answers the bytes of an update, and they stand for it. State
-//! vectors are spelled in V1 too ([`read_vector`], [`write_vector`]). That all four are exact is
+//! vectors are spelled in V1 too ([`read_vector`], [`write_vector`]). A log file is updates in V1 one
+//! behind the other, and [`read_log`] answers them, or the first fault. That all five are exact is
 //! proved of every file, every update and every vector ([`law`]).
 //!
 //! ```rust
@@ -14,6 +15,8 @@
 #![tactic(auto)]
 
 pub mod law;
+mod log_reading;
+mod logs;
 mod reader;
 mod reading;
 mod vector_reading;
@@ -21,6 +24,8 @@ mod vector_writing;
 mod writer;
 mod writing;
 
+pub use log_reading::read_log;
+pub use logs::UpdateList;
 pub use reader::V1Reader;
 pub use reading::read_v1;
 pub use vector_reading::read_vector;

@@ -26,7 +26,7 @@ pub fn read_v1(alloc: Global, bytes: &[u8]) -> Result<Update, ReadError>
 }
 
 #[tactic(auto, unfolding(crate::specs::Reading::v1_whole))]
-fn read_update_v1(alloc: Global, bytes: &[u8]) -> Result<Update, ReadError>
+pub(crate) fn read_update_v1(alloc: Global, bytes: &[u8]) -> Result<Update, ReadError>
     ensures made { Makes update_value result (v1_reading bytes.now) }
     ensures valid { IfOk result (λ update. IsValidUpdate (update_value update)) }
 {

@@ -1,0 +1,96 @@
+//! Log files, read.
+
+ghost use Rattle.std.specs.Prelude.{map, IfOk, OnOk};
+ghost use Rattle.yd_words.specs.Each.{Each};
+ghost use Rattle.yd_ops.specs.Valid.{IsValidUpdate};
+ghost use Rattle.yd_ops.specs.View.{update_value};
+ghost use Rattle.yd_parts.specs.Fault.{FailsAs, Gives, Makes};
+ghost use Rattle.yd_reading.specs.Answer.{ReadsWhole};
+ghost use Rattle.yd_v1.specs.Log.{HasFirstFaultLog, IsMoved, StandsForLog, TakesEntry, entry_at, log_reading, read_in_file};
+ghost use Rattle.yd_v1.specs.Reading.{v1_reading};
+
+use crate::logs::UpdateList;
+use crate::reading::read_update_v1;
+use std::alloc::Global;
+use yd_ops::Update;
+use yd_parts::{Column, Parts, ReadError, Spot};
+
+/// Reads a log file: the updates that it stands for, in order, or the first fault in it, with the
+/// causes of V1 and a spot that counts in the file (own).
+pub fn read_log(alloc: Global, bytes: &[u8]) -> Result<UpdateList, ReadError>
+    ensures exact { ReadsWhole (λ list. map update_value list)
+        (StandsForLog bytes.now) (HasFirstFaultLog bytes.now) result }
+    ensures valid { IfOk result (λ list. Each IsValidUpdate (map update_value list)) }
+{
+    read_entries(alloc, bytes)
+}
+
+fn read_entries(alloc: Global, bytes: &[u8]) -> Result<UpdateList, ReadError>
+    ensures made { Makes (λ list. map update_value list) result (log_reading bytes.now) }
+    ensures valid { IfOk result (λ list. Each IsValidUpdate (map update_value list)) }
+{
+    let mut parts = Parts::new(Column::Whole, bytes);
+    let mut list = UpdateList::new(alloc);
+    for _ in 0..bytes.len() {
+        if parts.left() == 0 {
+            return Ok(list);
+        }
+        read_next_entry(alloc, &mut parts, &mut list)?;
+    }
+    Ok(list)
+}
+
+fn read_next_entry(
+    alloc: Global,
+    parts: &mut Parts<'_>,
+    list: &mut UpdateList,
+) -> Result<(), ReadError>
+    ensures taken { OnOk result (TakesEntry parts.old parts.new list.old list.new) }
+    ensures fails { FailsAs result (entry_at parts.old) }
+{
+    let update = read_entry(alloc, parts)?;
+    if list.push(update).is_err() {
+        return Err(ReadError::NoMemory);
+    }
+    Ok(())
+}
+
+#[tactic(auto, unfolding(crate::specs::Log::entry_at))]
+fn read_entry(alloc: Global, parts: &mut Parts<'_>) -> Result<Update, ReadError>
+    ensures given { Gives update_value result parts.new (entry_at parts.old) }
+    ensures valid { IfOk result (λ update. IsValidUpdate (update_value update)) }
+{
+    let body = parts.blob()?;
+    let start = parts.here().at.saturating_sub(body.len() as u64);
+    let update = read_body(alloc, body, start)?;
+    Ok(update)
+}
+
+fn read_body(alloc: Global, body: &[u8], start: u64) -> Result<Update, ReadError>
+    ensures made { Makes update_value result (read_in_file start (v1_reading body.now)) }
+    ensures valid { IfOk result (λ update. IsValidUpdate (update_value update)) }
+{
+    match read_update_v1(alloc, body) {
+        Ok(update) => Ok(update),
+        Err(error) => Err(moved(error, start)),
+    }
+}
+
+// A spot of 2^64 or more finds no memory.
+fn moved(error: ReadError, start: u64) -> ReadError
+    ensures { IsMoved start error result }
+{
+    match error {
+        ReadError::NoMemory => ReadError::NoMemory,
+        ReadError::Fault { cause, spot } => match start.checked_add(spot.at) {
+            None => ReadError::NoMemory,
+            Some(at) => ReadError::Fault {
+                cause,
+                spot: Spot {
+                    column: spot.column,
+                    at,
+                },
+            },
+        },
+    }
+}

@@ -1,0 +1,55 @@
+//! Updates in a row, as a log has them.
+
+ghost use Rattle.std.specs.Prelude.{◌≡◌, [], ◌∷◌, ◌++◌, OnOk, OnErr};
+
+use std::alloc::Global;
+use std::marker::Model;
+use yd_ops::Update;
+use yd_parts::NoMemory;
+
+/// Updates in order, as a log has them.
+#[derive(Drop)]
+pub struct UpdateList {
+    updates: Vec<Update>,
+}
+
+impl Model for UpdateList {
+    ghost use Rattle.std.specs.Prelude.{List};
+    ghost use Rattle.yd_ops.specs.declared.updates.Update.{Update};
+    ghost use Rattle.yd_any.specs.contracts.any_value.AnyList as any_list;
+    ghost use Rattle.yd_any.specs.contracts.json_value.Json as json;
+    ghost use Rattle.std.specs.Coded.{codes};
+
+    ghost Value = { List Update };
+
+    ghost coded = { Prim.hlevel (codes, json.the_row.coded, any_list.the_row.coded) };
+
+    ghost view = { λ it. it.updates.items };
+}
+
+impl UpdateList {
+    /// No update.
+    pub(crate) fn new(alloc: Global) -> UpdateList
+        ensures { result ≡ [] }
+    {
+        UpdateList {
+            updates: Vec::new(alloc),
+        }
+    }
+
+    /// Appends an update. One that finds no memory is dropped.
+    pub(crate) fn push(&mut self, update: Update) -> Result<(), NoMemory>
+        ensures appended { OnOk result (self.new ≡ self.old ++ update ∷ []) }
+        ensures unchanged { OnErr result (self.new ≡ self.old) }
+    {
+        self.updates.push(update)?;
+        Ok(())
+    }
+
+    /// The updates as they are lent.
+    pub fn as_slice(&self) -> &[Update]
+        ensures { result.now ≡ self.now }
+    {
+        self.updates.as_slice()
+    }
+}
