@@ -1,17 +1,21 @@
 -- What is due: one thing, and there always is one.
 use Rattle.std.proofs.Common.{◌≡◌, ◌⊎◌, ◌∙◌, ℕ, List, Option, Some, None, inl, inr, refl, sym, subst, ap}
+use Rattle.yd_meaning.specs.Document.{document_of}
+use Rattle.yd_meaning.specs.Received.{received_set}
 use Rattle.yd_ops.specs.Value.{UpdateValue}
 use Rattle.yd_world.specs.Shelf.{Shelf}
 use Rattle.yd_world.specs.Traffic.{Traffic}
 use Rattle.yd_app.proofs.FormLemmas.{asked_or_not}
 use Rattle.yd_app.proofs.VerdictLemmas.{files_judged, stops_apart, stops_one, updates_one}
 use Rattle.yd_app.proofs.WordLemmas.{asks_same}
+use Rattle.yd_app.specs.Commands.Convert.{converted_output}
+use Rattle.yd_app.specs.Commands.Show.{text_line}
 use Rattle.yd_app.specs.Due.{Due, IsDue, lacking, no_step_2, output, over_limit, refusal, usage}
 use Rattle.yd_app.specs.Law.{OneIsDue}
 use Rattle.yd_app.specs.Lines.{refused_line}
-use Rattle.yd_app.specs.Output.{output_of}
+use Rattle.yd_app.specs.Output.{IsOutputOf}
 use Rattle.yd_app.specs.Verdict.{AreRead, IsTold, StopsAt, Verdict, accepted, missing, refused, too_large}
-use Rattle.yd_app.specs.Words.{AreOfNoForm, Asks, AsksFor, Command, File}
+use Rattle.yd_app.specs.Words.{AreOfNoForm, Asks, AsksFor, Command, File, convert, show_text}
 
 -- what holds of what is asked for holds of each thing that is asked for
 pub asked : (words : List (List ℕ)) (Holds : Command → List File → Type 0) (command : Command) (files : List File) → AsksFor words Holds → Asks words command files → Holds command files
@@ -30,10 +34,21 @@ due_of file (refused why) = refusal (refused_line file why)
 due_of file too_large = over_limit file.name
 due_of file missing = lacking file.name
 
+-- a command writes one output of its updates
+output_one : (command : Command) (updates : List UpdateValue) (bytes other : List ℕ) → IsOutputOf command updates bytes → IsOutputOf command updates other → bytes ≡ other
+output_one (show_text root) updates bytes other a b = a.bytes_are ∙ ap (text_line root) (a.is_document ∙ sym b.is_document) ∙ sym b.bytes_are
+output_one (convert form) updates bytes other a b = a ∙ sym b
+
+-- and it writes one
+output_some : (command : Command) (updates : List UpdateValue) → (bytes : List ℕ) × IsOutputOf command updates bytes
+output_some (show_text root) updates =
+    let document = document_of (received_set updates) in (text_line root document, record { document = document; is_document = refl; bytes_are = refl })
+output_some (convert form) updates = (converted_output form updates, refl)
+
 -- all files are accepted, and the output is due; or one is the first that is not, and what it is
 abbrev Answers : Option Shelf → Due → Command → List File → Type 0
 Answers told due command files =
-    ((updates : List UpdateValue) × AreRead told files updates × (due ≡ output (output_of command updates)))
+    ((updates : List UpdateValue) × AreRead told files updates × (bytes : List ℕ) × IsOutputOf command updates bytes × (due ≡ output bytes))
     ⊎ ((file : File) × (verdict : Verdict) × StopsAt told files file verdict × (due ≡ due_of file verdict))
 
 -- the words are of no form, or ask for one of these
@@ -47,11 +62,13 @@ judged words told traffic (refusal line) d = inr (record { command = d.command; 
 judged words told traffic (over_limit name) d = inr (record { command = d.command; files = d.files; asks = d.asks; holds = inr (d.holds.0, too_large, d.holds.1, ap over_limit d.holds.2) })
 judged words told traffic (lacking name) d = inr (record { command = d.command; files = d.files; asks = d.asks; holds = inr (d.holds.0, missing, d.holds.1, ap lacking d.holds.2) })
 judged words told traffic no_step_2 d = absurd d
-judged words told traffic (output bytes) d = inr (record { command = d.command; files = d.files; asks = d.asks; holds = inl (d.holds.0, d.holds.1, ap output d.holds.2) })
+judged words told traffic (output bytes) d = inr (record { command = d.command; files = d.files; asks = d.asks; holds = inl (d.holds.0, d.holds.1, bytes, d.holds.2, refl) })
 
 -- of files one thing is due
 answers_one : (shelf : Shelf) (command : Command) (files : List File) (due other : Due) → Answers (Some shelf) due command files → Answers (Some shelf) other command files → due ≡ other
-answers_one shelf command files due other (inl a) (inl b) = a.2 ∙ ap (λ (us : List UpdateValue). output (output_of command us)) (updates_one shelf files a.0 b.0 a.1 b.1) ∙ sym b.2
+answers_one shelf command files due other (inl a) (inl b) =
+    let same = updates_one shelf files a.0 b.0 a.1 b.1 in
+    a.4 ∙ ap output (output_one command b.0 a.2 b.2 (subst (λ (us : List UpdateValue). IsOutputOf command us a.2) same a.3) b.3) ∙ sym b.4
 answers_one shelf command files due other (inl a) (inr b) = absurd (stops_apart shelf files a.0 b.0 b.1 a.1 b.2)
 answers_one shelf command files due other (inr a) (inl b) = absurd (stops_apart shelf files b.0 a.0 a.1 b.1 a.2)
 answers_one shelf command files due other (inr a) (inr b) =
@@ -88,7 +105,8 @@ due_some words shelf traffic =
     by_files : (command : Command) (files : List File) → Asks words command files
         → ((updates : List UpdateValue) × AreRead (Some shelf) files updates) ⊎ ((file : File) × (verdict : Verdict) × StopsAt (Some shelf) files file verdict)
         → (due : Due) × IsDue words (Some shelf) traffic due
-    by_files command files asks (inl read) = (output (output_of command read.0), record { command = command; files = files; asks = asks; holds = (read.0, read.1, refl) })
+    by_files command files asks (inl read) =
+        let made = output_some command read.0 in (output made.0, record { command = command; files = files; asks = asks; holds = (read.0, read.1, made.1) })
     by_files command files asks (inr stops) = by_first command files asks stops.0 stops.1 stops.2
 
 -- so one thing is due

@@ -1,6 +1,7 @@
 -- What a command made and what was written of it, as the ending of a run.
 use Rattle.std.proofs.Common.{◌≡◌, ◌≢◌, ◌⊎◌, ◌∙◌, ℕ, List, [], ◌∷◌, Option, Result, Ok, Err, IsErr, IsErrAnd, IsOk, refl, inl, inr, subst, sym, ap, arith}
 use Rattle.std.specs.Global.{Vec}
+use Rattle.yd_meaning.specs.Document.{Document, IsDocumentOf}
 use Rattle.yd_meaning.specs.Received.{Received}
 use Rattle.yd_world.specs.Shelf.{Shelf}
 use Rattle.yd_world.specs.Traffic.{Traffic}
@@ -12,8 +13,7 @@ use Rattle.yd_app.specs.Asking.{StopsAsking}
 use Rattle.yd_app.specs.Due.{IsDue, output}
 use Rattle.yd_app.specs.Ending.{Delivers, Ends, status_of}
 use Rattle.yd_app.specs.Lines.{FailsAt, refused_line}
-use Rattle.yd_app.specs.Commands.Show.{text_line}
-use Rattle.yd_app.specs.Output.{output_of}
+use Rattle.yd_app.specs.Commands.Show.{IsTextOutput, text_line}
 use Rattle.yd_app.specs.Reason.{fault_text}
 use Rattle.yd_app.specs.Receiving.{ReceivesAll}
 use Rattle.yd_app.specs.Run.{Count, RoseIn, TakesAllOf, Writes, count_of}
@@ -38,9 +38,10 @@ made_err Calm command files told told_now reads (Err other) stop is stops = subs
 pub stopped_at : (Calm : Type 0) (file : File) (told told_now : Option Shelf) (reads : Count) (stop : Stop) → StopsReading Calm told told_now file reads stop → StopsAmong Calm told told_now (file ∷ []) reads stop
 stopped_at Calm file told told_now reads stop s = inr (file, reached_first told file [], s)
 
--- what `show` makes of what was received
-pub line_is : (told : Option Shelf) (files : List File) (received : Received) (root line : List ℕ) (all : ReceivesAll told files received) → line ≡ text_line root received → line ≡ output_of (show_text root) all.updates
-line_is told files received root line all is = is ∙ ap (text_line root) all.received_is
+-- what `show` makes of a document of what was received
+pub text_made : (told : Option Shelf) (files : List File) (received : Received) (document : Document) (root line : List ℕ) (all : ReceivesAll told files received) → IsDocumentOf document received → line ≡ text_line root document
+    → IsTextOutput root all.updates line
+text_made told files received document root line all of is = record { document = document; is_document = subst (IsDocumentOf document) all.received_is of; bytes_are = is }
 
 -- what was made is what the words ask for
 pub made_asked : (Calm : Type 0) (words : List (List ℕ)) (command : Command) (files : List File) (told told_now : Option Shelf) (reads : Count) (result : Result (Vec ℕ) Stop) → Asks words command files
@@ -113,8 +114,8 @@ made_due words told traffic bytes asks = record { command = asks.command; files 
 -- ---- lemmas for callers
 
 -- what was written is due
-pub written_due : (words : List (List ℕ)) (told : Option Shelf) (traffic : Option Traffic) (taken now : Option (List ℕ)) (w : Writes words told taken now) → IsDue words told traffic (output (output_of w.command w.holds.0))
-written_due words told traffic taken now w = record { command = w.command; files = w.files; asks = w.asks; holds = (w.holds.0, w.holds.1, refl) }
+pub written_due : (words : List (List ℕ)) (told : Option Shelf) (traffic : Option Traffic) (taken now : Option (List ℕ)) (w : Writes words told taken now) → IsDue words told traffic (output w.holds.2)
+written_due words told traffic taken now w = record { command = w.command; files = w.files; asks = w.asks; holds = (w.holds.0, w.holds.1, w.holds.3) }
 
 -- how a run ends that made this and wrote it so far
 pub ends_of : (Calm : Type 0) (words : List (List ℕ)) (told told_now : Option Shelf) (traffic : Option Traffic) (reads writes : Count) (taken now : Option (List ℕ)) (made : Result (Vec ℕ) Stop) (e : Result (Unit {0}) Stop)
@@ -123,7 +124,7 @@ ends_of Calm words told told_now traffic reads writes taken now (Err stop) e m d
     subst (λ (r : Result (Unit {0}) Stop). Ends Calm words told told_now traffic reads writes taken now r) (sym d.0) (unwritten Calm words told told_now traffic reads writes taken now stop d.1 m)
 ends_of Calm words told told_now traffic reads writes taken now (Ok bytes) (Ok done) m d =
     weaker words (λ command files. MakesOf command files told bytes.items) (λ command files. TakesAllOf command files told taken now)
-    (λ command files x. (x.0, x.1, subst (λ (l : List ℕ). TakesAll taken now l) x.2 d, x.3)) m
+    (λ command files x. (x.0, x.1, bytes.items, x.2, d, x.3)) m
 ends_of Calm words told told_now traffic reads writes taken now (Ok bytes) (Err stop) m d = by_outage d.1
   where
     by_outage : (stop ≡ NoMemory) ⊎ ((stop ≡ WriteFault) × RoseIn writes) → Ends Calm words told told_now traffic reads writes taken now (Err stop)

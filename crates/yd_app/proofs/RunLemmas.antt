@@ -7,7 +7,6 @@ use Rattle.yd_app.proofs.MakingLemmas.{written_due}
 use Rattle.yd_app.specs.Due.{Due, IsDue, lacking, line_of_due, no_step_2, output, over_limit, refusal, status_of_due, statuses_of_due, usage}
 use Rattle.yd_app.specs.Ending.{Ends, line_of, status_of}
 use Rattle.yd_app.specs.Lines.{FailsAt, no_memory_line, read_fault_line, write_fault_line}
-use Rattle.yd_app.specs.Output.{output_of}
 use Rattle.yd_app.specs.Run.{Comes, Count, CutsOff, Follows, HasReason, IsLine, IsOneOf, RoseIn, TellsErr, Writes, WritesFront}
 use Rattle.yd_app.specs.Seen.{refusal_line}
 use Rattle.yd_app.specs.Verdict.{IsTold}
@@ -27,7 +26,7 @@ record EndsAsDue (words : List (List ℕ)) (told : Option Shelf) (traffic : Opti
 
 as_due : (Calm : Type 0) (words : List (List ℕ)) (told told_now : Option Shelf) (traffic : Option Traffic) (reads writes : Count) (taken now : Option (List ℕ)) (e : Result (Unit {0}) Stop) → Ends Calm words told told_now traffic reads writes taken now e
     → IsOneOf (status_of e) (0 ∷ 1 ∷ 2 ∷ 7 ∷ 8 ∷ []) → EndsAsDue words told traffic e
-as_due Calm words told told_now traffic reads writes taken now (Ok done) h one = record { due = output (output_of h.command h.holds.0); is_due = written_due words told traffic taken now h; status_is = refl; line_is = refl }
+as_due Calm words told told_now traffic reads writes taken now (Ok done) h one = record { due = output h.holds.2; is_due = written_due words told traffic taken now h; status_is = refl; line_is = refl }
 as_due Calm words told told_now traffic reads writes taken now (Err (Refused what)) h one = record { due = refusal (refusal_line what); is_due = h; status_is = refl; line_is = refl }
 as_due Calm words told told_now traffic reads writes taken now (Err Usage) h one = record { due = usage; is_due = h; status_is = refl; line_is = refl }
 as_due Calm words told told_now traffic reads writes taken now (Err (ReadFault file)) h one = absurd (omega (arith, one))
@@ -167,7 +166,7 @@ ends_told Calm words told told_now traffic reads writes taken now e h due is_tol
     cut bytes also = subst (λ (d : Due). IsOneOf 4 (statuses_of_due d)) (due_one words told traffic (output bytes) due is_told also is) (inr (inr (inr (inl refl))))
 
     by_ending : (f : Result (Unit {0}) Stop) → Ends Calm words told told_now traffic reads writes taken now f → IsOneOf (status_of f) (statuses_of_due due)
-    by_ending (Ok done) ends = same (output (output_of ends.command ends.holds.0)) (written_due words told traffic taken now ends)
+    by_ending (Ok done) ends = same (output ends.holds.2) (written_due words told traffic taken now ends)
     by_ending (Err (Refused what)) ends = same (refusal (refusal_line what)) ends
     by_ending (Err Usage) ends = same usage ends
     by_ending (Err (ReadFault other)) ends = three_comes words told traffic (λ command files. (file : File) × FailsAt Calm told told_now files file × (other.name.now ≡ file.name)) due is ends.1

@@ -4,7 +4,7 @@ use Rattle.yd_ops.specs.Value.{UpdateValue}
 use Rattle.yd_world.specs.Shelf.{Shelf}
 use Rattle.yd_world.specs.Traffic.{Traffic}
 use Rattle.yd_app.specs.Lines.{limit_line, no_step_2_line, read_fault_line, refused_line, usage_line}
-use Rattle.yd_app.specs.Output.{output_of}
+use Rattle.yd_app.specs.Output.{IsOutputOf}
 use Rattle.yd_app.specs.Status as status
 use Rattle.yd_app.specs.Verdict.{AreRead, StopsAt, missing, refused, too_large}
 use Rattle.yd_app.specs.Words.{AreOfNoForm, AsksFor, File}
@@ -27,7 +27,7 @@ IsDue words told traffic (refusal line) = AsksFor words (λ command files. (file
 IsDue words told traffic (over_limit name) = AsksFor words (λ command files. (file : File) × StopsAt told files file too_large × (name ≡ file.name))
 IsDue words told traffic (lacking name) = AsksFor words (λ command files. (file : File) × StopsAt told files file missing × (name ≡ file.name))
 IsDue words told traffic no_step_2 = ⊥
-IsDue words told traffic (output bytes) = AsksFor words (λ command files. (updates : List UpdateValue) × AreRead told files updates × (bytes ≡ output_of command updates))
+IsDue words told traffic (output bytes) = AsksFor words (λ command files. (updates : List UpdateValue) × AreRead told files updates × IsOutputOf command updates bytes)
 
 -- its status
 abbrev pub status_of_due : Due → ℕ

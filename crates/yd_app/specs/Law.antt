@@ -7,7 +7,7 @@ use Rattle.yd_meaning.specs.Received.{Agree, HaveSameContents, operations_of_all
 use Rattle.yd_world.specs.Shelf.{Shelf}
 use Rattle.yd_world.specs.Traffic.{Traffic}
 use Rattle.yd_app.specs.Due.{Due, IsDue}
-use Rattle.yd_app.specs.Output.{output_of}
+use Rattle.yd_app.specs.Output.{IsOutputOf}
 use Rattle.yd_app.specs.Run.{Writes}
 use Rattle.yd_app.specs.Verdict.{AreRead, HasVerdict, StopsAt, Verdict}
 use Rattle.yd_app.specs.Words.{Asks, Command, File, show_text}
@@ -41,7 +41,7 @@ pub record AreOneContents (one other : List UpdateValue) : Type 0 where
 -- files in any formats, by any names and in any libraries, show the same text of each root where they have the same contents
 abbrev pub ShowsConverge : Type 0
 ShowsConverge = (shelf other : Shelf) (files others : List File) (one another : List UpdateValue) (root : List ℕ) → AreRead (Some shelf) files one → AreRead (Some other) others another → AreOneContents one another →
-    output_of (show_text root) one ≡ output_of (show_text root) another
+    (bytes others_bytes : List ℕ) → IsOutputOf (show_text root) one bytes → IsOutputOf (show_text root) another others_bytes → bytes ≡ others_bytes
 
 -- the words ask to show the root of files that are read as these updates, and what is promised for status 0 was written
 pub record Shows (root : List ℕ) (updates : List UpdateValue) (words : List (List ℕ)) (shelf : Shelf) (taken now : Option (List ℕ)) : Type 0 where

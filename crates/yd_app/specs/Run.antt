@@ -6,7 +6,7 @@ use Rattle.yd_world.specs.Shelf.{Shelf}
 use Rattle.yd_world.specs.Traffic.{Traffic}
 use Rattle.yd_app.specs.Due.{Due, IsDue, line_of_due, output, status_of_due, statuses_of_due}
 use Rattle.yd_app.specs.Lines.{FailsAt, no_memory_line, read_fault_line, write_fault_line}
-use Rattle.yd_app.specs.Output.{StandsForAgain, output_of}
+use Rattle.yd_app.specs.Output.{IsOutputOf, StandsForAgain}
 use Rattle.yd_app.specs.Verdict.{AreRead, IsTold, NoneIsMissing}
 use Rattle.yd_app.specs.Words.{AreOfNoForm, Asks, AsksFor, Command, File}
 use Rattle.yd_app.specs.Writing.{TakesAll, TakesFront}
@@ -64,7 +64,8 @@ pub record Completes (ReadsCalmly WritesCalmly : Type 0) (words : List (List ℕ
 -- all that the command makes of the updates that the files stand for was written, whoever made them and however their bytes spell them; what
 -- `convert` wrote stands for the update again
 abbrev pub TakesAllOf : Command → List File → Option Shelf → Option (List ℕ) → Option (List ℕ) → Type 0
-TakesAllOf command files told taken now = (updates : List UpdateValue) × AreRead told files updates × TakesAll taken now (output_of command updates) × StandsForAgain command updates
+TakesAllOf command files told taken now =
+    (updates : List UpdateValue) × AreRead told files updates × (bytes : List ℕ) × IsOutputOf command updates bytes × TakesAll taken now bytes × StandsForAgain command updates
 
 -- so it is of what the words ask for
 abbrev pub Writes : List (List ℕ) → Option Shelf → Option (List ℕ) → Option (List ℕ) → Type 0

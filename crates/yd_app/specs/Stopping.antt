@@ -6,7 +6,7 @@ use Rattle.yd_world.specs.Shelf.{Shelf}
 use Rattle.yd_world.specs.declared.fault.Outage.{Outage}
 use Rattle.yd_world.specs.declared.fault.Outage.TheVariants as outages
 use Rattle.yd_app.specs.Loading.{BeginsLast}
-use Rattle.yd_app.specs.Output.{StandsForAgain, output_of}
+use Rattle.yd_app.specs.Output.{IsOutputOf, StandsForAgain}
 use Rattle.yd_app.specs.Reason.{fault_text}
 use Rattle.yd_app.specs.Run.{Count, RoseIn}
 use Rattle.yd_app.specs.Seen.{file_of}
@@ -31,7 +31,7 @@ StopsAmong Calm told told_now files reads stop = (stop ≡ NoMemory) ⊎ ((file 
 
 -- the bytes are what the command makes of the updates that the files stand for
 abbrev pub MakesOf : Command → List File → Option Shelf → List ℕ → Type 0
-MakesOf command files told bytes = (updates : List UpdateValue) × AreRead told files updates × (bytes ≡ output_of command updates) × StandsForAgain command updates
+MakesOf command files told bytes = (updates : List UpdateValue) × AreRead told files updates × IsOutputOf command updates bytes × StandsForAgain command updates
 
 -- so they are, or why the command stopped
 abbrev pub Makes : Type 0 → Command → List File → Option Shelf → Option Shelf → Count → Result (Vec ℕ) Stop → Type 0

@@ -1,7 +1,7 @@
 //! `show`: what a reader of a root sees.
 
 ghost use Rattle.std.specs.Prelude.{◌≡◌, map, IfOk};
-ghost use Rattle.yd_doc.specs.Kept.{received_of};
+ghost use Rattle.yd_doc.specs.Kept.{own_document};
 ghost use Rattle.yd_app.specs.Commands.Show.{root_list, text_line};
 ghost use Rattle.yd_app.specs.Run.{count_of};
 ghost use Rattle.yd_app.specs.Seen.{file_of};
@@ -34,15 +34,15 @@ pub fn show<'a, L: Library>(
         (count_of (L.faults library.old) (L.faults library.new)) }
 {
     let replica = receive_files(alloc, library, files)?;
+    own_document_is_defined(&replica);
     let line = line_of_root(alloc, &replica, root)?;
     Ok(line)
 }
 
 // The text that the root shows, and a line feed.
 fn line_of_root(alloc: Global, replica: &Replica, root: &str) -> Result<Vec<u8>, NoMemory>
-    ensures { IfOk result (λ line. line.items ≡ text_line root.now (received_of replica.now)) }
+    ensures { IfOk result (λ line. line.items ≡ text_line root.now (own_document replica.now)) }
 {
-    own_document_is_defined(replica);
     let list = list_of_root(alloc, root)?;
     let units = text(alloc, replica, &list)?;
     let mut line = Vec::new(alloc);
