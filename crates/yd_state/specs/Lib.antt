@@ -1,4 +1,5 @@
 pub mod Deleting
+pub mod Novelty
 pub mod Ordered
 pub mod State
 pub mod Stretches

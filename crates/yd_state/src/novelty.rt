@@ -1,44 +1,71 @@
 //! Whether an update deletes something more.
 
-ghost use Rattle.std.specs.Prelude.{◌≡◌, ◌↔◌, ◌⊎◌, IsTrue, IfOk};
+ghost use Rattle.std.specs.Prelude.{◌↔◌, ◌⊎◌, IsTrue};
+ghost use Rattle.yd_words.specs.Each.{Each};
 ghost use Rattle.yd_ids.specs.declared.id.Id.{Id};
+ghost use Rattle.yd_ids.specs.Id.{IsId};
 ghost use Rattle.yd_ids.specs.Set.{HasId};
+ghost use Rattle.yd_state.specs.Novelty.{IsKnown, first_of, id_behind};
 
-use crate::fault::NoMemory;
-use yd_ids::IdSet;
+use yd_ids::{Id, IdSet};
 
-/// Not each id of `more` is in one of the other sets. Where one of the two has them all, it takes no
-/// memory, and time with the spans of `more` alone; else it takes time with all spans.
-pub(crate) fn brings_deletion(
-    named: &IdSet,
-    deletes: &IdSet,
-    more: &IdSet,
-) -> Result<bool, NoMemory>
-    ensures { IfOk result (λ brings. IsTrue brings
-        ↔ (((x : Id) → HasId more.now x → HasId named.now x ⊎ HasId deletes.now x) → ⊥)) }
+/// Not each id of `more` is in one of the other sets. It takes no memory. Where one of the two has
+/// them all, it takes a look-up for each span of `more`, else three for each span of all sets.
+pub(crate) fn brings_deletion(named: &IdSet, deletes: &IdSet, more: &IdSet) -> bool
+    ensures { IsTrue result ↔ (((x : Id) → HasId more.now x
+        → HasId named.now x ⊎ HasId deletes.now x) → ⊥) }
 {
-    if named.has_all(more) {
-        return Ok(false);
+    if named.has_all(more) || deletes.has_all(more) {
+        return false;
     }
-    if deletes.has_all(more) {
-        return Ok(false);
+    // The lowest unknown id of a span is its first, or stands behind a span of what is known.
+    if !are_firsts_known(named, deletes, more) {
+        return true;
     }
-    let mut known = named.copy()?;
-    known.union(deletes)?;
-    let mut all = known.copy()?;
-    all.union(more)?;
-    Ok(!is_same_set(&known, &all))
+    if !are_ends_known(named, deletes, more, named) {
+        return true;
+    }
+    !are_ends_known(named, deletes, more, deletes)
 }
 
-/// Two sets have the same spans.
-fn is_same_set(one: &IdSet, other: &IdSet) -> bool
-    ensures { IsTrue result ↔ (one.now ≡ other.now) }
+/// The first id of each span of `more` is known.
+fn are_firsts_known(named: &IdSet, deletes: &IdSet, more: &IdSet) -> bool
+    ensures { IsTrue result ↔ Each (λ span.
+        IsKnown named.now deletes.now more.now (first_of span)) more.now }
 {
-    let mut others = other.spans();
-    for span in one.spans() {
-        if others.next() != Some(span) {
+    for span in more.spans() {
+        let id = Id {
+            client: span.client,
+            clock: span.clock,
+        };
+        if !is_known(named, deletes, more, id) {
             return false;
         }
     }
-    others.next().is_none()
+    true
+}
+
+/// The id behind each of the spans is known.
+fn are_ends_known(named: &IdSet, deletes: &IdSet, more: &IdSet, spans: &IdSet) -> bool
+    ensures { IsTrue result ↔ Each (λ span.
+        IsKnown named.now deletes.now more.now (id_behind span)) spans.now }
+{
+    for span in spans.spans() {
+        let id = Id {
+            client: span.client,
+            clock: span.clock + span.len,
+        };
+        if !is_known(named, deletes, more, id) {
+            return false;
+        }
+    }
+    true
+}
+
+/// The id is in one of the other sets, if it is in `more`.
+fn is_known(named: &IdSet, deletes: &IdSet, more: &IdSet, id: Id) -> bool
+    requires { IsId id }
+    ensures { IsTrue result ↔ IsKnown named.now deletes.now more.now id }
+{
+    !more.has(id) || named.has(id) || deletes.has(id)
 }

@@ -82,7 +82,7 @@ impl State {
         ensures sound { IsSound self.new }
         ensures unchanged { OnErr result (self.new ≡ self.old) }
     {
-        let deletes = brings_deletion(&self.named, &self.deletes, &update.deletes)?;
+        let deletes = brings_deletion(&self.named, &self.deletes, &update.deletes);
         let mut named = self.named.copy()?;
         named.union(&update.deletes)?;
         let taken = self.held.take(update)?;
