@@ -4,15 +4,16 @@ pub mod CountLemmas
 pub mod FateLemmas
 pub mod FoundLemmas
 pub mod GatheringLemmas
-pub mod KeptOrderLemmas
 pub mod LastLemmas
 pub mod ListOrderLemmas
 pub mod ListedLemmas
+pub mod MadeOrderLemmas
 pub mod NamedLemmas
 pub mod NoveltyLemmas
 pub mod NumberLemmas
 pub mod OneListLemmas
 pub mod PassLemmas
 pub mod SettledLemmas
+pub mod SwappingLemmas
 pub mod TakenRowLemmas
 pub mod WaitingLemmas

@@ -1,8 +1,8 @@
--- Which orders stay as they are when more is held, and that arranging the others gives all orders.
+-- Which orders stay as they are when more is held, and that with those that are made for the others all lists have theirs.
 use Rattle.std.proofs.Common.{◌≡◌, ℕ, ◌≤◌, ◌<◌, Bool, true, false, List, [], ◌∷◌, ◌⊎◌, Some, zero, suc, inl, inr, length, map, refl, sym, ap, ◌∙◌, subst, arith, length-append}
 use Rattle.std.specs.Prelude.{slice_get}
-use Rattle.std.proofs.lemmas.List.{length-map}
 use Rattle.std.proofs.lemmas.Option.{slice_get_within}
+use Rattle.yd_words.proofs.OptionLemmas.{some_is}
 use Rattle.yd_words.proofs.TestLemmas.{split}
 use Rattle.yd_ids.specs.declared.id.Id.{Id}
 use Rattle.yd_ops.specs.declared.lists.List.{List as DocList}
@@ -17,10 +17,11 @@ use Rattle.yd_state.specs.Ordered.{AreOrders}
 use Rattle.yd_received.specs.Received.{held_of}
 use Rattle.yd_held.specs.Held.{HeldValue, HoldsAll}
 use Rattle.yd_held.specs.Holding.{MarkChanges}
-use Rattle.yd_state.specs.Stretches.{stretch_of, stretches_in, order_by_stretches, AreUnmarked, AreSettled, AreGathered, IsTableOfStretches, HaveOrders, IsKeptOrMade, AreKeptOrMade}
+use Rattle.yd_state.specs.Stretches.{stretch_of, stretches_in, order_by_stretches, AreUnmarked, AreSettled, AreGathered, IsTableOfStretches, AreTables, AreMadeOf, AreMade, with_unmarked}
 use Rattle.yd_state.proofs.ListOrderLemmas.{AreHeld, are_held, order_of-stretches, stretches_are_table, list_stretches_end}
-use Rattle.yd_state.proofs.KeptOrderLemmas.{ordered_at, at_ordered}
+use Rattle.yd_state.proofs.MadeOrderLemmas.{ordered_at, at_ordered}
 use Rattle.yd_state.proofs.ListedLemmas.{orders_each}
+use Rattle.yd_state.proofs.SwappingLemmas.{length-with_unmarked, marked_at, unmarked_at}
 
 -- what stands at a place below the length
 at_place : {X : Type 0} (xs : List X) (n : ℕ) → n < length xs → (x : X) × (slice_get xs n ≡ Some x)
@@ -30,37 +31,40 @@ at_place (x ∷ xs) (suc n) lt = at_place xs n (omega arith)
 
 -- ---- lemmas for callers
 
--- where lists without a mark are settled, the stretches that are gathered of the others can be arranged
-pub gathered_have : (runs : List Run) (ts : List Entry) (names : List DocList) (stale : List Bool) (buckets : List (List Stretch)) (orders : List (List Id)) →
-    AreHeld runs ts names → AreSettled stale names orders ts → AreGathered stale ts buckets → HaveOrders stale buckets orders
-gathered_have runs ts names stale buckets orders are s g = record {
+-- the stretches that are gathered of lists with a mark can be arranged
+pub gathered_tables : (runs : List Run) (ts : List Entry) (names : List DocList) (stale : List Bool) (buckets : List (List Stretch)) →
+    AreHeld runs ts names → length stale ≡ length names → AreGathered stale ts buckets → AreTables stale buckets
+gathered_tables runs ts names stale buckets are each g = record {
   each = g.each;
-  tables = λ n stretches marked there. let (name, named) = at_place names n (omega (arith, s.each, slice_get_within stale n true marked)) in
-      subst IsTableOfStretches (one_list n stretches (sym (g.gathered n marked) ∙ there))
+  tables = λ n stretches marked there. let (name, named) = at_place names n (omega (arith, each, slice_get_within stale n true marked)) in
+      subst IsTableOfStretches (some_is (stretches_in n ts) stretches (sym (g.gathered n marked) ∙ there))
       (record { clocks = list_stretches_end runs ts names are n name named; table = stretches_are_table runs ts names are n name named });
-  orders = λ n unmarked. slice_get_within orders n (order_by_stretches n ts) (s.settled n unmarked);
 }
-  where
-    one_list : (n : ℕ) (stretches : List Stretch) → Some (stretches_in n ts) ≡ Some stretches → stretches_in n ts ≡ stretches
-    one_list n stretches e = cc
 
--- and keeping the former and arranging the latter gives the order of each
-pub settled_orders : (runs : List Run) (ts : List Entry) (names : List DocList) (stale : List Bool) (buckets : List (List Stretch)) (orders made : List (List Id)) →
-    AreHeld runs ts names → AreSettled stale names orders ts → AreGathered stale ts buckets →
-    length made ≡ length stale → AreKeptOrMade stale buckets orders made → AreOrders (held_in runs ts) names made
-settled_orders runs ts names stale buckets orders made are s g each kept = at_ordered (held_in runs ts) names made (sym (each ∙ s.each)) at
+-- and so each has its order
+pub gathered_made : (ts : List Entry) (stale : List Bool) (buckets : List (List Stretch)) (made : List (List Id)) →
+    AreGathered stale ts buckets → length made ≡ length stale → AreMadeOf stale buckets made → AreMade stale ts made
+gathered_made ts stale buckets made g each are = record {
+  each = each;
+  arranged = λ n marked. let (order, there) = at_place made n (omega (arith, each, slice_get_within stale n true marked)) in
+      there ∙ ap Some (are n order there (stretches_in n ts) marked (g.gathered n marked));
+}
+
+-- with the orders of lists without a mark, which are settled, they are those of all lists
+pub settled_orders : (runs : List Run) (ts : List Entry) (names : List DocList) (stale : List Bool) (orders made : List (List Id)) →
+    AreHeld runs ts names → AreSettled stale names orders ts → AreMade stale ts made → AreOrders (held_in runs ts) names (with_unmarked stale made orders)
+settled_orders runs ts names stale orders made are s m = at_ordered (held_in runs ts) names (with_unmarked stale made orders)
+    (sym (length-with_unmarked stale made orders ∙ m.each ∙ s.each)) at
   where
-    at : (n : ℕ) (name : DocList) → slice_get names n ≡ Some name → slice_get made n ≡ Some (order_of (held_in runs ts) name)
-    at n name named = let (order, there) = at_place made n (omega (arith, each, s.each, slice_get_within names n name named)) in
-        let (mark, marked) = at_place stale n (omega (arith, s.each, slice_get_within names n name named)) in
-        there ∙ ap Some (go order mark marked (kept n order there) ∙ sym (order_of-stretches runs ts names are n name named))
+    at : (n : ℕ) (name : DocList) → slice_get names n ≡ Some name → slice_get (with_unmarked stale made orders) n ≡ Some (order_of (held_in runs ts) name)
+    at n name named =
+        let inside = slice_get_within names n name named in
+        let (mark, marked) = at_place stale n (omega (arith, s.each, inside)) in
+        go mark marked (omega (arith, m.each, s.each, inside)) ∙ ap Some (sym (order_of-stretches runs ts names are n name named))
       where
-        one_order : (a b : List Id) → Some a ≡ Some b → b ≡ a
-        one_order a b e = cc
-
-        go : (order : List Id) (mark : Bool) → slice_get stale n ≡ Some mark → IsKeptOrMade stale buckets orders n order → order ≡ order_by_stretches n ts
-        go order true e is = is.made (stretches_in n ts) e (g.gathered n e)
-        go order false e is = one_order (order_by_stretches n ts) order (sym (s.settled n e) ∙ is.kept e)
+        go : (mark : Bool) → slice_get stale n ≡ Some mark → n < length made → slice_get (with_unmarked stale made orders) n ≡ Some (order_by_stretches n ts)
+        go true e lt = marked_at stale made orders n e ∙ m.arranged n e
+        go false e lt = unmarked_at stale made orders n e lt (slice_get_within orders n (order_by_stretches n ts) (s.settled n e)) ∙ s.settled n e
 
 -- where the orders were those of what was held, and the marks tell which lists have more, the lists without a mark are settled
 pub settled_after : (k : HeldValue) (ts : List Entry) (new : List DocList) (orders : List (List Id)) (stale : List Bool) → HoldsAll k →
@@ -84,40 +88,27 @@ settled_after k ts new orders stale holds ordered (more, grown) changes = record
 -- where no list has a mark, each has its order
 pub unmarked_orders : (runs : List Run) (ts : List Entry) (names : List DocList) (stale : List Bool) (orders : List (List Id)) →
     AreHeld runs ts names → AreUnmarked stale → AreSettled stale names orders ts → AreOrders (held_in runs ts) names orders
-unmarked_orders runs ts names stale orders are none s =
-    settled_orders runs ts names stale (map no_stretches stale) orders orders are s
-    (record { each = length-map stale no_stretches; gathered = λ n e. absurd (unmarked stale none n true e refl) })
-    each (λ n order there. record {
-      made = λ stretches e. absurd (unmarked stale none n true e refl);
-      kept = λ e. there;
-    })
+unmarked_orders runs ts names stale orders are none s = at_ordered (held_in runs ts) names orders each at
   where
-    no_stretches : Bool → List Stretch
-    no_stretches mark = []
-
-    unmarked : (marks : List Bool) → AreUnmarked marks → (n : ℕ) (b : Bool) → slice_get marks n ≡ Some b → b ≡ true → ⊥
-    unmarked [] none n b e f = absurd cc
-    unmarked (m ∷ ms) none zero b e f = let clash : true ≡ false = sym f ∙ some_is b m (sym e) ∙ none.0 in absurd cc
-      where
-        some_is : (x y : Bool) → Some x ≡ Some y → x ≡ y
-        some_is x y e = cc
-    unmarked (m ∷ ms) none (suc n) b e f = unmarked ms none.1 n b e f
-
-    -- a list for each mark has its order, and there are no others
-    mark_there : (marks : List Bool) → AreUnmarked marks → (n : ℕ) → n < length marks → slice_get marks n ≡ Some false
-    mark_there [] none n lt = absurd (omega arith)
-    mark_there (m ∷ ms) none zero lt = ap (λ b. Some b) none.0
-    mark_there (m ∷ ms) none (suc n) lt = mark_there ms none.1 n (omega arith)
+    -- the mark of a list is not set
+    unset : (marks : List Bool) → AreUnmarked marks → (n : ℕ) → n < length marks → slice_get marks n ≡ Some false
+    unset [] none n lt = absurd (omega arith)
+    unset (m ∷ ms) none zero lt = ap (λ b. Some b) none.0
+    unset (m ∷ ms) none (suc n) lt = unset ms none.1 n (omega arith)
 
     enough : (m n : ℕ) → ((k : ℕ) → k < m → k < n) → m ≤ n
     enough zero n f = omega arith
     enough (suc m) n f = omega (arith, f m (omega arith))
 
-    each : length orders ≡ length stale
+    each : length names ≡ length orders
     each = omega (
       arith,
       s.each,
       s.no_more,
       enough (length stale) (length orders)
-          (λ k lt. slice_get_within orders k (order_by_stretches k ts) (s.settled k (mark_there stale none k lt))),
+          (λ k lt. slice_get_within orders k (order_by_stretches k ts) (s.settled k (unset stale none k lt))),
     )
+
+    at : (n : ℕ) (name : DocList) → slice_get names n ≡ Some name → slice_get orders n ≡ Some (order_of (held_in runs ts) name)
+    at n name named = s.settled n (unset stale none n (omega (arith, s.each, slice_get_within names n name named)))
+        ∙ ap Some (sym (order_of-stretches runs ts names are n name named))

@@ -1,5 +1,5 @@
 -- The units of a list as the order sees them: stretches of one client, in the order of writing (own).
-use Rattle.std.specs.Prelude.{◌≡◌, ◌<◌, ◌≤◌, ℕ, zero, suc, false, true, Bool, List, [], ◌∷◌, ◌++◌, Some, filter, map, slice_get, length}
+use Rattle.std.specs.Prelude.{◌≡◌, ◌≤◌, ℕ, zero, suc, false, true, Bool, List, [], ◌∷◌, ◌++◌, Some, filter, map, slice_get, length, if◌then◌else◌}
 use Rattle.std.specs.Global.{Vec}
 use Rattle.yd_words.specs.Each.{Each}
 use Rattle.yd_ids.specs.declared.id.Id.{Id}
@@ -54,25 +54,37 @@ pub record AreGathered (stale : List Bool) (taken : List Entry) (buckets : List 
 abbrev pub Gathers : List Bool → Entry → List (List Stretch) → List (List Stretch) → Type 0
 Gathers stale entry old new = (seen : List Entry) → AreGathered stale seen old → AreGathered stale (seen ++ entry ∷ []) new
 
--- ---- orders, kept or made
+-- ---- orders, as they are made
 
 -- the stretches end at clocks, and their rows are a table
 pub record IsTableOfStretches (stretches : List Stretch) : Type 0 where
   pub clocks : Each EndsAtClock stretches
   pub table : IsTable (among_rows (rows_of_stretches stretches))
 
--- each list with a mark has stretches that can be arranged, and each other one an order
-pub record HaveOrders (stale : List Bool) (buckets : List (List Stretch)) (old : List (List Id)) : Type 0 where
+-- there are stretches for each mark, and where it is set they can be arranged
+pub record AreTables (stale : List Bool) (buckets : List (List Stretch)) : Type 0 where
   pub each : length buckets ≡ length stale
   pub tables : (n : ℕ) (stretches : List Stretch) → slice_get stale n ≡ Some true → slice_get buckets n ≡ Some stretches → IsTableOfStretches stretches
-  pub orders : (n : ℕ) → slice_get stale n ≡ Some false → n < length old
 
--- the order of the list with a number: with a mark that of its stretches, else the one that it had
-pub record IsKeptOrMade (stale : List Bool) (buckets : List (List Stretch)) (old : List (List Id)) (n : ℕ) (order : List Id) : Type 0 where
-  pub made : (stretches : List Stretch) → slice_get stale n ≡ Some true → slice_get buckets n ≡ Some stretches →
-      order ≡ origin_order (among_rows (rows_of_stretches stretches))
-  pub kept : slice_get stale n ≡ Some false → slice_get old n ≡ Some order
+-- the order of the list with a number, where it has a mark, is that of its stretches
+abbrev pub IsMadeOf : List Bool → List (List Stretch) → ℕ → List Id → Type 0
+IsMadeOf stale buckets n order =
+    (stretches : List Stretch) → slice_get stale n ≡ Some true → slice_get buckets n ≡ Some stretches → order ≡ origin_order (among_rows (rows_of_stretches stretches))
 
 -- so are orders in a row, from the first on
-abbrev pub AreKeptOrMade : List Bool → List (List Stretch) → List (List Id) → List (List Id) → Type 0
-AreKeptOrMade stale buckets old new = (n : ℕ) (order : List Id) → slice_get new n ≡ Some order → IsKeptOrMade stale buckets old n order
+abbrev pub AreMadeOf : List Bool → List (List Stretch) → List (List Id) → Type 0
+AreMadeOf stale buckets made = (n : ℕ) (order : List Id) → slice_get made n ≡ Some order → IsMadeOf stale buckets n order
+
+-- there is an order for each mark, and where it is set that of the stretches in the list
+pub record AreMade (stale : List Bool) (taken : List Entry) (made : List (List Id)) : Type 0 where
+  pub each : length made ≡ length stale
+  pub arranged : (n : ℕ) → slice_get stale n ≡ Some true → slice_get made n ≡ Some (order_by_stretches n taken)
+
+-- ---- orders, as they are put in place
+
+-- the first of two lists, with those of the second at the places without a mark, where there is one
+abbrev pub with_unmarked : {X : Type 0} → List Bool → List X → List X → List X
+with_unmarked [] xs ys = xs
+with_unmarked (mark ∷ marks) [] ys = []
+with_unmarked (mark ∷ marks) (x ∷ xs) [] = x ∷ xs
+with_unmarked (mark ∷ marks) (x ∷ xs) (y ∷ ys) = (if mark then x else y) ∷ with_unmarked marks xs ys

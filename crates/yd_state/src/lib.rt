@@ -17,6 +17,7 @@ mod novelty;
 mod ordering;
 mod settling;
 mod state;
+mod swapping;
 mod waiting;
 
 pub use fault::NoMemory;

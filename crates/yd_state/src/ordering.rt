@@ -4,10 +4,9 @@ ghost use Rattle.std.specs.Prelude.{◌≡◌, ◌<◌, [], Some, true, length, 
 ghost use Rattle.std.specs.Prelude.{Decides, IfOk, OnOk};
 ghost use Rattle.yd_origins.specs.Sorted.{origin_order};
 ghost use Rattle.yd_order.specs.Stretch.{rows_of_stretches, among_rows};
-ghost use Rattle.yd_received.specs.Received.{held_of};
-ghost use Rattle.yd_state.specs.Ordered.{AreOrders, order_lists};
-ghost use Rattle.yd_state.specs.Stretches.{AreSettled, AreGathered, Gathers, IsTableOfStretches};
-ghost use Rattle.yd_state.specs.Stretches.{HaveOrders, IsKeptOrMade, AreKeptOrMade};
+ghost use Rattle.yd_state.specs.Ordered.{order_lists};
+ghost use Rattle.yd_state.specs.Stretches.{AreGathered, Gathers, IsTableOfStretches, AreTables};
+ghost use Rattle.yd_state.specs.Stretches.{IsMadeOf, AreMadeOf, AreMade};
 ghost use Rattle.yd_state.specs.Stretches.{stretch_of, stretch_lists, with_last};
 
 use crate::fault::NoMemory;
@@ -17,21 +16,15 @@ use yd_ids::Id;
 use yd_order::{Stretch, arrange_stretches};
 use yd_received::Entry;
 
-/// The ids of each list in the order that their origins give. A list without a mark keeps its
-/// order; the others are arranged anew (`arrange_stretches`).
-pub(crate) fn arranged(
-    alloc: Global,
-    held: &Held,
-    orders: &[Vec<Id>],
-    stale: &[bool],
-) -> Result<Vec<Vec<Id>>, NoMemory>
-    requires { AreSettled stale.now held.now.names (order_lists orders.now)
-        held.now.received.entries }
-    ensures { IfOk result (λ order. AreOrders (held_of held.now.received) held.now.names
-        (order_lists order.items)) }
+/// The ids of each list with a mark in the order that their origins give (`arrange_stretches`). The
+/// other lists have none: of them nothing is looked at.
+pub(crate) fn arranged(alloc: Global, held: &Held, stale: &[bool]) -> Result<Vec<Vec<Id>>, NoMemory>
+    requires { length stale.now ≡ length held.now.names }
+    ensures { IfOk result (λ made.
+        AreMade stale.now held.now.received.entries (order_lists made.items)) }
 {
     let buckets = gathered(alloc, held.received().entries(), stale)?;
-    let made = orders_of_lists(alloc, &buckets, orders, stale)?;
+    let made = orders_of_lists(alloc, &buckets, stale)?;
     Ok(made)
 }
 
@@ -105,45 +98,42 @@ fn put(buckets: &mut Vec<Vec<Stretch>>, n: usize, stretch: Stretch) -> Result<()
     Ok(())
 }
 
-/// The order of each list: with a mark that of its stretches, else a copy of the one that it had.
+/// The order of each list with a mark, and an empty one for each other list.
 fn orders_of_lists(
     alloc: Global,
     buckets: &[Vec<Stretch>],
-    orders: &[Vec<Id>],
     stale: &[bool],
 ) -> Result<Vec<Vec<Id>>, NoMemory>
-    requires { HaveOrders stale.now (stretch_lists buckets.now) (order_lists orders.now) }
+    requires { AreTables stale.now (stretch_lists buckets.now) }
     ensures each { IfOk result (λ made. length made.items ≡ length stale.now) }
     ensures made { IfOk result (λ made.
-        AreKeptOrMade stale.now (stretch_lists buckets.now) (order_lists orders.now)
-        (order_lists made.items)) }
+        AreMadeOf stale.now (stretch_lists buckets.now) (order_lists made.items)) }
 {
     let mut made = Vec::new(alloc);
     for n in 0..stale.len() {
-        let order = order_of_list(alloc, buckets, orders, stale, n)?;
+        let order = order_of_list(alloc, buckets, stale, n)?;
         made.push(order)?;
     }
     Ok(made)
 }
 
-/// The order of the list with the number.
+/// The order of the list with the number, where it has a mark.
 fn order_of_list(
     alloc: Global,
     buckets: &[Vec<Stretch>],
-    orders: &[Vec<Id>],
     stale: &[bool],
     n: usize,
 ) -> Result<Vec<Id>, NoMemory>
     requires number { n < length stale.now }
-    requires have { HaveOrders stale.now (stretch_lists buckets.now) (order_lists orders.now) }
+    requires tables { AreTables stale.now (stretch_lists buckets.now) }
     ensures { IfOk result (λ order.
-        IsKeptOrMade stale.now (stretch_lists buckets.now) (order_lists orders.now) n order.items) }
+        IsMadeOf stale.now (stretch_lists buckets.now) n order.items) }
 {
-    if stale[n] {
-        let made = arranged_anew(alloc, &buckets[n])?;
-        return Ok(made);
+    if !stale[n] {
+        return Ok(Vec::new(alloc));
     }
-    Ok(Vec::from_slice(alloc, &orders[n])?)
+    let made = arranged_anew(alloc, &buckets[n])?;
+    Ok(made)
 }
 
 /// The ids of stretches in the order that their origins give.

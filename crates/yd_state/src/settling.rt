@@ -10,11 +10,12 @@ ghost use Rattle.yd_state.specs.Stretches.{AreSettled, AreUnmarked};
 use crate::deleting::delete_set;
 use crate::fault::NoMemory;
 use crate::ordering::arranged;
+use crate::swapping::swap_unmarked;
 use yd_held::Held;
 use yd_ids::{Id, IdSet};
 
-/// Puts the lists with a mark in order, and answers what is deleted then. Where there is no mark, no
-/// list is looked at.
+/// Puts the lists with a mark in order, and answers what is deleted then. The orders of the others
+/// stay, and are not copied; where there is no mark, no list is looked at.
 pub(crate) fn settle(
     held: &Held,
     named: &IdSet,
@@ -28,17 +29,25 @@ pub(crate) fn settle(
         (record { operations = taken_of held.now.received; deletes = named.now })) }
     ensures ordered { OnOk result (AreOrders (held_of held.now.received) held.now.names
         (order_lists orders.new.items)) }
-    ensures unchanged { OnErr result (orders.new ≡ orders.old) }
+    ensures unchanged { OnErr result (orders.new.items ≡ orders.old.items) }
 {
     let alloc = held.received().allocator();
-    if has_mark(stale) {
-        let made = arranged(alloc, held, orders, stale)?;
-        let deletes = delete_set(alloc, held, named, &made)?;
-        *orders = made;
+    if !has_mark(stale) {
+        let deletes = delete_set(alloc, held, named, orders)?;
         return Ok(deletes);
     }
-    let deletes = delete_set(alloc, held, named, orders)?;
-    Ok(deletes)
+    let mut made = arranged(alloc, held, stale)?;
+    swap_unmarked(&mut made, orders, stale);
+    match delete_set(alloc, held, named, &made) {
+        Ok(deletes) => {
+            *orders = made;
+            Ok(deletes)
+        }
+        Err(NoMemory) => {
+            swap_unmarked(&mut made, orders, stale);
+            Err(NoMemory)
+        }
+    }
 }
 
 /// A mark is set.

@@ -1,9 +1,10 @@
--- Orders of lists, kept or made, one after another; and that they are those of the names, where each is.
+-- Orders of lists, made one after another; and that orders are those of the names, where each is.
 use Rattle.std.proofs.Common.{◌≡◌, ℕ, ◌<◌, Bool, true, false, List, [], ◌∷◌, ◌++◌, ◌⊎◌, Some, None, zero, suc, inl, inr, length, get_or, map, refl, sym, ap, ◌∙◌, subst, arith}
 use Rattle.std.specs.Prelude.{slice_get}
 use Rattle.std.specs.Global.{Vec}
 use Rattle.std.proofs.lemmas.List.{length-map}
 use Rattle.std.proofs.lemmas.Option.{slice_get-get_or}
+use Rattle.yd_words.proofs.OptionLemmas.{some_is}
 use Rattle.yd_ids.specs.declared.id.Id.{Id}
 use Rattle.yd_ops.specs.declared.lists.List.{List as DocList}
 use Rattle.yd_ops.specs.Operation.{Operation}
@@ -11,8 +12,8 @@ use Rattle.yd_origins.specs.Sorted.{origin_order}
 use Rattle.yd_meaning.specs.Order.{order_of}
 use Rattle.yd_order.specs.declared.stretch.Stretch.{Stretch}
 use Rattle.yd_order.specs.Stretch.{rows_of_stretches, among_rows}
-use Rattle.yd_state.specs.Ordered.{AreOrders, order_lists}
-use Rattle.yd_state.specs.Stretches.{stretch_lists, HaveOrders, IsKeptOrMade, AreKeptOrMade}
+use Rattle.yd_state.specs.Ordered.{AreOrders}
+use Rattle.yd_state.specs.Stretches.{stretch_lists, AreTables, IsMadeOf, AreMadeOf}
 
 -- what stands in a list with one more
 at_more : {X : Type 0} (xs : List X) (x : X) (n : ℕ) (y : X) → slice_get (xs ++ x ∷ []) n ≡ Some y → (slice_get xs n ≡ Some y) ⊎ ((n ≡ length xs) × (x ≡ y))
@@ -33,40 +34,24 @@ map_at f (z ∷ zs) (suc n) x y lt e g = map_at f zs n x y (omega arith) e g
 pub mark_at : (stale : List Bool) (n : ℕ) (mark : Bool) → n < length stale → get_or stale n false ≡ mark → slice_get stale n ≡ Some mark
 mark_at stale n mark lt e = slice_get-get_or stale n false lt ∙ ap Some e
 
--- each mark has stretches, and one that is not set an order
-pub bucket_there : (stale : List Bool) (buckets : List (Vec Stretch)) (old : List (List Id)) (n : ℕ) → HaveOrders stale (stretch_lists buckets) old →
-    n < length stale → n < length buckets
-bucket_there stale buckets old n have lt = omega (arith, have.each, length-map buckets (λ (bucket : Vec Stretch). bucket.items))
-
-pub order_there : (stale : List Bool) (buckets : List (List Stretch)) (orders : List (Vec Id)) (n : ℕ) → HaveOrders stale buckets (order_lists orders) →
-    slice_get stale n ≡ Some false → n < length orders
-order_there stale buckets orders n have unmarked = omega (arith, have.orders n unmarked, length-map orders (λ (order : Vec Id). order.items))
+-- each mark has stretches
+pub bucket_there : (stale : List Bool) (buckets : List (Vec Stretch)) (n : ℕ) → AreTables stale (stretch_lists buckets) → n < length stale → n < length buckets
+bucket_there stale buckets n are lt = omega (arith, are.each, length-map buckets (λ (bucket : Vec Stretch). bucket.items))
 
 -- the order of one list, with a mark or without
-pub order_made : (stale : List Bool) (buckets : List (List Stretch)) (old : List (List Id)) (n : ℕ) (order : List Id) (stretches : List Stretch) →
-    slice_get stale n ≡ Some true → slice_get buckets n ≡ Some stretches → order ≡ origin_order (among_rows (rows_of_stretches stretches)) →
-    IsKeptOrMade stale buckets old n order
-order_made stale buckets old n order stretches marked there e = record {
-  made = λ other _ f. let same : stretches ≡ other = one_list other (sym there ∙ f) in e ∙ ap (λ s. origin_order (among_rows (rows_of_stretches s))) same;
-  kept = λ unmarked. let clash : Some true ≡ Some false = sym marked ∙ unmarked in cc;
-}
-  where
-    one_list : (other : List Stretch) → Some stretches ≡ Some other → stretches ≡ other
-    one_list other f = cc
+pub order_made : (stale : List Bool) (buckets : List (List Stretch)) (n : ℕ) (order : List Id) (stretches : List Stretch) →
+    slice_get buckets n ≡ Some stretches → order ≡ origin_order (among_rows (rows_of_stretches stretches)) → IsMadeOf stale buckets n order
+order_made stale buckets n order stretches there e other marked f = e ∙ ap (λ s. origin_order (among_rows (rows_of_stretches s))) (some_is stretches other (sym there ∙ f))
 
-pub order_kept : (stale : List Bool) (buckets : List (List Stretch)) (old : List (List Id)) (n : ℕ) (order : List Id) → slice_get stale n ≡ Some false →
-    slice_get old n ≡ Some order → IsKeptOrMade stale buckets old n order
-order_kept stale buckets old n order unmarked there = record {
-  made = λ stretches marked f. let clash : Some true ≡ Some false = sym marked ∙ unmarked in cc;
-  kept = λ _. there;
-}
+pub none_made : (stale : List Bool) (buckets : List (List Stretch)) (n : ℕ) (order : List Id) → slice_get stale n ≡ Some false → IsMadeOf stale buckets n order
+none_made stale buckets n order unmarked stretches marked f = let clash : Some true ≡ Some false = sym marked ∙ unmarked in cc
 
 -- the order of the next list is behind them
-pub kept_or_made-more : (stale : List Bool) (buckets : List (List Stretch)) (old new : List (List Id)) (n : ℕ) (order : List Id) → length new ≡ n →
-    AreKeptOrMade stale buckets old new → IsKeptOrMade stale buckets old n order → AreKeptOrMade stale buckets old (new ++ order ∷ [])
-kept_or_made-more stale buckets old new n order e are next m other there = elim (at_more new order m other there) [
+pub made-more : (stale : List Bool) (buckets : List (List Stretch)) (made : List (List Id)) (n : ℕ) (order : List Id) → length made ≡ n →
+    AreMadeOf stale buckets made → IsMadeOf stale buckets n order → AreMadeOf stale buckets (made ++ order ∷ [])
+made-more stale buckets made n order e are next m other there = elim (at_more made order m other there) [
   | inl f ↦ are m other f
-  | inr f ↦ subst (λ k. IsKeptOrMade stale buckets old k other) (sym (f.0 ∙ e)) (subst (λ xs. IsKeptOrMade stale buckets old n xs) f.1 next)
+  | inr f ↦ subst (λ k. IsMadeOf stale buckets k other) (sym (f.0 ∙ e)) (subst (λ xs. IsMadeOf stale buckets n xs) f.1 next)
 ]
 
 -- the orders are those of the names, where each is
