@@ -1,5 +1,2 @@
 pub mod Kept
-pub mod Lending
-pub mod Lent
-pub mod Replica
 pub mod Waiting

@@ -14,11 +14,10 @@
 
 mod fault;
 pub mod law;
-mod listing;
 mod replica;
 mod waiting;
 
 pub use fault::NoMemory;
-pub use listing::{ListView, RunView};
 pub use replica::Replica;
 pub use waiting::Waiting;
+pub use yd_state::{ListView, RunView};

@@ -11,19 +11,18 @@ ghost use Rattle.yd_meaning.specs.Held.{held_set, held_clock, waiting_counts};
 ghost use Rattle.yd_meaning.specs.Document.{AreDeletedIn};
 ghost use Rattle.yd_meaning.specs.Law.{ArePaired};
 ghost use Rattle.yd_ops.specs.Operation.{Operation};
+ghost use Rattle.yd_state.specs.Brings.{BringsSomething};
+ghost use Rattle.yd_state.specs.Lent.{lent_units, units_left, last_unit};
 ghost use Rattle.yd_doc.specs.Kept.{received_of, own_document};
-ghost use Rattle.yd_doc.specs.Lent.{lent_units, units_left};
-ghost use Rattle.yd_doc.specs.Replica.{BringsSomething, last_unit};
 ghost use Rattle.yd_doc.specs.Waiting.{counts_of};
 
 use crate::fault::NoMemory;
-use crate::listing::ListView;
 use crate::waiting::Waiting;
 use std::alloc::Global;
 use std::marker::Model;
 use yd_ids::{Client, Id, IdSet, Vector};
 use yd_ops::{List, Update};
-use yd_state::State;
+use yd_state::{ListView, State};
 
 /// What one client received, and what it holds of it. Contracts see what it received
 /// (`received_of`) and the document that it has (`own_document`). This is the one that the received
@@ -88,8 +87,8 @@ impl Replica {
     /// What waits is not looked at again until what it lacks is held. The call takes time with the
     /// update, with the clients, the lists and the spans of deletions that are known, with the ids in
     /// lists of deleted items and under overwritten keys, and an insertion for each part of a run that
-    /// is new. Where something is held, it also looks once at what was received before, puts each list
-    /// that got units in order as a whole, and copies the orders of the others.
+    /// is new. Where something is held, it also looks once at what was received before, and puts each
+    /// list that got units in order as a whole.
     pub fn apply(&mut self, update: &Update) -> Result<bool, NoMemory>
         requires { IsValidUpdate (update_value update.now) }
         ensures received { OnOk result (received_of self.new
@@ -149,11 +148,7 @@ impl Replica {
             → IsIn o (received_of self.now).operations }
         ensures whole { ArePaired (received_of self.now).operations }
     {
-        ListView {
-            received: self.state.received(),
-            deletes: self.state.deletes(),
-            order: self.state.order(list),
-        }
+        self.state.list(list)
     }
 
     /// The id of the unit that stands last in a list, deleted or not, and none where the list has no
@@ -161,6 +156,6 @@ impl Replica {
     pub fn last_of(&self, list: &List) -> Option<Id>
         ensures { result ≡ last_unit (own_document self.now) list.now }
     {
-        self.state.order(list).last().copied()
+        self.state.last_of(list)
     }
 }

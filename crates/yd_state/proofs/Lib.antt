@@ -1,10 +1,13 @@
 pub mod AddingIdLemmas
 pub mod AmongLemmas
+pub mod BringsLemmas
 pub mod CountLemmas
 pub mod FateLemmas
 pub mod FoundLemmas
 pub mod GatheringLemmas
 pub mod LastLemmas
+pub mod LendingLemmas
+pub mod LentLemmas
 pub mod ListOrderLemmas
 pub mod ListedLemmas
 pub mod MadeOrderLemmas

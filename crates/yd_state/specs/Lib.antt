@@ -1,4 +1,7 @@
+pub mod Brings
 pub mod Deleting
+pub mod Lending
+pub mod Lent
 pub mod Novelty
 pub mod Ordered
 pub mod State

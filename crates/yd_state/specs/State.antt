@@ -1,16 +1,14 @@
 -- What contracts see of a `State`, and in the words of what updates mean, what it received.
-use Rattle.std.specs.Prelude.{◌⊎◌, List}
+use Rattle.std.specs.Prelude.{List}
 use Rattle.yd_ids.specs.declared.id.Id.{Id}
 use Rattle.yd_ids.specs.declared.id.Span.{Span}
-use Rattle.yd_ids.specs.Set.{HasId, AreMaximal}
+use Rattle.yd_ids.specs.Set.{AreMaximal}
 use Rattle.yd_ops.specs.Operation.{Operation}
-use Rattle.yd_ops.specs.Value.{UpdateValue}
 use Rattle.yd_meaning.specs.Received.{Received}
 use Rattle.yd_meaning.specs.Held.{is_named}
 use Rattle.yd_meaning.specs.Deleted.{AreDeleteSet}
 use Rattle.yd_meaning.specs.Document.{Document, operations_at, keys_among}
 use Rattle.yd_received.specs.Received.{taken_of, held_of as held_of_received}
-use Rattle.yd_received.specs.Taking.{BringsOperation}
 use Rattle.yd_held.specs.Held.{HeldValue, HoldsAll}
 use Rattle.yd_state.specs.Ordered.{AreOrders, order_named}
 
@@ -44,11 +42,3 @@ pub record IsSound (s : StateValue) : Type 0 where
   pub named : AreMaximal s.named
   pub ordered : AreOrders (held_of s) s.held.names s.orders
   pub deletes : AreDeleteSet s.deletes (received_in s)
-
--- not each id that the update deletes is named by a deletion already, or deleted
-abbrev pub DeletesMore : UpdateValue → StateValue → Type 0
-DeletesMore update s = ((x : Id) → HasId update.deletes x → HasId s.named x ⊎ HasId s.deletes x) → ⊥
-
--- the update has an operation whose id was not received, or deletes more
-abbrev pub BringsMore : UpdateValue → StateValue → Type 0
-BringsMore update s = BringsOperation update (taken_of s.held.received) ⊎ DeletesMore update s

@@ -6,13 +6,14 @@
 //! ```rust
 //! let mut state = State::new(alloc);
 //! let brings = state.take(&update)?;
-//! let order = state.order(&list);
+//! let units = state.list(&list);
 //! ```
 #![tactic(auto)]
 
 mod deleting;
 mod fault;
 mod finding;
+mod listing;
 mod novelty;
 mod ordering;
 mod settling;
@@ -21,4 +22,5 @@ mod swapping;
 mod waiting;
 
 pub use fault::NoMemory;
+pub use listing::{ListView, RunView};
 pub use state::State;

@@ -1,17 +1,23 @@
 //! The state of a replica, as one value.
 
 ghost use Rattle.std.specs.Prelude.{◌≡◌, ◌↔◌, ◌∷◌, [], ℕ, IsTrue, IfOk, OnOk, OnErr};
+ghost use Rattle.yd_words.specs.Member.{IsIn};
 ghost use Rattle.yd_ids.specs.Vector.{clock_of};
 ghost use Rattle.yd_ops.specs.Valid.{IsValidUpdate};
+ghost use Rattle.yd_ops.specs.Operation.{Operation};
 ghost use Rattle.yd_ops.specs.View.{update_value};
 ghost use Rattle.yd_meaning.specs.Received.{nothing_received, received_after};
 ghost use Rattle.yd_meaning.specs.Held.{held_set, held_clock, waiting_counts};
-ghost use Rattle.yd_meaning.specs.Deleted.{AreDeleteSet};
 ghost use Rattle.yd_meaning.specs.Order.{order_of};
-ghost use Rattle.yd_state.specs.State.{received_in, held_of, IsSound, BringsMore};
+ghost use Rattle.yd_meaning.specs.Document.{AreDeletedIn};
+ghost use Rattle.yd_meaning.specs.Law.{ArePaired};
+ghost use Rattle.yd_state.specs.State.{received_in, held_of, document_in, IsSound};
+ghost use Rattle.yd_state.specs.Brings.{BringsSomething};
+ghost use Rattle.yd_state.specs.Lent.{lent_units, units_left, last_unit};
 
 use crate::fault::NoMemory;
 use crate::finding::order_in;
+use crate::listing::ListView;
 use crate::novelty::brings_deletion;
 use crate::settling::settle;
 use crate::waiting::{count_ids, count_units};
@@ -20,7 +26,6 @@ use std::marker::Model;
 use yd_held::Held;
 use yd_ids::{Id, IdSet, Vector};
 use yd_ops::{List, Update};
-use yd_received::Received;
 
 /// What was received and is held, the lists of it in order, and what is deleted.
 #[derive(Drop)]
@@ -78,7 +83,7 @@ impl State {
         ensures received { OnOk result (received_in self.new
             ≡ received_after (received_in self.old) (update_value update.now)) }
         ensures brings { IfOk result (λ brings. IsTrue brings
-            ↔ BringsMore (update_value update.now) self.old) }
+            ↔ BringsSomething (update_value update.now) (received_in self.old)) }
         ensures sound { IsSound self.new }
         ensures unchanged { OnErr result (self.new ≡ self.old) }
     {
@@ -99,14 +104,6 @@ impl State {
         }
     }
 
-    /// The runs and entries that were received.
-    pub fn received(&self) -> &Received
-        ensures received { result.now ≡ self.now.held.received }
-        ensures sound { IsSound self.now }
-    {
-        self.held.received()
-    }
-
     /// The state vector: the clock up to which each client's units are held.
     pub fn vector(&self) -> &Vector
         ensures { (client : ℕ) → clock_of result.now client
@@ -117,19 +114,32 @@ impl State {
 
     /// The delete set: the held ids that are deleted.
     pub fn deletes(&self) -> &IdSet
-        ensures kept { result.now ≡ self.now.deletes }
-        ensures deletes { AreDeleteSet result.now (received_in self.now) }
+        ensures { AreDeletedIn result.now (document_in self.now) }
     {
         &self.deletes
     }
 
-    /// The ids of a list in the order that their origins give. It takes time with the number of
-    /// lists.
-    pub fn order(&self, list: &List) -> &[Id]
-        ensures order { result.now ≡ order_of (held_of self.now) list.now }
-        ensures sound { IsSound self.now }
+    /// The units of a list in order, deleted ones too. It takes time with the number of lists, since
+    /// it looks for the name from the front, and copies no unit.
+    pub fn list(&self, list: &List) -> ListView<'_>
+        ensures units { units_left result ≡ lent_units (document_in self.now) list.now }
+        ensures received { (o : Operation) → IsIn o ((document_in self.now).units list.now)
+            → IsIn o (received_in self.now).operations }
+        ensures whole { ArePaired (received_in self.now).operations }
     {
-        order_in(self.held.names(), &self.orders, list)
+        ListView {
+            received: self.held.received(),
+            deletes: &self.deletes,
+            order: self.order(list),
+        }
+    }
+
+    /// The id of the unit that stands last in a list, deleted or not, and none where the list has no
+    /// unit. It takes time with the number of lists.
+    pub fn last_of(&self, list: &List) -> Option<Id>
+        ensures { result ≡ last_unit (document_in self.now) list.now }
+    {
+        self.order(list).last().copied()
     }
 
     /// How many units were received that are not held. It takes time with the number of entries.
@@ -144,5 +154,13 @@ impl State {
         ensures { result ≡ (waiting_counts (received_in self.now)).deletes }
     {
         count_ids(self.held.vector(), &self.named)
+    }
+
+    /// The ids of a list in the order that their origins give.
+    fn order(&self, list: &List) -> &[Id]
+        ensures order { result.now ≡ order_of (held_of self.now) list.now }
+        ensures sound { IsSound self.now }
+    {
+        order_in(self.held.names(), &self.orders, list)
     }
 }

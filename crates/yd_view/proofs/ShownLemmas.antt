@@ -13,7 +13,7 @@ use Rattle.yd_meaning.specs.Document.{Document}
 use Rattle.yd_meaning.specs.Text.{live_units, has_partner_before, has_partner_behind, shown_before, shown_units, shown_text}
 use Rattle.yd_meaning.specs.Law.{ArePaired}
 use Rattle.yd_meaning.proofs.PartnerLemmas.{partners_decide}
-use Rattle.yd_doc.specs.Lent.{lent, lent_units}
+use Rattle.yd_state.specs.Lent.{lent, lent_units}
 use Rattle.yd_view.specs.declared.halves.Seen.{Seen}
 use Rattle.yd_view.specs.Halves.{is_unit_and, joins, joins_first, shown_seen, text_of_seen, text_unit_of, live_seen}
 

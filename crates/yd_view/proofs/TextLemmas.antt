@@ -14,8 +14,8 @@ use Rattle.yd_ops.specs.View.{unit_value, content_value}
 use Rattle.yd_ops.proofs.OperationLemmas.{length-units_of_content}
 use Rattle.yd_any.specs.AnyView.{any_trees}
 use Rattle.yd_meaning.specs.Pairs.{is_high}
-use Rattle.yd_doc.specs.declared.listing.RunView.{RunView}
-use Rattle.yd_doc.specs.Lent.{Lent, lent_from, units_of_view, IsWithin}
+use Rattle.yd_state.specs.declared.listing.RunView.{RunView}
+use Rattle.yd_state.specs.Lent.{Lent, lent_from, units_of_view, IsWithin}
 use Rattle.yd_view.specs.declared.halves.Seen.{Seen}
 use Rattle.yd_view.specs.declared.halves.Halves.{Halves}
 use Rattle.yd_view.specs.Halves.{is_unit_and, shown_seen, joins, joins_first, text_of_seen, text_behind, text_left, TakesIn, text_unit_of, seen_of, live_seen, seen_from}

@@ -4,7 +4,7 @@ use Rattle.yd_ids.specs.declared.id.Id.{Id}
 use Rattle.yd_ids.specs.Ids.{is_same}
 use Rattle.yd_ops.specs.Operation.{UnitContent, text_unit, any_unit, json_unit, bytes, embedded, mark, nested_type, later_id}
 use Rattle.yd_meaning.specs.Pairs.{is_high, is_low}
-use Rattle.yd_doc.specs.Lent.{Lent}
+use Rattle.yd_state.specs.Lent.{Lent}
 use Rattle.yd_view.specs.declared.halves.Seen.{Seen}
 use Rattle.yd_view.specs.declared.halves.Halves.{Halves}
 

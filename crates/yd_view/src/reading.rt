@@ -4,7 +4,7 @@ ghost use Rattle.std.specs.Prelude.{◌≡◌, ◌+◌, ◌<◌, ◌≤◌, leng
 ghost use Rattle.yd_ids.specs.Id.{IsClock};
 ghost use Rattle.yd_meaning.specs.Text.{shown_text};
 ghost use Rattle.yd_doc.specs.Kept.{own_document};
-ghost use Rattle.yd_doc.specs.Lent.{units_of_view, IsWithin};
+ghost use Rattle.yd_state.specs.Lent.{units_of_view, IsWithin};
 ghost use Rattle.yd_view.specs.Halves.{live_seen, seen_from, TakesIn};
 
 use crate::fault::NoMemory;

@@ -1,7 +1,7 @@
 use Rattle.std.proofs.Common.{subst}
 use Rattle.yd_meaning.specs.Document.{IsDocumentOf}
 use Rattle.yd_doc.specs.Kept.{received_of, own_document}
-use Rattle.yd_doc.proofs.LentLemmas.{document_defined}
+use Rattle.yd_state.proofs.LentLemmas.{document_defined}
 use Rattle.yd_doc.proofs.law.own_document_is_defined.Goals as goal
 
 pub returns : goal.returns

@@ -1,6 +1,6 @@
 use Rattle.std.proofs.Common.{false, ap, sym, ◌∙◌}
 use Rattle.yd_doc.specs.Kept.{received_of, own_document}
-use Rattle.yd_doc.specs.Lent.{units_left}
+use Rattle.yd_state.specs.Lent.{units_left}
 use Rattle.yd_view.specs.Halves.{text_of_seen, text_left, live_seen}
 use Rattle.yd_view.proofs.ShownLemmas.{lent_shown}
 use Rattle.yd_view.proofs.TextLemmas.{fewer_left, piece_taken}

@@ -1,5 +1,5 @@
 use Rattle.std.proofs.Common.{◌≡◌, false, length}
-use Rattle.yd_doc.specs.Lent.{units_left}
+use Rattle.yd_state.specs.Lent.{units_left}
 use Rattle.yd_view.specs.Halves.{text_of_seen, text_left, live_seen}
 use Rattle.yd_view.proofs.reading.text.Given as goal
 

@@ -1,7 +1,9 @@
 use Rattle.std.proofs.Common.{subst}
-use Rattle.yd_meaning.specs.Deleted.{AreDeleteSet}
-use Rattle.yd_state.specs.State.{received_in}
+use Rattle.yd_meaning.specs.Document.{AreDeletedIn}
+use Rattle.yd_state.specs.State.{document_in}
+use Rattle.yd_state.proofs.NamedLemmas.{has_named, named_has}
 use Rattle.yd_state.proofs.state.State.deletes.Goals as goal
 
-pub returns-clause-deletes : goal.returns-clause-deletes
-returns-clause-deletes c = subst (λ s. AreDeleteSet c.self.inside.deletes (received_in s)) c.self.view_is c.self.invariant.deletes
+pub returns : goal.returns
+returns c = subst (λ s. AreDeletedIn c.self.inside.deletes (document_in s)) c.self.view_is
+    (λ x. (has_named c.self.inside.deletes x, named_has c.self.inside.deletes x))

@@ -1,7 +1,13 @@
-use Rattle.std.proofs.Common.{sym, subst}
+use Rattle.std.proofs.Common.{◌≡◌, ◌||◌, sym, ap, ◌∙◌, subst}
+use Rattle.std.specs.Prelude.{◌↔◌, IsTrue}
+use Rattle.yd_ops.specs.View.{update_value}
 use Rattle.yd_state.specs.Ordered.{order_lists}
+use Rattle.yd_state.specs.State.{received_in}
+use Rattle.yd_state.specs.Brings.{BringsSomething}
 use Rattle.yd_state.specs.Stretches.{AreSettled}
+use Rattle.yd_state.proofs.BringsLemmas.{brings_either}
 use Rattle.yd_state.proofs.SettledLemmas.{settled_after}
+use Rattle.yd_state.proofs.state.State.take.Goals.{then-taken, else-taken}
 use Rattle.yd_state.proofs.state.State.take.Goals as goal
 
 pub settle-requires-clause-settled : goal.settle-requires-clause-settled
@@ -11,3 +17,18 @@ settle-requires-clause-settled c =
     subst (λ stale. AreSettled stale held.names orders held.received.entries) (sym c.deref.ensures.value)
     (settled_after c.self.inside.held held.received.entries held.names orders c.in_ok-taken.taken.stale.items
     c.self.invariant.holds c.self.invariant.ordered c.in_ok-taken.ensures.grows c.in_ok-taken.ensures.marked)
+
+pub returns-after-taken-clause-brings : goal.returns-after-taken-clause-brings
+returns-after-taken-clause-brings c =
+    let update = update_value c.args.update.now in
+    let one = c.in_ok-taken.taken.brings in
+    let more = c.brings_deletion-deletes.result in
+    let either : c.if-taken.result ≡ one || more = elim c.if-taken.branch [
+      | then-taken w ↦ w.result-is ∙ w.if-taken.true ∙ sym (ap (λ b. b || more) w.if-taken.true)
+      | else-taken w ↦ w.result-is ∙ sym (ap (λ b. b || more) w.if-taken.false)
+    ] in
+    subst (λ result. IsTrue result ↔ BringsSomething update (received_in c.args.self.now)) (sym either)
+    (subst (λ s. IsTrue (one || more) ↔ BringsSomething update (received_in s)) c.self.view_is
+    (brings_either update
+    (record { held = c.self.inside.held; named = c.self.inside.named; orders = order_lists c.self.inside.orders.items; deletes = c.self.inside.deletes })
+    c.self.invariant one more c.in_ok-taken.ensures.brings c.brings_deletion-deletes.ensures))

@@ -8,7 +8,7 @@ use Rattle.yd_meaning.specs.Received.{has_operation}
 use Rattle.yd_received.specs.declared.entry.Entry.{Entry}
 use Rattle.yd_received.specs.Entries.{AreTaken, held_in}
 
--- what is lent of a list: what a replica keeps for it, and the ids that are still to come
+-- what is lent of a list: what is kept for it, and the ids that are still to come
 pub record Lending : Type 0 where
   pub runs : List Run
   pub taken : List Entry

@@ -4,8 +4,8 @@ use Rattle.yd_meaning.specs.Received.{has_operation}
 use Rattle.yd_received.specs.Entries.{AreTaken, covers, held_in}
 use Rattle.yd_received.proofs.EntriesLemmas.{entry_at}
 use Rattle.yd_received.proofs.EntryLemmas.{no_entry}
-use Rattle.yd_doc.proofs.LendingLemmas.{asked_named, held_covered, place_within, row_inside, row_lent, row_within, lent_of}
-use Rattle.yd_doc.proofs.listing.view_at.Goals as goal
+use Rattle.yd_state.proofs.LendingLemmas.{asked_named, held_covered, place_within, row_inside, row_lent, row_within, lent_of}
+use Rattle.yd_state.proofs.listing.view_at.Goals as goal
 
 pub entry_of-requires : goal.entry_of-requires
 entry_of-requires c = held_covered c.args.received.now.runs c.args.received.now.entries c.entries-taken.ensures.kept c.args.id c.requires.held

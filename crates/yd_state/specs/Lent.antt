@@ -1,5 +1,5 @@
--- The units of a list as a replica lends them.
-use Rattle.std.specs.Prelude.{◌≡◌, ◌+◌, ◌≤◌, ℕ, zero, suc, Bool, List, [], ◌∷◌, map, take, drop}
+-- The units of a list as they are lent.
+use Rattle.std.specs.Prelude.{◌≡◌, ◌+◌, ◌≤◌, ℕ, zero, suc, Bool, List, [], ◌∷◌, Option, map, take, drop}
 use Rattle.yd_ids.specs.declared.id.Id.{Id}
 use Rattle.yd_ids.specs.declared.id.Span.{Span}
 use Rattle.yd_ids.specs.Id.{IsClock}
@@ -8,12 +8,13 @@ use Rattle.yd_ops.specs.declared.runs.Run.{Run}
 use Rattle.yd_ops.specs.Operation.{UnitContent, Operation, later_id, units_of_content}
 use Rattle.yd_ops.specs.Value.{len_of}
 use Rattle.yd_ops.specs.View.{content_value}
+use Rattle.yd_origins.specs.Deleted.{last_of}
 use Rattle.yd_meaning.specs.Held.{is_named}
 use Rattle.yd_meaning.specs.Document.{Document, operations_at}
-use Rattle.yd_doc.specs.declared.listing.RunView.{RunView}
 use Rattle.yd_received.specs.declared.entry.Entry.{Entry}
-use Rattle.yd_doc.specs.Lending.{Lending}
 use Rattle.yd_received.specs.Entries.{held_in}
+use Rattle.yd_state.specs.declared.listing.RunView.{RunView}
+use Rattle.yd_state.specs.Lending.{Lending}
 
 -- a unit as it is lent: its id, what it holds, and whether it is deleted
 pub record Lent : Type 0 where
@@ -28,6 +29,10 @@ lent deleted o = record { id = o.id; content = o.content; is_deleted = deleted o
 -- the units of a document's list, in order, as they are lent
 abbrev pub lent_units : Document → DocList → List Lent
 lent_units document list = map (lent document.deleted) (document.units list)
+
+-- the id that stands last in a list of a document
+abbrev pub last_unit : Document → DocList → Option Id
+last_unit document list = last_of (map (λ (o : Operation). o.id) (document.units list))
 
 -- units of a content as they are lent, from an id on
 abbrev pub lent_from : Id → Bool → List UnitContent → List Lent

@@ -1,8 +1,8 @@
 use Rattle.std.proofs.Common.{◌∙◌, sym}
 use Rattle.std.specs.Cmp.{booleans_Decides}
 use Rattle.yd_ids.proofs.IdLemmas.{same_is}
-use Rattle.yd_doc.proofs.LendingLemmas.{asked_named}
-use Rattle.yd_doc.proofs.listing.goes_on.Goals as goal
+use Rattle.yd_state.proofs.LendingLemmas.{asked_named}
+use Rattle.yd_state.proofs.listing.goes_on.Goals as goal
 
 pub returns-then-eq : goal.returns-then-eq
 returns-then-eq c =

@@ -23,7 +23,7 @@ use Rattle.yd_meaning.proofs.RowLemmas.{written_distinct}
 use Rattle.yd_meaning.proofs.DocumentLemmas.{found_before}
 use Rattle.yd_received.specs.declared.entry.Entry.{Entry}
 use Rattle.yd_received.specs.Entries.{units_of, list_at, operations_of_taken, IsTakenOf, AreTaken, held_in, covers}
-use Rattle.yd_doc.specs.Lent.{Lent, lent, lent_from, lent_in, IsRow}
+use Rattle.yd_state.specs.Lent.{Lent, lent, lent_from, lent_in, IsRow}
 use Rattle.yd_received.specs.Taking.{is_covered}
 use Rattle.yd_state.proofs.NamedLemmas.{named_decides}
 use Rattle.yd_received.proofs.EntryLemmas.{covers_in}

@@ -8,7 +8,7 @@ ghost use Rattle.yd_ops.specs.View.{content_value};
 ghost use Rattle.yd_meaning.specs.Held.{is_named};
 ghost use Rattle.yd_meaning.specs.Received.{has_operation};
 ghost use Rattle.yd_received.specs.Received.{held_of};
-ghost use Rattle.yd_doc.specs.Lent.{units_left, units_of_view, lent_in, IsRow, IsWithin};
+ghost use Rattle.yd_state.specs.Lent.{units_left, units_of_view, lent_in, IsRow, IsWithin};
 
 use std::marker::Model;
 use yd_ids::{Id, IdSet};
@@ -39,7 +39,7 @@ pub struct ListView<'a> {
 }
 
 impl<'a> Model for ListView<'a> {
-    ghost use Rattle.yd_doc.specs.Lending.{Lending, IsLending};
+    ghost use Rattle.yd_state.specs.Lending.{Lending, IsLending};
     ghost use Rattle.yd_any.specs.contracts.any_value.AnyList as any_list;
     ghost use Rattle.yd_any.specs.contracts.json_value.Json as json;
     ghost use Rattle.std.specs.Coded.{codes};

@@ -1,14 +1,10 @@
--- What a replica received, and what an update brings it.
-use Rattle.std.specs.Prelude.{◌≡◌, ◌⊎◌, true, Option, map}
+-- What an update brings that was not received before, in the words of what was received.
+use Rattle.std.specs.Prelude.{◌≡◌, ◌⊎◌, true}
 use Rattle.yd_ids.specs.declared.id.Id.{Id}
 use Rattle.yd_ids.specs.Set.{HasId}
-use Rattle.yd_ops.specs.declared.lists.List.{List as DocList}
-use Rattle.yd_ops.specs.Operation.{Operation}
 use Rattle.yd_ops.specs.Value.{UpdateValue}
-use Rattle.yd_origins.specs.Deleted.{last_of}
 use Rattle.yd_meaning.specs.Received.{Received}
 use Rattle.yd_meaning.specs.Deleted.{is_in_delete_set}
-use Rattle.yd_meaning.specs.Document.{Document}
 use Rattle.yd_received.specs.Taking.{BringsOperation}
 
 -- a received deletion names the id, or it is in the delete set
@@ -22,7 +18,3 @@ BringsDeletion update r = ((x : Id) → HasId update.deletes x → IsKnownDelete
 -- the update has an operation whose id was not received, or a deletion that was neither in the delete set nor waiting
 abbrev pub BringsSomething : UpdateValue → Received → Type 0
 BringsSomething update r = BringsOperation update r.operations ⊎ BringsDeletion update r
-
--- the id that stands last in a list of a document
-abbrev pub last_unit : Document → DocList → Option Id
-last_unit document list = last_of (map (λ (o : Operation). o.id) (document.units list))

@@ -1,8 +1,8 @@
 use Rattle.std.proofs.Common.{◌≡◌, ◌∙◌, ◌+◌, suc, subst, arith}
 use Rattle.yd_meaning.specs.Held.{is_named}
-use Rattle.yd_doc.specs.Lent.{IsRow}
-use Rattle.yd_doc.proofs.LendingLemmas.{asked_named, row_ends, row_more, row_within}
-use Rattle.yd_doc.proofs.listing.row_len.Goals as goal
+use Rattle.yd_state.specs.Lent.{IsRow}
+use Rattle.yd_state.proofs.LendingLemmas.{asked_named, row_ends, row_more, row_within}
+use Rattle.yd_state.proofs.listing.row_len.Goals as goal
 
 pub loop-len-preserved : goal.loop-len-preserved
 loop-len-preserved c =

@@ -1,7 +1,7 @@
 use Rattle.std.proofs.Common.{length, ◌-◌, ◌≤◌, ◌<◌}
 use Rattle.yd_meaning.specs.Held.{is_named}
-use Rattle.yd_doc.specs.Lent.{IsRow}
-use Rattle.yd_doc.proofs.listing.row_len.Given as goal
+use Rattle.yd_state.specs.Lent.{IsRow}
+use Rattle.yd_state.proofs.listing.row_len.Given as goal
 
 -- so many are in a row
 abbrev pub invariant-loop-len : goal.invariant-loop-len

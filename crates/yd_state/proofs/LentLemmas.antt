@@ -16,7 +16,7 @@ use Rattle.yd_meaning.specs.Received.{has_operation}
 use Rattle.yd_meaning.specs.Held.{is_named}
 use Rattle.yd_meaning.specs.Order.{rows_of, order_of}
 use Rattle.yd_meaning.specs.Deleted.{is_in_delete_set}
-use Rattle.yd_meaning.specs.Document.{Document, operations_at, keys_among, document_of, IsDocumentOf, AreDeletedIn}
+use Rattle.yd_meaning.specs.Document.{Document, operations_at, keys_among, document_of, IsDocumentOf}
 use Rattle.yd_meaning.proofs.RowLemmas.{written_distinct}
 use Rattle.yd_meaning.proofs.HeldLemmas.{held_in}
 use Rattle.yd_meaning.proofs.DocumentLemmas.{operations_held}
@@ -24,10 +24,10 @@ use Rattle.yd_received.specs.Received.{ReceivedValue}
 use Rattle.yd_received.proofs.WrittenLemmas.{held_written}
 use Rattle.yd_state.specs.State.{StateValue, received_in, held_of, document_in, IsSound}
 use Rattle.yd_state.proofs.ListedLemmas.{in_list, order_found}
-use Rattle.yd_state.proofs.NamedLemmas.{has_named, named_has, named_decides}
-use Rattle.yd_doc.specs.Lending.{Lending, IsLending}
-use Rattle.yd_doc.specs.Lent.{lent, lent_units, units_left}
-use Rattle.yd_doc.specs.Replica.{last_unit}
+use Rattle.yd_state.proofs.NamedLemmas.{named_decides}
+use Rattle.yd_state.specs.Lending.{Lending, IsLending}
+use Rattle.yd_state.specs.Lent.{lent, lent_units, units_left}
+use Rattle.yd_state.specs.Lent.{last_unit}
 
 -- ---- lemmas for callers
 
@@ -97,7 +97,3 @@ pub document_defined : (s : StateValue) → IsSound s → IsDocumentOf (document
 document_defined s sound = same_parts (document_in s) (document_of (received_in s)) (fun_ext (units_defined s sound))
     (fun_ext (λ x. one_answer (is_named s.deletes x) (is_in_delete_set (received_in s) x) (named_decides s.deletes x) ((sound.deletes x).1, (sound.deletes x).0)))
     (ap keys_among sound.holds.held)
-
--- the ids of the delete set are those that are deleted in the document
-pub deletes_named : (s : StateValue) → AreDeletedIn s.deletes (document_in s)
-deletes_named s x = (has_named s.deletes x, named_has s.deletes x)

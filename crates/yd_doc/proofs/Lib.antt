@@ -1,3 +1,0 @@
-pub mod BringsLemmas
-pub mod LendingLemmas
-pub mod LentLemmas
