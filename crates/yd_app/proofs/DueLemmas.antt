@@ -5,17 +5,16 @@ use Rattle.yd_meaning.specs.Received.{received_set}
 use Rattle.yd_ops.specs.Value.{UpdateValue}
 use Rattle.yd_world.specs.Shelf.{Shelf}
 use Rattle.yd_world.specs.Traffic.{Traffic}
-use Rattle.yd_app.proofs.FormLemmas.{asked_or_not}
-use Rattle.yd_app.proofs.VerdictLemmas.{files_judged, stops_apart, stops_one, updates_one}
-use Rattle.yd_app.proofs.WordLemmas.{asks_same}
-use Rattle.yd_app.specs.Commands.Convert.{converted_output}
-use Rattle.yd_app.specs.Commands.Show.{text_line}
+use Rattle.yd_files.proofs.VerdictLemmas.{files_judged, stand_apart, stand_one, stops_one}
+use Rattle.yd_files.specs.Files.{File}
+use Rattle.yd_files.specs.Verdict.{IsTold, StandFor, StopsAt, Verdict, accepted, missing, refused, too_large}
+use Rattle.yd_app.proofs.WordLemmas.{asked_or_not, asks_same}
+use Rattle.yd_app.specs.Command.{Command}
 use Rattle.yd_app.specs.Due.{Due, IsDue, lacking, no_step_2, output, over_limit, refusal, usage}
 use Rattle.yd_app.specs.Law.{OneIsDue}
 use Rattle.yd_app.specs.Lines.{refused_line}
-use Rattle.yd_app.specs.Output.{IsOutputOf}
-use Rattle.yd_app.specs.Verdict.{AreRead, IsTold, StopsAt, Verdict, accepted, missing, refused, too_large}
-use Rattle.yd_app.specs.Words.{AreOfNoForm, Asks, AsksFor, Command, File, convert, show_text}
+use Rattle.yd_app.specs.Output.{IsOutputOf, output_of}
+use Rattle.yd_app.specs.Words.{AreOfNoForm, Asks, AsksFor}
 
 -- what holds of what is asked for holds of each thing that is asked for
 pub asked : (words : List (List ℕ)) (Holds : Command → List File → Type 0) (command : Command) (files : List File) → AsksFor words Holds → Asks words command files → Holds command files
@@ -29,26 +28,23 @@ weaker words P Q less w = record { command = w.command; files = w.files; asks = 
 
 -- what a file that is not accepted makes due
 abbrev due_of : File → Verdict → Due
-due_of file (accepted update) = usage
-due_of file (refused why) = refusal (refused_line file why)
+due_of file (accepted content) = usage
+due_of file (refused fault) = refusal (refused_line file fault)
 due_of file too_large = over_limit file.name
 due_of file missing = lacking file.name
 
 -- a command writes one output of its updates
-output_one : (command : Command) (updates : List UpdateValue) (bytes other : List ℕ) → IsOutputOf command updates bytes → IsOutputOf command updates other → bytes ≡ other
-output_one (show_text root) updates bytes other a b = a.bytes_are ∙ ap (text_line root) (a.is_document ∙ sym b.is_document) ∙ sym b.bytes_are
-output_one (convert form) updates bytes other a b = a ∙ sym b
+output_one : (command : Command) (us : List UpdateValue) (bytes other : List ℕ) → IsOutputOf command us bytes → IsOutputOf command us other → bytes ≡ other
+output_one command us bytes other a b = a.bytes_are ∙ ap (output_of command us) (a.is_document ∙ sym b.is_document) ∙ sym b.bytes_are
 
 -- and it writes one
-output_some : (command : Command) (updates : List UpdateValue) → (bytes : List ℕ) × IsOutputOf command updates bytes
-output_some (show_text root) updates =
-    let document = document_of (received_set updates) in (text_line root document, record { document = document; is_document = refl; bytes_are = refl })
-output_some (convert form) updates = (converted_output form updates, refl)
+output_some : (command : Command) (us : List UpdateValue) → (bytes : List ℕ) × IsOutputOf command us bytes
+output_some command us = let document = document_of (received_set us) in (output_of command us document, record { document = document; is_document = refl; bytes_are = refl })
 
 -- all files are accepted, and the output is due; or one is the first that is not, and what it is
 abbrev Answers : Option Shelf → Due → Command → List File → Type 0
 Answers told due command files =
-    ((updates : List UpdateValue) × AreRead told files updates × (bytes : List ℕ) × IsOutputOf command updates bytes × (due ≡ output bytes))
+    ((us : List UpdateValue) × StandFor told files us × (bytes : List ℕ) × IsOutputOf command us bytes × (due ≡ output bytes))
     ⊎ ((file : File) × (verdict : Verdict) × StopsAt told files file verdict × (due ≡ due_of file verdict))
 
 -- the words are of no form, or ask for one of these
@@ -67,10 +63,10 @@ judged words told traffic (output bytes) d = inr (record { command = d.command; 
 -- of files one thing is due
 answers_one : (shelf : Shelf) (command : Command) (files : List File) (due other : Due) → Answers (Some shelf) due command files → Answers (Some shelf) other command files → due ≡ other
 answers_one shelf command files due other (inl a) (inl b) =
-    let same = updates_one shelf files a.0 b.0 a.1 b.1 in
+    let same = stand_one shelf files a.0 b.0 a.1 b.1 in
     a.4 ∙ ap output (output_one command b.0 a.2 b.2 (subst (λ (us : List UpdateValue). IsOutputOf command us a.2) same a.3) b.3) ∙ sym b.4
-answers_one shelf command files due other (inl a) (inr b) = absurd (stops_apart shelf files a.0 b.0 b.1 a.1 b.2)
-answers_one shelf command files due other (inr a) (inl b) = absurd (stops_apart shelf files b.0 a.0 a.1 b.1 a.2)
+answers_one shelf command files due other (inl a) (inr b) = absurd (stand_apart shelf files a.0 b.0 b.1 a.1 b.2)
+answers_one shelf command files due other (inr a) (inl b) = absurd (stand_apart shelf files b.0 a.0 a.1 b.1 a.2)
 answers_one shelf command files due other (inr a) (inr b) =
     let same = stops_one shelf files a.0 b.0 a.1 b.1 a.2 b.2 in
     a.3 ∙ ap (λ (f : File). due_of f a.1) same.0 ∙ ap (due_of b.0) same.1 ∙ sym b.3
@@ -97,13 +93,13 @@ due_some words shelf traffic =
     ]
   where
     by_first : (command : Command) (files : List File) → Asks words command files → (file : File) (verdict : Verdict) → StopsAt (Some shelf) files file verdict → (due : Due) × IsDue words (Some shelf) traffic due
-    by_first command files asks file (accepted update) stops = absurd stops.not_accepted
-    by_first command files asks file (refused why) stops = (refusal (refused_line file why), record { command = command; files = files; asks = asks; holds = (file, why, stops, refl) })
+    by_first command files asks file (accepted content) stops = absurd stops.not_accepted
+    by_first command files asks file (refused fault) stops = (refusal (refused_line file fault), record { command = command; files = files; asks = asks; holds = (file, fault, stops, refl) })
     by_first command files asks file too_large stops = (over_limit file.name, record { command = command; files = files; asks = asks; holds = (file, stops, refl) })
     by_first command files asks file missing stops = (lacking file.name, record { command = command; files = files; asks = asks; holds = (file, stops, refl) })
 
     by_files : (command : Command) (files : List File) → Asks words command files
-        → ((updates : List UpdateValue) × AreRead (Some shelf) files updates) ⊎ ((file : File) × (verdict : Verdict) × StopsAt (Some shelf) files file verdict)
+        → ((us : List UpdateValue) × StandFor (Some shelf) files us) ⊎ ((file : File) × (verdict : Verdict) × StopsAt (Some shelf) files file verdict)
         → (due : Due) × IsDue words (Some shelf) traffic due
     by_files command files asks (inl read) =
         let made = output_some command read.0 in (output made.0, record { command = command; files = files; asks = asks; holds = (read.0, read.1, made.1) })

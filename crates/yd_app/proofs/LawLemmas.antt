@@ -4,20 +4,21 @@ use Rattle.yd_meaning.specs.Document.{document_of}
 use Rattle.yd_meaning.proofs.ReceivedLemmas.{received_one}
 use Rattle.yd_ops.specs.Value.{UpdateValue}
 use Rattle.yd_world.specs.Shelf.{Shelf}
-use Rattle.yd_app.proofs.VerdictLemmas.{read_valid, updates_one}
+use Rattle.yd_files.proofs.VerdictLemmas.{stand_one, stand_valid}
+use Rattle.yd_files.specs.Files.{File}
+use Rattle.yd_files.specs.Verdict.{StandFor}
 use Rattle.yd_app.proofs.WordLemmas.{asks_same}
 use Rattle.yd_app.specs.Law.{RunsConverge, Shows, ShowsConverge}
+use Rattle.yd_app.specs.Command.{Command, show_text}
 use Rattle.yd_app.specs.Commands.Show.{text_line}
 use Rattle.yd_app.specs.Output.{IsOutputOf}
-use Rattle.yd_app.specs.Verdict.{AreRead}
-use Rattle.yd_app.specs.Words.{Command, File, show_text}
 use Rattle.yd_app.specs.Writing.{TakesAll}
 
 -- files of the same contents show the same
 pub shows_same : ShowsConverge
 shows_same shelf other files others one another root read also contents =
     λ bytes others_bytes a b. a.bytes_are
-    ∙ ap (text_line root) (a.is_document ∙ ap document_of (received_one one another (read_valid shelf files one read) (read_valid other others another also) contents.agree contents.same)
+    ∙ ap (text_line root) (a.is_document ∙ ap document_of (received_one one another (stand_valid shelf files one read) (stand_valid other others another also) contents.agree contents.same)
     ∙ sym b.is_document)
     ∙ sym b.bytes_are
 
@@ -27,8 +28,8 @@ written_of : (root : List ℕ) (updates : List UpdateValue) (words : List (List 
 written_of root updates words shelf taken now shows =
     let w = shows.writes in
     let same = asks_same words w.command (show_text root) w.files shows.files w.asks shows.asks in
-    let read : AreRead (Some shelf) shows.files w.holds.0 = subst (λ (files : List File). AreRead (Some shelf) files w.holds.0) same.1 w.holds.1 in
-    let one : w.holds.0 ≡ updates = updates_one shelf shows.files w.holds.0 updates read shows.are_read in
+    let read : StandFor (Some shelf) shows.files w.holds.0 = subst (λ (files : List File). StandFor (Some shelf) files w.holds.0) same.1 w.holds.1 in
+    let one : w.holds.0 ≡ updates = stand_one shelf shows.files w.holds.0 updates read shows.stand in
     (w.holds.2, subst (λ (us : List UpdateValue). IsOutputOf (show_text root) us w.holds.2) one (subst (λ (c : Command). IsOutputOf c w.holds.0 w.holds.2) same.0 w.holds.3), w.holds.4)
 
 -- two runs that show a root of the same contents have written the same
@@ -36,5 +37,5 @@ pub runs_same : RunsConverge
 runs_same root one another words others shelf other taken now took took_now a b contents =
     let x = written_of root one words shelf taken now a in
     let y = written_of root another others other took took_now b in
-    let alike : x.0 ≡ y.0 = shows_same shelf other a.files b.files one another root a.are_read b.are_read contents x.0 y.0 x.1 y.1 in
+    let alike : x.0 ≡ y.0 = shows_same shelf other a.files b.files one another root a.stand b.stand contents x.0 y.0 x.1 y.1 in
     (x.0, x.2, subst (λ (l : List ℕ). TakesAll took took_now l) (sym alike) y.2)

@@ -1,14 +1,9 @@
-pub mod CalmLemmas
 pub mod DueLemmas
-pub mod FormLemmas
-pub mod FormatLemmas
 pub mod LawLemmas
-pub mod LoadingLemmas
 pub mod MakingLemmas
-pub mod ReceivingLemmas
+pub mod ReceivedLemmas
 pub mod RequestLemmas
 pub mod RunLemmas
-pub mod ValidLemmas
-pub mod VerdictLemmas
+pub mod TableLemmas
 pub mod WordLemmas
 pub mod WritingLemmas

@@ -2,15 +2,18 @@
 use Rattle.std.proofs.Common.{◌≡◌, ◌≢◌, ◌⊎◌, ℕ, List, [], ◌∷◌, Option, Result, Ok, Err, refl, ap, subst, inl, inr, arith}
 use Rattle.yd_world.specs.Shelf.{Shelf}
 use Rattle.yd_world.specs.Traffic.{Traffic}
+use Rattle.yd_files.specs.Counts.{Count, RoseIn}
+use Rattle.yd_files.specs.Files.{File}
+use Rattle.yd_files.specs.Reading.{FailsAt}
+use Rattle.yd_files.specs.Verdict.{IsTold}
 use Rattle.yd_app.proofs.DueLemmas.{due_one, weaker}
 use Rattle.yd_app.proofs.MakingLemmas.{written_due}
 use Rattle.yd_app.specs.Due.{Due, IsDue, lacking, line_of_due, no_step_2, output, over_limit, refusal, status_of_due, statuses_of_due, usage}
 use Rattle.yd_app.specs.Ending.{Ends, line_of, status_of}
-use Rattle.yd_app.specs.Lines.{FailsAt, no_memory_line, read_fault_line, write_fault_line}
-use Rattle.yd_app.specs.Run.{Comes, Count, CutsOff, Follows, HasReason, IsLine, IsOneOf, RoseIn, TellsErr, Writes, WritesFront}
-use Rattle.yd_app.specs.Seen.{refusal_line}
-use Rattle.yd_app.specs.Verdict.{IsTold}
-use Rattle.yd_app.specs.Words.{AreOfNoForm, AsksFor, Command, File}
+use Rattle.yd_app.specs.Command.{Command}
+use Rattle.yd_app.specs.Lines.{no_memory_line, read_fault_line, refusal_line, write_fault_line}
+use Rattle.yd_app.specs.Run.{Comes, CutsOff, Follows, HasReason, IsLine, IsOneOf, TellsErr, Writes, WritesFront}
+use Rattle.yd_app.specs.Words.{AreOfNoForm, AsksFor}
 use Rattle.yd_app.specs.Writing.{TakesAll, TakesFront}
 use Rattle.yd_app.specs.declared.stop.Stop.{Stop}
 use Rattle.yd_app.specs.declared.stop.Stop.TheVariants.{Usage, Refused, ReadFault, TooLarge, NoMemory, WriteFault}

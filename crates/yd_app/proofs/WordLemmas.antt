@@ -1,82 +1,85 @@
--- Words, one after the other, and what they ask for.
-use Rattle.std.proofs.Common.{◌≡◌, ◌≢◌, ℕ, ◌<◌, ◌≤◌, ◌-◌, List, [], ◌∷◌, ◌++◌, length, map, get_or, take, drop, refl, sym, ap, ◌∙◌, arith}
-use Rattle.std.proofs.lemmas.List.{take_all}
-use Rattle.yd_app.specs.Words.{Asks, Command, File, Format, convert, file_word, prefix_of, show_text, v1, v2, word_of, words_of}
+-- Words, and the one command that they ask for, if they are of a form.
+use Rattle.std.proofs.Common.{◌≡◌, ◌⊎◌, ◌∙◌, ℕ, List, [], ◌∷◌, map, Option, Some, None, inl, inr, refl, sym, ap, subst, arith}
+use Rattle.yd_world.specs.Shelf.{Shelf}
+use Rattle.yd_files.proofs.NameLemmas.{NameAll, files_or_not, files_same}
+use Rattle.yd_files.specs.Counts.{Count}
+use Rattle.yd_files.specs.Files.{AreOneUpdate, File, file_word}
+use Rattle.yd_files.specs.Reading.{ReadsCalmly}
+use Rattle.yd_files.specs.Verdict.{NoneIsMissing}
+use Rattle.yd_files.specs.declared.kind.Kind.{Kind}
+use Rattle.yd_files.specs.declared.kind.Kind.TheVariants as kinds
+use Rattle.yd_app.proofs.TableLemmas.{command_found, command_read, read_one}
+use Rattle.yd_app.specs.Asking.{NameNoFiles}
+use Rattle.yd_app.specs.Command.{AreWanted, Command, wanted_by, words_of}
+use Rattle.yd_app.specs.Stopping.{ReadsAsked}
+use Rattle.yd_app.specs.Table.{Begun, command_in}
+use Rattle.yd_app.specs.Words.{AreOfNoForm, Asks}
+use Rattle.yd_app.specs.declared.command.Wanted.{Wanted}
+use Rattle.yd_app.specs.declared.command.Wanted.TheVariants.{Several, OneUpdate}
 
--- ---- what words name
-
--- words whose second bytes are apart are not one
-second_apart : (word other : List ℕ) → word ≡ other → get_or word 1 0 ≢ get_or other 1 0 → ⊥
-second_apart word other e apart = apart (ap (λ (w : List ℕ). get_or w 1 0) e)
-
--- a word names one format
-named_one : (format form : Format) → word_of format ≡ word_of form → format ≡ form
-named_one v1 v1 e = refl
-named_one v1 v2 e = absurd (second_apart (word_of v1) (word_of v2) e (omega arith))
-named_one v2 v1 e = absurd (second_apart (word_of v2) (word_of v1) e (omega arith))
-named_one v2 v2 e = refl
-
--- a word names one file, by its format and its name
-word_same : (format form : Format) (name other : List ℕ) → prefix_of format ++ name ≡ prefix_of form ++ other → (format ≡ form) × (name ≡ other)
-word_same v1 v1 name other e = (refl, cc)
-word_same v1 v2 name other e = absurd (second_apart (prefix_of v1 ++ name) (prefix_of v2 ++ other) e (omega arith))
-word_same v2 v1 name other e = absurd (second_apart (prefix_of v2 ++ name) (prefix_of v1 ++ other) e (omega arith))
-word_same v2 v2 name other e = (refl, cc)
-
-abbrev file_in : Format → List ℕ → File
-file_in format name = record { format = format; name = name }
-
-file_same : (file other : File) → file_word file ≡ file_word other → file ≡ other
-file_same file other e =
-    let same = word_same file.format other.format file.name other.name e in
-    ap (λ (f : Format). file_in f file.name) same.0 ∙ ap (file_in other.format) same.1
-
--- words name one list of files
-pub files_same : (files others : List File) → map file_word files ≡ map file_word others → files ≡ others
-files_same [] [] e = refl
-files_same [] (other ∷ others) e = absurd cc
-files_same (file ∷ files) [] e = absurd cc
-files_same (file ∷ files) (other ∷ others) e =
-    let first : file_word file ≡ file_word other = cc in
-    let rest : map file_word files ≡ map file_word others = cc in
-    let same : file ≡ other = file_same file other first in
-    let more : files ≡ others = files_same files others rest in cc
-
--- a list of three is its items
-pub three : (words : List (List ℕ)) (a b c : List ℕ) → 3 ≤ length words → length words < 4
-    → a ≡ get_or words 0 a → b ≡ get_or words 1 b → c ≡ get_or words 2 c → words ≡ a ∷ b ∷ c ∷ []
-three [] a b c least below ia ib ic = absurd (omega arith)
-three (x ∷ []) a b c least below ia ib ic = absurd (omega arith)
-three (x ∷ y ∷ []) a b c least below ia ib ic = absurd (omega arith)
-three (x ∷ y ∷ z ∷ []) a b c least below ia ib ic = cc
-three (x ∷ y ∷ z ∷ w ∷ rest) a b c least below ia ib ic = absurd (omega arith)
-
--- a list of three and more is its items
-pub three_up : (words : List (List ℕ)) (a b c : List ℕ) → 3 ≤ length words
-    → a ≡ get_or words 0 a → b ≡ get_or words 1 b → c ≡ get_or words 2 c → words ≡ a ∷ b ∷ c ∷ take (length words - 3) (drop 3 words)
-three_up [] a b c least ia ib ic = absurd (omega arith)
-three_up (x ∷ []) a b c least ia ib ic = absurd (omega arith)
-three_up (x ∷ y ∷ []) a b c least ia ib ic = absurd (omega arith)
-three_up (x ∷ y ∷ z ∷ rest) a b c least ia ib ic =
-    let all : take (length (x ∷ y ∷ z ∷ rest) - 3) rest ≡ rest = take_all (length (x ∷ y ∷ z ∷ rest) - 3) rest (omega arith) in cc
-
--- ---- what they ask for
+-- ---- what they ask for is one
 
 -- words are those of one command and of one rest
 pub words_same : (command other : Command) (names others : List (List ℕ)) → words_of command names ≡ words_of other others → (command ≡ other) × (names ≡ others)
-words_same (show_text root) (show_text other) names others e =
-    let same : root ≡ other = cc in
-    let rest : names ≡ others = cc in
-    (ap show_text same, rest)
-words_same (show_text root) (convert form) names others e = absurd cc
-words_same (convert form) (show_text root) names others e = absurd cc
-words_same (convert form) (convert to) names others e =
-    let same : word_of form ≡ word_of to = cc in
-    let rest : names ≡ others = cc in
-    (ap convert (named_one form to same), rest)
+words_same command other names others e = read_one command other names others (command_in (words_of command names)) (command_read command names) (ap command_in e ∙ command_read other others)
 
 -- words ask for one command of one list of files
 pub asks_same : (words : List (List ℕ)) (command other : Command) (files others : List File) → Asks words command files → Asks words other others → (command ≡ other) × (files ≡ others)
 asks_same words command other files others a b =
     let same = words_same command other (map file_word files) (map file_word others) (sym a.words_are ∙ b.words_are) in
     (same.0, files_same files others same.1)
+
+-- what was read calmly is what the words ask for
+pub reads_asked : (words : List (List ℕ)) (command : Command) (files : List File) (told : Option Shelf) (reads : Count) → Asks words command files → ReadsCalmly told files reads → ReadsAsked words told reads
+reads_asked words command files told reads asks calm other others asks_other is_told none =
+    let same = asks_same words other command others files asks_other asks in calm is_told (subst (λ (fs : List File). NoneIsMissing told fs) same.1 none)
+
+-- ---- words of no form
+
+-- they begin with no command
+pub no_command : (words : List (List ℕ)) → command_in words ≡ None → AreOfNoForm words
+no_command words none command files asks = let read = sym (ap command_in asks.words_are ∙ command_read command (map file_word files)) ∙ none in absurd cc
+
+-- they name no files
+pub no_files : (words : List (List ℕ)) (command : Command) (names : List (List ℕ)) → words ≡ words_of command names → NameNoFiles names → AreOfNoForm words
+no_files words command names is never other files asks = never files asks.are_named (words_same command other names (map file_word files) (sym is ∙ asks.words_are)).1
+
+-- the files are not those that are wanted
+pub unwanted : (words : List (List ℕ)) (command : Command) (files : List File) → words ≡ words_of command (map file_word files) → ¬ (AreWanted (wanted_by command) files) → AreOfNoForm words
+unwanted words command files is never other others asks =
+    let both = words_same command other (map file_word files) (map file_word others) (sym is ∙ asks.words_are) in
+    let one : files ≡ others = files_same files others both.1 in
+    never (subst (λ (c : Command). AreWanted (wanted_by c) files) (sym both.0) (subst (λ (fs : List File). AreWanted (wanted_by other) fs) (sym one) asks.are_wanted))
+
+-- ---- of a form, or of none
+
+-- files are those that are wanted, or not
+one_or_not : (kind : Kind) (name : List ℕ) → AreOneUpdate (record { kind = kind; name = name } ∷ []) ⊎ (¬ (AreOneUpdate (record { kind = kind; name = name } ∷ [])))
+one_or_not kinds.V1 name = inl tt
+one_or_not kinds.V2 name = inl tt
+one_or_not kinds.Log name = inr (λ one. one)
+
+wanted_or_not : (wanted : Wanted) (files : List File) → AreWanted wanted files ⊎ (¬ (AreWanted wanted files))
+wanted_or_not Several [] = inr (λ has. omega (arith, has))
+wanted_or_not Several (file ∷ files) = inl (omega arith)
+wanted_or_not OneUpdate [] = inr (λ has. has)
+wanted_or_not OneUpdate (file ∷ []) = one_or_not file.kind file.name
+wanted_or_not OneUpdate (file ∷ other ∷ files) = inr (λ has. has)
+
+-- words ask for a command of files, or are of no form
+pub asked_or_not : (words : List (List ℕ)) → ((command : Command) × (files : List File) × Asks words command files) ⊎ AreOfNoForm words
+asked_or_not words = by_command (command_in words) refl
+  where
+    by_wanted : (command : Command) (names : List (List ℕ)) → words ≡ words_of command names → (files : List File) → NameAll names files → AreWanted (wanted_by command) files ⊎ (¬ (AreWanted (wanted_by command) files))
+        → ((c : Command) × (fs : List File) × Asks words c fs) ⊎ AreOfNoForm words
+    by_wanted command names is files all (inl wanted) = inl (command, files, record { words_are = is ∙ ap (words_of command) all.1; are_wanted = wanted; are_named = all.0 })
+    by_wanted command names is files all (inr never) = inr (unwanted words command files (is ∙ ap (words_of command) all.1) never)
+
+    by_names : (command : Command) (names : List (List ℕ)) → words ≡ words_of command names → ((files : List File) × NameAll names files) ⊎ ((files : List File) → ¬ (NameAll names files))
+        → ((c : Command) × (fs : List File) × Asks words c fs) ⊎ AreOfNoForm words
+    by_names command names is (inl all) = by_wanted command names is all.0 all.1 (wanted_or_not (wanted_by command) all.0)
+    by_names command names is (inr never) = inr (no_files words command names is (λ files named same. never files (named, same)))
+
+    by_command : (found : Begun) → command_in words ≡ found → ((c : Command) × (fs : List File) × Asks words c fs) ⊎ AreOfNoForm words
+    by_command None is = inr (no_command words is)
+    by_command (Some found) is = by_names found.0 found.1 (command_found words found.0 found.1 is) (files_or_not found.1)

@@ -1,7 +1,8 @@
 -- Why words ask for nothing.
 use Rattle.std.specs.Prelude.{◌≢◌, ℕ, List, map}
 use Rattle.yd_words.specs.Each.{Each}
-use Rattle.yd_app.specs.Words.{AreOfNoForm, File, IsNamed, file_word}
+use Rattle.yd_files.specs.Files.{File, IsNamed, file_word}
+use Rattle.yd_app.specs.Words.{AreOfNoForm}
 use Rattle.yd_app.specs.declared.stop.Stop.{Stop}
 use Rattle.yd_app.specs.declared.stop.Stop.TheVariants.{Usage, Refused, ReadFault, TooLarge, NoMemory, WriteFault}
 

@@ -1,13 +1,16 @@
 -- What is due in a run, by its words, its files and its network: one thing, with its status and its line on err (own).
 use Rattle.std.specs.Prelude.{◌≡◌, ℕ, List, [], ◌∷◌, Option}
 use Rattle.yd_ops.specs.Value.{UpdateValue}
+use Rattle.yd_parts.specs.Fault.{Fault}
 use Rattle.yd_world.specs.Shelf.{Shelf}
 use Rattle.yd_world.specs.Traffic.{Traffic}
-use Rattle.yd_app.specs.Lines.{limit_line, no_step_2_line, read_fault_line, refused_line, usage_line}
+use Rattle.yd_files.specs.Files.{File}
+use Rattle.yd_files.specs.Verdict.{StandFor, StopsAt, missing, refused, too_large}
+use Rattle.yd_app.specs.Command.{usage_line}
+use Rattle.yd_app.specs.Lines.{limit_line, no_step_2_line, read_fault_line, refused_line}
 use Rattle.yd_app.specs.Output.{IsOutputOf}
 use Rattle.yd_app.specs.Status as status
-use Rattle.yd_app.specs.Verdict.{AreRead, StopsAt, missing, refused, too_large}
-use Rattle.yd_app.specs.Words.{AreOfNoForm, AsksFor, File}
+use Rattle.yd_app.specs.Words.{AreOfNoForm, AsksFor}
 
 -- how the program is used; the line of what is refused; the name of a file that is too large; the name that the library lacks; that
 -- no step 2 came; or the bytes that the command makes
@@ -23,11 +26,11 @@ pub data Due : Type 0 where
 -- is not: refused, too large or missing
 abbrev pub IsDue : List (List ℕ) → Option Shelf → Option Traffic → Due → Type 0
 IsDue words told traffic usage = AreOfNoForm words
-IsDue words told traffic (refusal line) = AsksFor words (λ command files. (file : File) × (why : List ℕ) × StopsAt told files file (refused why) × (line ≡ refused_line file why))
+IsDue words told traffic (refusal line) = AsksFor words (λ command files. (file : File) × (fault : Fault) × StopsAt told files file (refused fault) × (line ≡ refused_line file fault))
 IsDue words told traffic (over_limit name) = AsksFor words (λ command files. (file : File) × StopsAt told files file too_large × (name ≡ file.name))
 IsDue words told traffic (lacking name) = AsksFor words (λ command files. (file : File) × StopsAt told files file missing × (name ≡ file.name))
 IsDue words told traffic no_step_2 = ⊥
-IsDue words told traffic (output bytes) = AsksFor words (λ command files. (updates : List UpdateValue) × AreRead told files updates × IsOutputOf command updates bytes)
+IsDue words told traffic (output bytes) = AsksFor words (λ command files. (us : List UpdateValue) × StandFor told files us × IsOutputOf command us bytes)
 
 -- its status
 abbrev pub status_of_due : Due → ℕ

@@ -3,12 +3,15 @@ use Rattle.std.specs.Prelude.{◌≡◌, ◌⊎◌, ℕ, List, [], Option, Resul
 use Rattle.std.specs.Global.{Vec}
 use Rattle.yd_world.specs.Shelf.{Shelf}
 use Rattle.yd_world.specs.Traffic.{Traffic}
+use Rattle.yd_files.specs.Counts.{Count, RoseIn}
+use Rattle.yd_files.specs.Files.{File}
+use Rattle.yd_files.specs.Reading.{FailsAt}
 use Rattle.yd_app.specs.Due.{IsDue, over_limit, refusal, usage}
-use Rattle.yd_app.specs.Lines.{FailsAt, limit_line, no_memory_line, read_fault_line, usage_line, write_fault_line}
-use Rattle.yd_app.specs.Run.{Count, RoseIn, Writes, WritesFront}
-use Rattle.yd_app.specs.Seen.{refusal_line}
+use Rattle.yd_app.specs.Command.{usage_line}
+use Rattle.yd_app.specs.Lines.{limit_line, no_memory_line, read_fault_line, refusal_line, write_fault_line}
+use Rattle.yd_app.specs.Run.{Writes, WritesFront}
 use Rattle.yd_app.specs.Status as status
-use Rattle.yd_app.specs.Words.{AsksFor, File}
+use Rattle.yd_app.specs.Words.{AsksFor}
 use Rattle.yd_app.specs.Writing.{TakesAll, TakesFront}
 use Rattle.yd_app.specs.declared.stop.Stop.{Stop}
 use Rattle.yd_app.specs.declared.stop.Stop.TheVariants.{Usage, Refused, ReadFault, TooLarge, NoMemory, WriteFault}

@@ -1,32 +1,21 @@
 -- Laws over words, files, and what is shown of them.
-use Rattle.std.specs.Prelude.{◌≡◌, ◌⊎◌, ℕ, List, Option, Some}
-use Rattle.yd_words.specs.Each.{Each}
-use Rattle.yd_ops.specs.Valid.{IsValidUpdate}
+use Rattle.std.specs.Prelude.{◌≡◌, ℕ, List, Option, Some}
 use Rattle.yd_ops.specs.Value.{UpdateValue}
 use Rattle.yd_meaning.specs.Received.{Agree, HaveSameContents, operations_of_all}
 use Rattle.yd_world.specs.Shelf.{Shelf}
 use Rattle.yd_world.specs.Traffic.{Traffic}
+use Rattle.yd_files.specs.Files.{File}
+use Rattle.yd_files.specs.Verdict.{StandFor}
+use Rattle.yd_app.specs.Command.{Command, show_text}
 use Rattle.yd_app.specs.Due.{Due, IsDue}
 use Rattle.yd_app.specs.Output.{IsOutputOf}
 use Rattle.yd_app.specs.Run.{Writes}
-use Rattle.yd_app.specs.Verdict.{AreRead, HasVerdict, StopsAt, Verdict}
-use Rattle.yd_app.specs.Words.{Asks, Command, File, show_text}
+use Rattle.yd_app.specs.Words.{Asks}
 use Rattle.yd_app.specs.Writing.{TakesAll}
 
 -- words ask for one command of one list of files at most
 abbrev pub AskForOne : Type 0
 AskForOne = (words : List (List ℕ)) (command other : Command) (files others : List File) → Asks words command files → Asks words other others → (command ≡ other) × (files ≡ others)
-
--- every file is one thing; all files of a list are accepted, as updates that are valid, or there is one first that is not, for one
--- thing that it is; and never both
-pub record FilesAreJudged : Type 0 where
-  pub file : (shelf : Shelf) (file : File) → (verdict : Verdict) × HasVerdict (Some shelf) file verdict
-  pub one : (shelf : Shelf) (file : File) (verdict other : Verdict) → HasVerdict (Some shelf) file verdict → HasVerdict (Some shelf) file other → verdict ≡ other
-  pub files : (shelf : Shelf) (files : List File) → ((updates : List UpdateValue) × AreRead (Some shelf) files updates) ⊎ ((file : File) × (verdict : Verdict) × StopsAt (Some shelf) files file verdict)
-  pub updates : (shelf : Shelf) (files : List File) (updates others : List UpdateValue) → AreRead (Some shelf) files updates → AreRead (Some shelf) files others → updates ≡ others
-  pub valid : (shelf : Shelf) (files : List File) (updates : List UpdateValue) → AreRead (Some shelf) files updates → Each IsValidUpdate updates
-  pub first : (shelf : Shelf) (files : List File) (file other : File) (verdict thing : Verdict) → StopsAt (Some shelf) files file verdict → StopsAt (Some shelf) files other thing → (file ≡ other) × (verdict ≡ thing)
-  pub apart : (shelf : Shelf) (files : List File) (updates : List UpdateValue) (file : File) (verdict : Verdict) → AreRead (Some shelf) files updates → StopsAt (Some shelf) files file verdict → ⊥
 
 -- where a library tells, one thing is due
 pub record OneIsDue : Type 0 where
@@ -40,14 +29,14 @@ pub record AreOneContents (one other : List UpdateValue) : Type 0 where
 
 -- files in any formats, by any names and in any libraries, show the same text of each root where they have the same contents
 abbrev pub ShowsConverge : Type 0
-ShowsConverge = (shelf other : Shelf) (files others : List File) (one another : List UpdateValue) (root : List ℕ) → AreRead (Some shelf) files one → AreRead (Some other) others another → AreOneContents one another →
+ShowsConverge = (shelf other : Shelf) (files others : List File) (one another : List UpdateValue) (root : List ℕ) → StandFor (Some shelf) files one → StandFor (Some other) others another → AreOneContents one another →
     (bytes others_bytes : List ℕ) → IsOutputOf (show_text root) one bytes → IsOutputOf (show_text root) another others_bytes → bytes ≡ others_bytes
 
 -- the words ask to show the root of files that are read as these updates, and what is promised for status 0 was written
 pub record Shows (root : List ℕ) (updates : List UpdateValue) (words : List (List ℕ)) (shelf : Shelf) (taken now : Option (List ℕ)) : Type 0 where
   pub files : List File
   pub asks : Asks words (show_text root) files
-  pub are_read : AreRead (Some shelf) files updates
+  pub stand : StandFor (Some shelf) files updates
   pub writes : Writes words (Some shelf) taken now
 
 -- two runs that show a root of the same contents and answer 0 have written the same

@@ -1,17 +1,19 @@
--- The lines on err, and which file a read fault names (own).
-use Rattle.std.specs.Prelude.{ℕ, List, ◌++◌, codes, Option}
-use Rattle.yd_world.specs.Shelf.{Shelf}
-use Rattle.yd_app.specs.Loading.{BeginsLast}
-use Rattle.yd_app.specs.Verdict.{HasVerdict, IsReached, IsTold, missing}
-use Rattle.yd_app.specs.Words.{File, file_word}
+-- The lines on err (own).
+use Rattle.std.specs.Prelude.{ℕ, List, ◌++◌, codes}
+use Rattle.yd_parts.specs.Fault.{Fault}
+use Rattle.yd_files.specs.Files.{File, file_word}
+use Rattle.yd_files.specs.Seen.{file_of}
+use Rattle.yd_app.specs.Reason.{fault_text}
+use Rattle.yd_app.specs.declared.refusal.Refusal.{Refusal}
+use Rattle.yd_app.specs.declared.refusal.Refusal.TheVariants.{OfFile}
 
--- how the program is used
-abbrev pub usage_line : List ℕ
-usage_line = codes "usage: ydoc show|merge|cut|vector|convert|edit|serve|sync|check|generate\n"
+-- the file is refused for this fault
+abbrev pub refused_line : File → Fault → List ℕ
+refused_line file fault = codes "refused " ++ file_word file ++ codes " " ++ fault_text fault ++ codes "\n"
 
--- the file is refused for this reason
-abbrev pub refused_line : File → List ℕ → List ℕ
-refused_line file why = codes "refused " ++ file_word file ++ codes " " ++ why ++ codes "\n"
+-- what the code refuses
+abbrev pub refusal_line : Refusal → List ℕ
+refusal_line (OfFile file cause spot) = refused_line (file_of file) (record { cause = cause; spot = spot })
 
 -- the library failed at the name
 abbrev pub read_fault_line : List ℕ → List ℕ
@@ -36,9 +38,3 @@ limit_line name = codes "limit " ++ name ++ codes " TooLarge\n"
 -- no step 2 came
 abbrev pub no_step_2_line : List ℕ
 no_step_2_line = codes "no step 2\n"
-
--- the library failed at this file: it was reached, and begun last or missing; where no call is set to fail, it is missing
-pub record FailsAt (Calm : Type 0) (told told_now : Option Shelf) (files : List File) (file : File) : Type 0 where
-  pub reached : IsReached told files file
-  pub begun : BeginsLast told told_now file.name
-  pub is_missing : Calm → IsTold told → HasVerdict told file missing

@@ -1,35 +1,23 @@
 -- What a run promises: why each status comes, and what stands on out and on err then (own).
 use Rattle.std.specs.Prelude.{◌≡◌, ◌⊎◌, ℕ, List, [], ◌∷◌, Option}
 use Rattle.yd_ops.specs.Value.{UpdateValue}
-use Rattle.yd_world.specs.Faults.{Rose}
 use Rattle.yd_world.specs.Shelf.{Shelf}
 use Rattle.yd_world.specs.Traffic.{Traffic}
+use Rattle.yd_files.specs.Counts.{Count, RoseIn}
+use Rattle.yd_files.specs.Files.{File}
+use Rattle.yd_files.specs.Reading.{FailsAt}
+use Rattle.yd_files.specs.Verdict.{IsTold, NoneIsMissing, StandFor}
 use Rattle.yd_app.specs.Due.{Due, IsDue, line_of_due, output, status_of_due, statuses_of_due}
-use Rattle.yd_app.specs.Lines.{FailsAt, no_memory_line, read_fault_line, write_fault_line}
+use Rattle.yd_app.specs.Command.{Command}
+use Rattle.yd_app.specs.Lines.{no_memory_line, read_fault_line, write_fault_line}
 use Rattle.yd_app.specs.Output.{IsOutputOf, StandsForAgain}
-use Rattle.yd_app.specs.Verdict.{AreRead, IsTold, NoneIsMissing}
-use Rattle.yd_app.specs.Words.{AreOfNoForm, Asks, AsksFor, Command, File}
+use Rattle.yd_app.specs.Words.{AreOfNoForm, Asks, AsksFor}
 use Rattle.yd_app.specs.Writing.{TakesAll, TakesFront}
-
--- ---- counts
 
 -- the number is one of these
 abbrev pub IsOneOf : ℕ → List ℕ → Type 0
 IsOneOf n [] = ⊥
 IsOneOf n (m ∷ others) = (n ≡ m) ⊎ IsOneOf n others
-
--- how a count of faults stood before, and stands after
-pub record Count : Type 0 where
-  pub before : ℕ
-  pub now : ℕ
-
--- the count that was so, and is so
-abbrev pub count_of : ℕ → ℕ → Count
-count_of before now = record { before = before; now = now }
-
--- the count rose in the run
-abbrev pub RoseIn : Count → Type 0
-RoseIn count = Rose count.before count.now
 
 -- ---- statuses
 
@@ -65,7 +53,7 @@ pub record Completes (ReadsCalmly WritesCalmly : Type 0) (words : List (List ℕ
 -- `convert` wrote stands for the update again
 abbrev pub TakesAllOf : Command → List File → Option Shelf → Option (List ℕ) → Option (List ℕ) → Type 0
 TakesAllOf command files told taken now =
-    (updates : List UpdateValue) × AreRead told files updates × (bytes : List ℕ) × IsOutputOf command updates bytes × TakesAll taken now bytes × StandsForAgain command updates
+    (us : List UpdateValue) × StandFor told files us × (bytes : List ℕ) × IsOutputOf command us bytes × TakesAll taken now bytes × StandsForAgain command us
 
 -- so it is of what the words ask for
 abbrev pub Writes : List (List ℕ) → Option Shelf → Option (List ℕ) → Option (List ℕ) → Type 0

@@ -2,7 +2,8 @@
 
 ghost use Rattle.std.specs.Prelude.{◌≡◌, ◌≢◌, ◌∷◌, [], IsOk};
 ghost use Rattle.yd_app.specs.Ending.{Delivers, status_of};
-ghost use Rattle.yd_app.specs.Run.{IsOneOf, count_of};
+ghost use Rattle.yd_files.specs.Counts.{count_of};
+ghost use Rattle.yd_app.specs.Run.{IsOneOf};
 
 use crate::stop::Stop;
 use crate::writing::write_out;

@@ -5,14 +5,12 @@ ghost use Rattle.yd_world.specs.Faults.{Rose};
 ghost use Rattle.yd_app.specs.Ending.{line_of, status_of};
 ghost use Rattle.yd_app.specs.Writing.{TakesAll, TakesFront, CountsFault};
 
+use crate::command::USAGE;
 use crate::refusal::tell_refusal;
 use crate::status;
 use crate::stop::Stop;
 use crate::writing::write_out;
 use yd_world::{Outage, Sink};
-
-/// The words that run, and those that will.
-const USAGE: &str = "usage: ydoc show|merge|cut|vector|convert|edit|serve|sync|check|generate";
 
 /// Writes the ending's line, and answers the status.
 pub fn report<S: Sink>(ending: Result<(), Stop<'_>>, err: &mut S) -> u8

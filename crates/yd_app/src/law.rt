@@ -1,11 +1,11 @@
-//! The laws of words and files, each the contract of an empty function, and the program over
+//! The laws of words and of what is written, each the contract of an empty function, and the program over
 //! things in memory.
 
 ghost use Rattle.std.specs.Prelude.{◌≡◌, [], Some};
 ghost use Rattle.yd_world.specs.MemoryLibrary.{shelf_of};
 ghost use Rattle.yd_world.specs.MemorySink.{IsCalm};
 ghost use Rattle.yd_world.specs.ScriptBoard.{traffic_of};
-ghost use Rattle.yd_app.specs.Law.{AskForOne, FilesAreJudged, OneIsDue, RunsConverge, ShowsConverge};
+ghost use Rattle.yd_app.specs.Law.{AskForOne, OneIsDue, RunsConverge, ShowsConverge};
 ghost use Rattle.yd_app.specs.Run.{Follows, Writes};
 
 use crate::program::run;
@@ -16,12 +16,6 @@ use yd_world::{MemoryLibrary, MemorySink, ScriptBoard};
 /// Words ask for one command of one list of files at most.
 pub fn words_ask_for_one()
     ensures { AskForOne }
-{}
-
-/// Every file, in either format, is accepted as one update, refused for one reason, too large or
-/// missing; and of files that are not all accepted there is one first.
-pub fn files_are_judged()
-    ensures { FilesAreJudged }
 {}
 
 /// Where a library tells, one thing is due: the usage line, the output, or what the first file is

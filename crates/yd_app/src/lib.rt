@@ -12,16 +12,14 @@
 //! ```
 #![tactic(auto)]
 
+mod command;
 mod commands;
 mod delivery;
 mod ending;
 mod fault;
-mod file;
 mod format;
 pub mod law;
-mod loading;
 mod program;
-mod reading;
 mod receiving;
 mod refusal;
 mod request;
@@ -30,8 +28,7 @@ mod stop;
 mod word;
 mod writing;
 
-pub use fault::{LoadFault, NoMemory};
-pub use loading::read_all;
+pub use fault::NoMemory;
 pub use program::run;
 pub use word::Word;
 pub use writing::write_out;

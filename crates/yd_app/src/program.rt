@@ -1,18 +1,18 @@
 //! The program over the traits of the outside.
 
 ghost use Rattle.std.specs.Prelude.{◌≡◌, ◌∷◌, []};
-ghost use Rattle.yd_app.specs.Run.{Comes, Completes, CutsOff, HasReason, IsOneOf, TellsErr, Writes, count_of};
-ghost use Rattle.yd_app.specs.Seen.{command_of, files_of};
-ghost use Rattle.yd_app.specs.Stopping.{Makes, MakesAsked, ReadsAsked, ReadsCalmly};
+ghost use Rattle.yd_files.specs.Counts.{count_of};
+ghost use Rattle.yd_app.specs.Run.{Comes, Completes, CutsOff, HasReason, IsOneOf, TellsErr, Writes};
+ghost use Rattle.yd_app.specs.Stopping.{Makes, ReadsAsked};
 
-use crate::commands::convert::convert;
-use crate::commands::show::show;
+use crate::commands::output_of;
 use crate::delivery::deliver;
 use crate::ending::report;
-use crate::request::{Request, request_of};
+use crate::request::request_of;
 use crate::stop::Stop;
 use crate::word::Word;
 use std::alloc::Global;
+use yd_files::read_files;
 use yd_world::{Library, Sink, Switchboard};
 
 /// Does what the words ask for, and answers the status. The words that run are
@@ -58,35 +58,19 @@ pub fn run<L: Library, S: Sink, B: Switchboard>(
     report(ending, err)
 }
 
-// Makes what the words ask for.
+// Makes what the words ask for: all files are read, and the command makes bytes of their updates.
 fn make<'a, L: Library>(
     alloc: Global,
     words: &'a [Word],
     library: &mut L,
 ) -> Result<Vec<u8>, Stop<'a>>
-    ensures makes { MakesAsked (L.is_calm library.old) words.now (L.told library.old)
+    ensures makes { Makes (L.is_calm library.old) words.now (L.told library.old)
         (L.told library.new) (count_of (L.faults library.old) (L.faults library.new)) result }
     ensures reads { L.is_calm library.old → ReadsAsked words.now (L.told library.old)
         (count_of (L.faults library.old) (L.faults library.new)) }
 {
     let request = request_of(alloc, words)?;
-    carry_out(alloc, &request, library)
-}
-
-// Makes what is asked for.
-fn carry_out<'a, L: Library>(
-    alloc: Global,
-    request: &Request<'a>,
-    library: &mut L,
-) -> Result<Vec<u8>, Stop<'a>>
-    ensures makes { Makes (L.is_calm library.old) (command_of request.now)
-        (files_of request.now) (L.told library.old) (L.told library.new)
-        (count_of (L.faults library.old) (L.faults library.new)) result }
-    ensures reads { L.is_calm library.old → ReadsCalmly (L.told library.old) (files_of request.now)
-        (count_of (L.faults library.old) (L.faults library.new)) }
-{
-    match request {
-        Request::ShowText { root, files } => show(alloc, root, files.as_slice(), library),
-        Request::Convert { form, file } => convert(alloc, *form, *file, library),
-    }
+    let updates = read_files(alloc, library, request.files.as_slice())?;
+    let output = output_of(alloc, request.command, updates.as_slice())?;
+    Ok(output)
 }

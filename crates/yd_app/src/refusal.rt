@@ -1,14 +1,14 @@
 //! What is refused, and why: the line on err of each kind.
 
 ghost use Rattle.std.specs.Prelude.{◌≡◌, OnOk};
-ghost use Rattle.yd_app.specs.Reason.{cause_name, column_prefix, fault_text};
-ghost use Rattle.yd_app.specs.Lines.{refused_line};
-ghost use Rattle.yd_app.specs.Seen.{file_of as seen, refusal_line};
+ghost use Rattle.yd_files.specs.Seen.{file_of as seen};
+ghost use Rattle.yd_app.specs.Reason.{cause_name, column_prefix};
+ghost use Rattle.yd_app.specs.Lines.{refusal_line, refused_line};
 ghost use Rattle.yd_app.specs.Writing.{TakesAll, TakesFront, CountsFault};
 
 use crate::ending::write_line;
-use crate::file::{File, prefix};
 use itoa::Buffer;
+use yd_files::{File, prefix};
 use yd_parts::{Cause, Column, Spot};
 use yd_world::{Outage, Sink};
 
@@ -39,13 +39,13 @@ pub fn tell_refusal<S: Sink>(err: &mut S, refusal: Refusal<'_>) -> Result<(), Ou
 // Writes the line of a file that is refused for what is wrong first in it.
 fn tell_file<S: Sink>(err: &mut S, file: File<'_>, cause: Cause, spot: Spot) -> Result<(), Outage>
     ensures whole { OnOk result (TakesAll (S.bytes_taken err.old) (S.bytes_taken err.new)
-        (refused_line (seen file.entry) (fault_text (record { cause = cause; spot = spot })))) }
+        (refused_line (seen file.entry) (record { cause = cause; spot = spot }))) }
     ensures front { TakesFront (S.bytes_taken err.old) (S.bytes_taken err.new)
-        (refused_line (seen file.entry) (fault_text (record { cause = cause; spot = spot }))) }
+        (refused_line (seen file.entry) (record { cause = cause; spot = spot })) }
     ensures cause { CountsFault (S.faults err.old) (S.faults err.new) result }
 {
     let mut digits = Buffer::new();
-    write_line(err, "refused ", prefix(file.format), file.name)?;
+    write_line(err, "refused ", prefix(file.kind), file.name)?;
     write_line(err, " ", name_of_cause(cause), " ")?;
     write_line(
         err,

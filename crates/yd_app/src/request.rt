@@ -1,89 +1,42 @@
 //! What the words ask for.
 
-ghost use Rattle.std.specs.Prelude.{◌≡◌, ◌≢◌, ◌<◌, ◌∷◌, [], length, map, IfSome, IfNone, IfOk, IfErr, ℕ, List};
+ghost use Rattle.std.specs.Prelude.{◌≡◌, map, IfOk, IfErr};
 ghost use Rattle.yd_words.specs.Each.{Each};
+ghost use Rattle.yd_files.specs.Files.{IsNamed, file_word};
+ghost use Rattle.yd_files.specs.Seen.{file_of as seen};
 ghost use Rattle.yd_app.specs.Asking.{StopsAsking, StopsNaming};
-ghost use Rattle.yd_app.specs.Seen.{command_of, file_of as seen, files_of, format_of};
-ghost use Rattle.yd_app.specs.Words.{Asks, Format as AskedFormat, IsNamed, convert, file_word, show_text, word_of, words_of};
+ghost use Rattle.yd_app.specs.Command.{command_of as command_seen};
+ghost use Rattle.yd_app.specs.Words.{Asks};
 
-use crate::file::{File, file_of};
-use crate::format::Format;
+use crate::command::{Command, are_wanted, command_of};
 use crate::stop::Stop;
 use crate::word::Word;
 use std::alloc::Global;
+use yd_files::{File, file_of};
 
 /// A command of files.
 #[derive(Drop)]
-pub enum Request<'a> {
-    /// The text of the root of this name is shown of all that the files hold.
-    ShowText { root: &'a str, files: Vec<File<'a>> },
-    /// The file's update is written in this format.
-    Convert { form: Format, file: File<'a> },
+pub struct Request<'a> {
+    /// What is done.
+    pub command: Command<'a>,
+    /// The files, in the order of the words.
+    pub files: Vec<File<'a>>,
 }
 
 /// What the words ask for, if they are of a form.
 pub fn request_of(alloc: Global, words: &[Word]) -> Result<Request<'_>, Stop<'_>>
-    ensures found { IfOk result (λ request.
-        Asks words.now (command_of request) (files_of request)) }
+    ensures found { IfOk result (λ request. Asks words.now
+        (command_seen request.command) (map seen request.files.items)) }
     ensures stops { IfErr result (StopsAsking words.now) }
 {
-    if let Some((root, names)) = show_words(words) {
-        let files = named_files(alloc, names)?;
-        return Ok(Request::ShowText { root, files });
-    }
-    let Some((form, name)) = convert_words(words) else {
+    let Some((command, names)) = command_of(words) else {
         return Err(Stop::Usage);
     };
-    let Some(file) = file_of(name) else {
+    let files = named_files(alloc, names)?;
+    if !are_wanted(command.wants(), files.as_slice()) {
         return Err(Stop::Usage);
-    };
-    Ok(Request::Convert { form, file })
-}
-
-// The root, and the words that stand where files do.
-fn show_words(words: &[Word]) -> Option<(&str, &[Word])>
-    ensures found { IfSome result (λ both. (words.now ≡ words_of (show_text both.0.now) both.1.now)
-        × (0 < length both.1.now)) }
-    ensures none { IfNone result ((root : List ℕ) (names : List (List ℕ)) → 0 < length names
-        → words.now ≢ words_of (show_text root) names) }
-{
-    match words {
-        [show, mode, root, names @ ..]
-            if show.as_str() == "show" && mode.as_str() == "--text" && !names.is_empty() => {
-            Some((root.as_str(), names))
-        }
-        _ => None,
     }
-}
-
-// The format, and the word that stands where a file does.
-fn convert_words(words: &[Word]) -> Option<(Format, &str)>
-    ensures found { IfSome result (λ both.
-        words.now ≡ words_of (convert (format_of both.0)) (both.1.now ∷ [])) }
-    ensures none { IfNone result ((form : AskedFormat) (name : List ℕ)
-        → words.now ≢ words_of (convert form) (name ∷ [])) }
-{
-    match words {
-        [convert, form, file] if convert.as_str() == "convert" => {
-            let form = format_named(form.as_str())?;
-            Some((form, file.as_str()))
-        }
-        _ => None,
-    }
-}
-
-// The format that the word names.
-fn format_named(word: &str) -> Option<Format>
-    ensures found { IfSome result (λ format. word.now ≡ word_of (format_of format)) }
-    ensures none { IfNone result ((format : AskedFormat) → word.now ≢ word_of format) }
-{
-    if word == "v1" {
-        return Some(Format::V1);
-    }
-    if word == "v2" {
-        return Some(Format::V2);
-    }
-    None
+    Ok(Request { command, files })
 }
 
 // The files that the words name, if each names one.

@@ -1,13 +1,13 @@
 //! Why the program stopped.
 
 ghost use Rattle.std.specs.Prelude.{◌≡◌};
-ghost use Rattle.yd_app.specs.Stopping.{stop_of_outage};
+ghost use Rattle.yd_app.specs.Stopping.{stop_of_fault, stop_of_outage};
 ghost use Rattle.yd_app.specs.declared.stop.Stop.TheVariants.{NoMemory as NoRoom};
 
 use crate::fault::NoMemory;
-use crate::file::File;
 use crate::refusal::Refusal;
 use std::alloc::AllocFailed;
+use yd_files::{File, FileFault};
 use yd_world::Outage;
 
 /// Why the program stopped before all of its output was written.
@@ -43,19 +43,18 @@ impl<'a, T: Drop> From<AllocFailed<T>> for Stop<'a> {
     }
 }
 
-impl<'a> From<yd_parts::NoMemory> for Stop<'a> {
-    ghost from_gives = { λ _ stop. stop ≡ NoRoom };
+impl<'a> From<FileFault<'a>> for Stop<'a> {
+    ghost from_gives = { λ fault stop. stop ≡ stop_of_fault fault };
 
-    fn from(_refused: yd_parts::NoMemory) -> Stop<'a> {
-        Stop::NoMemory
-    }
-}
-
-impl<'a> From<yd_doc::NoMemory> for Stop<'a> {
-    ghost from_gives = { λ _ stop. stop ≡ NoRoom };
-
-    fn from(_refused: yd_doc::NoMemory) -> Stop<'a> {
-        Stop::NoMemory
+    fn from(fault: FileFault<'a>) -> Stop<'a> {
+        match fault {
+            FileFault::Refused { file, cause, spot } => {
+                Stop::Refused(Refusal::OfFile { file, cause, spot })
+            }
+            FileFault::ReadFault(file) => Stop::ReadFault(file),
+            FileFault::TooLarge(file) => Stop::TooLarge(file),
+            FileFault::NoMemory => Stop::NoMemory,
+        }
     }
 }
 

@@ -1,8 +1,9 @@
-//! Calls of `yd_app`; what `run` writes has tests of its own.
+//! Calls of `yd_app` and `yd_files`; what `run` writes has tests of its own.
 
 use std::test::Fail;
 use yd_app::law::run_in_memory;
-use yd_app::{LoadFault, Word, read_all, write_out};
+use yd_app::{Word, write_out};
+use yd_files::{LoadFault, read_all};
 use yd_world::{MemoryLibrary, MemorySink, ScriptBoard};
 
 #[test]

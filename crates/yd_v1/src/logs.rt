@@ -29,7 +29,7 @@ impl Model for UpdateList {
 
 impl UpdateList {
     /// No update.
-    pub(crate) fn new(alloc: Global) -> UpdateList
+    pub fn new(alloc: Global) -> UpdateList
         ensures { result ≡ [] }
     {
         UpdateList {
@@ -38,11 +38,21 @@ impl UpdateList {
     }
 
     /// Appends an update. One that finds no memory is dropped.
-    pub(crate) fn push(&mut self, update: Update) -> Result<(), NoMemory>
+    pub fn push(&mut self, update: Update) -> Result<(), NoMemory>
         ensures appended { OnOk result (self.new ≡ self.old ++ update ∷ []) }
         ensures unchanged { OnErr result (self.new ≡ self.old) }
     {
         self.updates.push(update)?;
+        Ok(())
+    }
+
+    /// Appends the updates of another list. Where they find no memory, they are dropped.
+    pub fn append(&mut self, other: UpdateList) -> Result<(), NoMemory>
+        ensures appended { OnOk result (self.new ≡ self.old ++ other) }
+        ensures unchanged { OnErr result (self.new ≡ self.old) }
+    {
+        let mut more = other;
+        self.updates.append(&mut more.updates)?;
         Ok(())
     }
 

@@ -8,17 +8,18 @@ use Rattle.yd_v1.specs.Grammar.{StandsForV1}
 use Rattle.yd_v2.specs.Grammar.{StandsForV2}
 use Rattle.yd_v2.specs.Reading.{most_structs}
 use Rattle.yd_v2.specs.Writing.{v2_file}
-use Rattle.yd_app.specs.Words.{Format, v1, v2}
+use Rattle.yd_app.specs.declared.format.Format.{Format}
+use Rattle.yd_app.specs.declared.format.Format.TheVariants.{V1, V2}
 
 -- the update's spelling in a format: its fields one behind the other, or in their columns
 abbrev pub converted_bytes : Format → UpdateValue → List ℕ
-converted_bytes v1 u = v1_bytes_of_all (fields_of_update u)
-converted_bytes v2 u = v2_file u
+converted_bytes V1 u = v1_bytes_of_all (fields_of_update u)
+converted_bytes V2 u = v2_file u
 
 -- the bytes stand for the update again: in V2, where it has no more structs than a file may declare there
 abbrev pub StandsAgain : Format → List ℕ → UpdateValue → Type 0
-StandsAgain v1 bytes u = StandsForV1 bytes u
-StandsAgain v2 bytes u = structs_in u.blocks ≤ most_structs → StandsForV2 bytes u
+StandsAgain V1 bytes u = StandsForV1 bytes u
+StandsAgain V2 bytes u = structs_in u.blocks ≤ most_structs → StandsForV2 bytes u
 
 -- the one update in the format
 abbrev pub converted_output : Format → List UpdateValue → List ℕ

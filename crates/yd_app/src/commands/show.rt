@@ -1,39 +1,30 @@
 //! `show`: what a reader of a root sees.
 
 ghost use Rattle.std.specs.Prelude.{◌≡◌, map, IfOk};
+ghost use Rattle.yd_words.specs.Each.{Each};
 ghost use Rattle.yd_doc.specs.Kept.{own_document};
+ghost use Rattle.yd_ops.specs.Valid.{IsValidUpdate};
+ghost use Rattle.yd_ops.specs.View.{update_value};
+ghost use Rattle.yd_app.specs.Command.{show_text};
 ghost use Rattle.yd_app.specs.Commands.Show.{root_list, text_line};
-ghost use Rattle.yd_app.specs.Run.{count_of};
-ghost use Rattle.yd_app.specs.Seen.{file_of};
-ghost use Rattle.yd_app.specs.Stopping.{Makes, ReadsCalmly};
-ghost use Rattle.yd_app.specs.Words.{show_text};
+ghost use Rattle.yd_app.specs.Output.{IsMadeOf};
 
 use crate::fault::NoMemory;
-use crate::file::File;
-use crate::receiving::receive_files;
-use crate::stop::Stop;
+use crate::receiving::receive_all;
 use std::alloc::Global;
 use yd_any::Text;
 use yd_doc::Replica;
 use yd_doc::law::own_document_is_defined;
-use yd_ops::{List, Parent};
+use yd_ops::{List, Parent, Update};
 use yd_view::text;
-use yd_world::Library;
 
-/// The text that the root shows in the document of all files, and a line feed.
-pub fn show<'a, L: Library>(
-    alloc: Global,
-    root: &str,
-    files: &[File<'a>],
-    library: &mut L,
-) -> Result<Vec<u8>, Stop<'a>>
-    ensures makes { Makes (L.is_calm library.old) (show_text root.now)
-        (map file_of files.now) (L.told library.old) (L.told library.new)
-        (count_of (L.faults library.old) (L.faults library.new)) result }
-    ensures reads { L.is_calm library.old → ReadsCalmly (L.told library.old) (map file_of files.now)
-        (count_of (L.faults library.old) (L.faults library.new)) }
+/// The text that the root shows in the document of all updates, and a line feed.
+pub fn show(alloc: Global, root: &str, updates: &[Update]) -> Result<Vec<u8>, NoMemory>
+    requires { Each IsValidUpdate (map update_value updates.now) }
+    ensures { IfOk result (λ line.
+        IsMadeOf (show_text root.now) (map update_value updates.now) line.items) }
 {
-    let replica = receive_files(alloc, library, files)?;
+    let replica = receive_all(alloc, updates)?;
     own_document_is_defined(&replica);
     let line = line_of_root(alloc, &replica, root)?;
     Ok(line)

@@ -1,23 +1,24 @@
-use Rattle.yd_app.specs.Run.{count_of}
-use Rattle.yd_app.specs.Seen.{command_of, files_of}
-use Rattle.yd_app.proofs.CalmLemmas.{reads_asked}
-use Rattle.yd_app.proofs.MakingLemmas.{asks_none, made_asked}
+use Rattle.std.proofs.Common.{map}
+use Rattle.yd_files.specs.Counts.{count_of}
+use Rattle.yd_files.specs.Seen.{file_of}
+use Rattle.yd_app.specs.Command.{command_of}
+use Rattle.yd_app.proofs.WordLemmas.{reads_asked}
 use Rattle.yd_app.proofs.program.make.Goals as goal
 
-pub returns-in_err-request-clause-makes : goal.returns-in_err-request-clause-makes
-returns-in_err-request-clause-makes g c =
-    let told = g.L.Library.told c.args.library.now in
-    let reads = count_of (g.L.Library.faults c.args.library.now) (g.L.Library.faults c.args.library.now) in
-    asks_none (g.L.Library.is_calm c.args.library.now) c.args.words.now told told reads c.from_residual.result c.in_err-request.field-0.0 c.from_residual.ensures c.in_err-request.ensures.stops
-
-pub returns-clause-makes : goal.returns-clause-makes
-returns-clause-makes g c =
+pub returns-in_err-updates-clause-reads : goal.returns-in_err-updates-clause-reads
+returns-in_err-updates-clause-reads g c = λ calmly.
     let request = c.in_ok-request.request in
-    let reads = count_of (g.L.Library.faults c.args.library.now) (g.L.Library.faults c.carry_out.new.library) in
-    made_asked (g.L.Library.is_calm c.args.library.now) c.args.words.now (command_of request) (files_of request) (g.L.Library.told c.args.library.now) (g.L.Library.told c.carry_out.new.library) reads c.carry_out.result c.in_ok-request.ensures.found c.carry_out.ensures.makes
+    reads_asked c.args.words.now (command_of request.command) (map file_of request.files.items) (g.L.Library.told c.args.library.now) (count_of (g.L.Library.faults c.args.library.now) (g.L.Library.faults c.read_files.new.library))
+    c.in_ok-request.ensures.found (rw c.as_slice.ensures.value at (c.read_files.ensures.calm calmly))
+
+pub returns-in_err-output-clause-reads : goal.returns-in_err-output-clause-reads
+returns-in_err-output-clause-reads g c = λ calmly.
+    let request = c.in_ok-request.request in
+    reads_asked c.args.words.now (command_of request.command) (map file_of request.files.items) (g.L.Library.told c.args.library.now) (count_of (g.L.Library.faults c.args.library.now) (g.L.Library.faults c.read_files.new.library))
+    c.in_ok-request.ensures.found (rw c.as_slice.ensures.value at (c.read_files.ensures.calm calmly))
 
 pub returns-clause-reads : goal.returns-clause-reads
 returns-clause-reads g c = λ calmly.
     let request = c.in_ok-request.request in
-    let reads = count_of (g.L.Library.faults c.args.library.now) (g.L.Library.faults c.carry_out.new.library) in
-    reads_asked c.args.words.now (command_of request) (files_of request) (g.L.Library.told c.args.library.now) reads c.in_ok-request.ensures.found (c.carry_out.ensures.reads calmly)
+    reads_asked c.args.words.now (command_of request.command) (map file_of request.files.items) (g.L.Library.told c.args.library.now) (count_of (g.L.Library.faults c.args.library.now) (g.L.Library.faults c.read_files.new.library))
+    c.in_ok-request.ensures.found (rw c.as_slice.ensures.value at (c.read_files.ensures.calm calmly))

@@ -1,6 +1,6 @@
 use Rattle.std.proofs.Common.{◌≢◌, ap}
 use Rattle.yd_app.specs.Ending.{status_of}
-use Rattle.yd_app.specs.Run.{count_of}
+use Rattle.yd_files.specs.Counts.{count_of}
 use Rattle.yd_app.proofs.MakingLemmas.{ends_of, no_write_fault}
 use Rattle.yd_app.proofs.RunLemmas.{calm_follows, counted_follows, reported_comes, reported_cuts, reported_reason, reported_writes, tells_err}
 use Rattle.yd_app.proofs.program.run.Goals as goal

@@ -3,16 +3,16 @@ use Rattle.std.specs.Prelude.{codes, decimal}
 use Rattle.yd_parts.specs.declared.fault.Cause.{Cause}
 use Rattle.yd_parts.specs.declared.fault.Spot.{Spot}
 use Rattle.yd_app.specs.Lines.{refused_line}
-use Rattle.yd_app.specs.Reason.{cause_name, column_prefix, fault_text}
-use Rattle.yd_app.specs.Seen.{file_of}
-use Rattle.yd_app.specs.Words.{prefix_of}
-use Rattle.yd_app.specs.declared.file.File.{File}
+use Rattle.yd_app.specs.Reason.{cause_name, column_prefix}
+use Rattle.yd_files.specs.Seen.{file_of}
+use Rattle.yd_files.specs.Files.{prefix_of}
+use Rattle.yd_files.specs.declared.file.File.{File}
 use Rattle.yd_app.proofs.WritingLemmas.{front_then, on_ok, then_all, then_front}
 use Rattle.yd_app.proofs.refusal.tell_file.Goals as goal
 
 -- the three parts of the line
 abbrev named : File → List ℕ
-named file = codes "refused " ++ prefix_of (file_of file).format ++ (file_of file).name
+named file = codes "refused " ++ prefix_of (file_of file).kind ++ (file_of file).name
 
 abbrev caused : Cause → List ℕ
 caused cause = codes " " ++ cause_name cause ++ codes " "
@@ -23,8 +23,8 @@ placed spot = column_prefix spot.column ++ decimal spot.at ++ codes "\n"
 parts : (said prefix name blank cause column digits end : List ℕ) → said ++ (prefix ++ name) ++ blank ++ (cause ++ blank ++ (column ++ digits)) ++ end ≡ (said ++ prefix ++ name) ++ ((blank ++ cause ++ blank) ++ (column ++ digits ++ end))
 parts said prefix name blank cause column digits end = simp append_assoc
 
-in_parts : (file : File) (cause : Cause) (spot : Spot) → refused_line (file_of file) (fault_text (record { cause = cause; spot = spot })) ≡ named file ++ (caused cause ++ placed spot)
-in_parts file cause spot = parts (codes "refused ") (prefix_of (file_of file).format) (file_of file).name (codes " ") (cause_name cause) (column_prefix spot.column) (decimal spot.at) (codes "\n")
+in_parts : (file : File) (cause : Cause) (spot : Spot) → refused_line (file_of file) (record { cause = cause; spot = spot }) ≡ named file ++ (caused cause ++ placed spot)
+in_parts file cause spot = parts (codes "refused ") (prefix_of (file_of file).kind) (file_of file).name (codes " ") (cause_name cause) (column_prefix spot.column) (decimal spot.at) (codes "\n")
 
 pub returns-in_err-write_line-clause-front : goal.returns-in_err-write_line-clause-front
 returns-in_err-write_line-clause-front g c =

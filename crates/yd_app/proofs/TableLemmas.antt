@@ -1,0 +1,102 @@
+-- The table of commands: what each row reads, and that a command's words are read as that command.
+use Rattle.std.proofs.Common.{◌≡◌, ◌⊎◌, ◌∙◌, ℕ, List, [], ◌∷◌, ◌++◌, Bool, true, false, Option, Some, None, inl, inr, refl, sym, ap, subst}
+use Rattle.std.proofs.lemmas.Slice.Eq.{bytes_eq-Decides}
+use Rattle.std.specs.Prelude.{codes}
+use Rattle.std.specs.Str.{bytes_eq}
+use Rattle.yd_app.specs.Command.{Command, arguments_of, convert, name_of, show_text, word_of, words_of}
+use Rattle.yd_app.specs.Table.{Begun, Row, command_in, convert_in, convert_to, either, format_in, row_in, show_in, table}
+use Rattle.yd_app.specs.declared.format.Format.{Format}
+use Rattle.yd_app.specs.declared.format.Format.TheVariants.{V1, V2}
+
+-- ---- what is read are the command's words
+
+-- the row reads words of its own command alone
+IsSound : Row → Type 0
+IsSound row = (words : List (List ℕ)) (command : Command) (names : List (List ℕ)) → row.arguments words ≡ Some (command, names) → (row.name ≡ name_of command) × (words ≡ arguments_of command ++ names)
+
+-- two things that were read are one
+read_same : (found other : Command × List (List ℕ)) → Some found ≡ Some other → found ≡ other
+read_same found other e = cc
+
+pub read_one : (command other : Command) (names others : List (List ℕ)) (found : Begun) → found ≡ Some (command, names) → found ≡ Some (other, others) → (command ≡ other) × (names ≡ others)
+read_one command other names others found is also =
+    let same : (command, names) ≡ (other, others) = read_same (command, names) (other, others) (sym is ∙ also) in
+    (ap (λ (f : Command × List (List ℕ)). f.0) same, ap (λ (f : Command × List (List ℕ)). f.1) same)
+
+-- what was found where the test holds
+either_found : (test : Bool) (first second : Begun) (found : Command × List (List ℕ)) → either test first second ≡ Some found → ((test ≡ true) × (first ≡ Some found)) ⊎ ((test ≡ false) × (second ≡ Some found))
+either_found true first second found is = inl (refl, is)
+either_found false first second found is = inr (refl, is)
+
+-- the format that is read of a word is the one that it names
+format_found : (word : List ℕ) (form : Format) → format_in word ≡ Some form → word ≡ word_of form
+format_found word form is = by_first (bytes_eq word (codes "v1")) refl is
+  where
+    by_second : (test : Bool) → bytes_eq word (codes "v2") ≡ test → either test (Some V2) None ≡ Some form → word ≡ word_of form
+    by_second true same found = let form_is : V2 ≡ form = cc in subst (λ (f : Format). word ≡ word_of f) form_is ((bytes_eq-Decides word (codes "v2")).0 same)
+    by_second false other found = absurd cc
+
+    by_first : (test : Bool) → bytes_eq word (codes "v1") ≡ test → either test (Some V1) (either (bytes_eq word (codes "v2")) (Some V2) None) ≡ Some form → word ≡ word_of form
+    by_first true same found = let form_is : V1 ≡ form = cc in subst (λ (f : Format). word ≡ word_of f) form_is ((bytes_eq-Decides word (codes "v1")).0 same)
+    by_first false other found = by_second (bytes_eq word (codes "v2")) refl found
+
+show_sound : IsSound (record { name = codes "show"; arguments = show_in })
+unfolding IsSound
+show_sound [] command names is = absurd cc
+show_sound (mode ∷ []) command names is = absurd cc
+show_sound (mode ∷ root ∷ rest) command names is = by_mode (bytes_eq mode (codes "--text")) refl is
+  where
+    by_mode : (test : Bool) → bytes_eq mode (codes "--text") ≡ test → either {X = Begun} test (Some (show_text root, rest)) None ≡ Some (command, names) → (codes "show" ≡ name_of command) × (mode ∷ root ∷ rest ≡ arguments_of command ++ names)
+    by_mode true same found =
+        let one = read_one (show_text root) command rest names (Some (show_text root, rest)) refl found in
+        let words_are : mode ∷ root ∷ rest ≡ codes "--text" ∷ root ∷ rest = ap (λ (w : List ℕ). w ∷ root ∷ rest) ((bytes_eq-Decides mode (codes "--text")).0 same) in
+        subst (λ (c : Command). (codes "show" ≡ name_of c) × (mode ∷ root ∷ rest ≡ arguments_of c ++ names)) one.0
+        (refl, subst (λ (ns : List (List ℕ)). mode ∷ root ∷ rest ≡ codes "--text" ∷ root ∷ ns) one.1 words_are)
+    by_mode false other found = absurd cc
+
+convert_sound : IsSound (record { name = codes "convert"; arguments = convert_in })
+unfolding IsSound
+convert_sound [] command names is = absurd cc
+convert_sound (word ∷ rest) command names is = by_form (format_in word) refl is
+  where
+    by_form : (read : Option Format) → format_in word ≡ read → convert_to read rest ≡ Some (command, names) → (codes "convert" ≡ name_of command) × (word ∷ rest ≡ arguments_of command ++ names)
+    by_form (Some form) named found =
+        let one = read_one (convert form) command rest names (Some (convert form, rest)) refl found in
+        subst (λ (c : Command). (codes "convert" ≡ name_of c) × (word ∷ rest ≡ arguments_of c ++ names)) one.0
+        (refl, subst (λ (ns : List (List ℕ)). word ∷ rest ≡ word_of form ∷ ns) one.1 (ap (λ (w : List ℕ). w ∷ rest) (format_found word form named)))
+    by_form None named found = absurd cc
+
+-- all rows are so
+AreSound : List Row → Type 0
+AreSound [] = Unit {0}
+AreSound (row ∷ rows) = IsSound row × AreSound rows
+
+table_sound : AreSound table
+unfolding AreSound
+table_sound = (show_sound, (convert_sound, tt))
+
+row_found : (rows : List Row) → AreSound rows → (name : List ℕ) (words : List (List ℕ)) (command : Command) (names : List (List ℕ)) → row_in rows name words ≡ Some (command, names) → name ∷ words ≡ words_of command names
+unfolding AreSound IsSound
+row_found [] sound name words command names is = absurd cc
+row_found (row ∷ rows) sound name words command names is =
+    by_name (row_found rows sound.1 name words command names) (either_found (bytes_eq name row.name) (row.arguments words) (row_in rows name words) (command, names) is)
+  where
+    by_name : (row_in rows name words ≡ Some (command, names) → name ∷ words ≡ words_of command names)
+        → ((bytes_eq name row.name ≡ true) × (row.arguments words ≡ Some (command, names))) ⊎ ((bytes_eq name row.name ≡ false) × (row_in rows name words ≡ Some (command, names))) → name ∷ words ≡ words_of command names
+    by_name more (inl found) =
+        let named = sound.0 words command names found.1 in
+        ap (λ (n : List ℕ). n ∷ words) ((bytes_eq-Decides name row.name).0 found.0 ∙ named.0) ∙ ap (λ (ws : List (List ℕ)). name_of command ∷ ws) named.1
+    by_name more (inr found) = more found.1
+
+-- ---- lemmas for callers
+
+-- what words are read as is what they are
+pub command_found : (words : List (List ℕ)) (command : Command) (names : List (List ℕ)) → command_in words ≡ Some (command, names) → words ≡ words_of command names
+command_found [] command names is = absurd cc
+command_found (name ∷ words) command names is = row_found table table_sound name words command names is
+
+-- a command's words are read as that command
+pub command_read : (command : Command) (names : List (List ℕ)) → command_in (words_of command names) ≡ Some (command, names)
+command_read (show_text root) names = refl
+command_read (convert V1) names = refl
+command_read (convert V2) names = refl

@@ -1,0 +1,10 @@
+use Rattle.yd_doc.specs.Kept.{received_of}
+use Rattle.yd_app.proofs.ReceivedLemmas.{received_next, valid_at}
+use Rattle.yd_app.proofs.receiving.receive_all.Goals as goal
+
+pub apply-requires : goal.apply-requires
+apply-requires c = valid_at c.args.updates.now c.loop-update.update-index c.update-item.result c.loop-update-test.true c.update-item.is c.requires
+
+pub loop-update-preserved : goal.loop-update-preserved
+loop-update-preserved c =
+    received_next c.args.updates.now c.loop-update.update-index c.update-item.result (received_of c.loop-update.replica) (received_of c.apply.new.self) c.loop-update-test.true c.update-item.is c.loop-update.invariant c.in_ok-apply.ensures.received

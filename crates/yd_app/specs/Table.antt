@@ -1,0 +1,56 @@
+-- The table of commands: a row for each, with its name and how the words behind it are read (own).
+use Rattle.std.specs.Prelude.{ℕ, List, [], ◌∷◌, Bool, true, false, Option, Some, None, codes}
+use Rattle.std.specs.Str.{bytes_eq}
+use Rattle.yd_app.specs.Command.{Command, convert, show_text}
+use Rattle.yd_app.specs.declared.format.Format.{Format}
+use Rattle.yd_app.specs.declared.format.Format.TheVariants.{V1, V2}
+
+-- the first where the test holds, and else the second
+abbrev pub either : {X : Type 0} → Bool → X → X → X
+either true x y = x
+either false x y = y
+
+-- words read as a command and the words behind it, if they begin with one
+abbrev pub Begun : Type 0
+Begun = Option (Command × List (List ℕ))
+
+-- a name, and how the words behind it are read
+pub record Row : Type 0 where
+  pub name : List ℕ
+  pub arguments : List (List ℕ) → Begun
+
+-- the format that a word names
+abbrev pub format_in : List ℕ → Option Format
+format_in word = either (bytes_eq word (codes "v1")) (Some V1) (either (bytes_eq word (codes "v2")) (Some V2) None)
+
+-- ---- rows
+
+-- `show --text NAME`
+abbrev pub show_in : List (List ℕ) → Begun
+show_in [] = None
+show_in (mode ∷ []) = None
+show_in (mode ∷ root ∷ names) = either (bytes_eq mode (codes "--text")) (Some (show_text root, names)) None
+
+-- `convert FORM`
+abbrev pub convert_to : Option Format → List (List ℕ) → Begun
+convert_to None names = None
+convert_to (Some form) names = Some (convert form, names)
+
+abbrev pub convert_in : List (List ℕ) → Begun
+convert_in [] = None
+convert_in (form ∷ names) = convert_to (format_in form) names
+
+-- ---- the table
+
+abbrev pub table : List Row
+table = record { name = codes "show"; arguments = show_in } ∷ record { name = codes "convert"; arguments = convert_in } ∷ []
+
+-- the row of the name reads the words behind it
+abbrev pub row_in : List Row → List ℕ → List (List ℕ) → Begun
+row_in [] name words = None
+row_in (row ∷ rows) name words = either (bytes_eq name row.name) (row.arguments words) (row_in rows name words)
+
+-- the command that the words begin with, and the words behind it
+abbrev pub command_in : List (List ℕ) → Begun
+command_in [] = None
+command_in (name ∷ words) = row_in table name words

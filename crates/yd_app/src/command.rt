@@ -1,0 +1,121 @@
+//! The commands: the table of their names, the words that each has, and the files that it wants.
+
+ghost use Rattle.std.specs.Prelude.{◌≡◌, ◌↔◌, IfSome, IfNone, IsTrue, Some, None, map};
+ghost use Rattle.yd_files.specs.Seen.{file_of};
+ghost use Rattle.yd_app.specs.Command.{AreWanted, command_of as seen, wanted_by};
+ghost use Rattle.yd_app.specs.Table.{command_in, convert_in, row_in, show_in, table};
+
+use crate::format::{Format, format_named};
+use crate::word::Word;
+use yd_files::File;
+
+/// How the program is used.
+pub const USAGE: &str = "usage: ydoc show|merge|cut|vector|convert|edit|serve|sync|check|generate";
+
+/// What is done with files.
+#[derive(Clone, Copy)]
+pub enum Command<'a> {
+    /// The text of the root of this name is shown of all that the files hold.
+    ShowText { root: &'a str },
+    /// The file's update is written in this format.
+    Convert { form: Format },
+}
+
+/// Which files a command wants.
+#[derive(Clone, Copy)]
+pub enum Wanted {
+    /// One or more.
+    Several,
+    /// One, which stands for one update.
+    OneUpdate,
+}
+
+impl<'a> Command<'a> {
+    /// Which files it wants.
+    pub fn wants(self) -> Wanted
+        ensures { result ≡ wanted_by (seen self.entry) }
+    {
+        match self {
+            Command::ShowText { .. } => Wanted::Several,
+            Command::Convert { .. } => Wanted::OneUpdate,
+        }
+    }
+}
+
+/// Whether the files are those that are wanted.
+pub fn are_wanted(wanted: Wanted, files: &[File<'_>]) -> bool
+    ensures { IsTrue result ↔ AreWanted wanted (map file_of files.now) }
+{
+    match wanted {
+        Wanted::Several => !files.is_empty(),
+        Wanted::OneUpdate => is_one_update(files),
+    }
+}
+
+// Whether it is one file that stands for one update.
+fn is_one_update(files: &[File<'_>]) -> bool
+    ensures { IsTrue result ↔ AreWanted Wanted.OneUpdate (map file_of files.now) }
+{
+    match files {
+        [file] => file.kind.is_one_update(),
+        _ => false,
+    }
+}
+
+/// The command that the words begin with, and the words behind it, which are to name its files.
+pub fn command_of(words: &[Word]) -> Option<(Command<'_>, &[Word])>
+    ensures found { IfSome result (λ both.
+        command_in words.now ≡ Some (seen both.0, both.1.now)) }
+    ensures none { IfNone result (command_in words.now ≡ None) }
+{
+    match words {
+        [name, rest @ ..] => command_named(name.as_str(), rest),
+        _ => None,
+    }
+}
+
+// The command of the name, read of the words behind it.
+fn command_named<'a>(name: &str, words: &'a [Word]) -> Option<(Command<'a>, &'a [Word])>
+    ensures found { IfSome result (λ both.
+        row_in table name.now words.now ≡ Some (seen both.0, both.1.now)) }
+    ensures none { IfNone result (row_in table name.now words.now ≡ None) }
+{
+    if name == "show" {
+        return show_of(words);
+    }
+    if name == "convert" {
+        return convert_of(words);
+    }
+    None
+}
+
+// `--text NAME`
+fn show_of(words: &[Word]) -> Option<(Command<'_>, &[Word])>
+    ensures found { IfSome result (λ both. show_in words.now ≡ Some (seen both.0, both.1.now)) }
+    ensures none { IfNone result (show_in words.now ≡ None) }
+{
+    match words {
+        [mode, root, names @ ..] => {
+            if mode.as_str() != "--text" {
+                return None;
+            }
+            let root = root.as_str();
+            Some((Command::ShowText { root }, names))
+        }
+        _ => None,
+    }
+}
+
+// `FORM`
+fn convert_of(words: &[Word]) -> Option<(Command<'_>, &[Word])>
+    ensures found { IfSome result (λ both. convert_in words.now ≡ Some (seen both.0, both.1.now)) }
+    ensures none { IfNone result (convert_in words.now ≡ None) }
+{
+    match words {
+        [form, names @ ..] => {
+            let form = format_named(form.as_str())?;
+            Some((Command::Convert { form }, names))
+        }
+        _ => None,
+    }
+}

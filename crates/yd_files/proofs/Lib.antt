@@ -1,0 +1,7 @@
+pub mod KindLemmas
+pub mod LoadingLemmas
+pub mod NameLemmas
+pub mod ReadingLemmas
+pub mod ToldLemmas
+pub mod ValidLemmas
+pub mod VerdictLemmas

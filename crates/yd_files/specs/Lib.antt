@@ -1,0 +1,7 @@
+pub mod Counts
+pub mod Files
+pub mod Law
+pub mod Loading
+pub mod Reading
+pub mod Seen
+pub mod Verdict

@@ -1,0 +1,59 @@
+-- What reading files answers, and why it stops (own).
+use Rattle.std.specs.Prelude.{◌≡◌, List, [], ◌∷◌, ◌++◌, Option, Result, Ok, Err}
+use Rattle.yd_words.specs.Each.{Each}
+use Rattle.yd_ops.specs.Valid.{IsValidUpdate}
+use Rattle.yd_ops.specs.Value.{UpdateValue}
+use Rattle.yd_ops.specs.declared.updates.Update.{Update}
+use Rattle.yd_parts.specs.declared.fault.ReadError.{ReadError}
+use Rattle.yd_parts.specs.declared.fault.ReadError.TheVariants as errors
+use Rattle.yd_world.specs.Shelf.{Shelf}
+use Rattle.yd_files.specs.Counts.{Count, RoseIn}
+use Rattle.yd_files.specs.Files.{File}
+use Rattle.yd_files.specs.Loading.{BeginsLast}
+use Rattle.yd_files.specs.Seen.{file_of}
+use Rattle.yd_files.specs.Verdict.{Content, HasVerdict, IsReached, IsTold, NoneIsMissing, StopsAt, accepted, missing, refused, too_large, updates_of}
+use Rattle.yd_files.specs.declared.fault.FileFault.{FileFault}
+use Rattle.yd_files.specs.declared.fault.FileFault.TheVariants.{Refused, ReadFault, TooLarge, NoMemory}
+
+-- ---- one file
+
+-- the one update that was read, as a list; or the error; or memory was wanted
+abbrev pub AsOne : Result Update ReadError → Result (List Update) ReadError → Type 0
+AsOne (Ok update) (Ok list) = list ≡ update ∷ []
+AsOne (Ok update) (Err errors.NoMemory) = Unit {0}
+AsOne (Ok update) (Err (errors.Fault cause spot)) = ⊥
+AsOne (Err error) result = result ≡ Err error
+
+-- the file is accepted, and its updates, which are valid, stand behind those of before
+pub record ReadsOne (told : Option Shelf) (file : File) (old new : List UpdateValue) : Type 0 where
+  pub content : Content
+  pub is_read : HasVerdict told file (accepted content)
+  pub valid : Each IsValidUpdate (updates_of content)
+  pub appended : new ≡ old ++ updates_of content
+
+-- why reading a file stopped: it is refused or too large, or the library failed at it; want of memory has no reason
+abbrev pub StopsReading : Type 0 → Option Shelf → Option Shelf → File → Count → FileFault → Type 0
+StopsReading Calm told told_now file reads (Refused other cause spot) = (file_of other ≡ file) × HasVerdict told file (refused (record { cause = cause; spot = spot }))
+StopsReading Calm told told_now file reads (ReadFault other) = (file_of other ≡ file) × RoseIn reads × BeginsLast told told_now file.name × (Calm → IsTold told → HasVerdict told file missing)
+StopsReading Calm told told_now file reads (TooLarge other) = (file_of other ≡ file) × HasVerdict told file too_large
+StopsReading Calm told told_now file reads NoMemory = Unit {0}
+
+-- ---- several files
+
+-- the library failed at this file: it was reached, and begun last or missing; where no call is set to fail, it is missing
+pub record FailsAt (Calm : Type 0) (told told_now : Option Shelf) (files : List File) (file : File) : Type 0 where
+  pub reached : IsReached told files file
+  pub begun : BeginsLast told told_now file.name
+  pub is_missing : Calm → IsTold told → HasVerdict told file missing
+
+-- why reading files stopped: this one is the first that is not accepted, as it is refused or too large, or the library failed at it; want
+-- of memory has no reason
+abbrev pub StopsAmong : Type 0 → Option Shelf → Option Shelf → List File → Count → FileFault → Type 0
+StopsAmong Calm told told_now files reads (Refused file cause spot) = StopsAt told files (file_of file) (refused (record { cause = cause; spot = spot }))
+StopsAmong Calm told told_now files reads (ReadFault file) = RoseIn reads × FailsAt Calm told told_now files (file_of file)
+StopsAmong Calm told told_now files reads (TooLarge file) = StopsAt told files (file_of file) too_large
+StopsAmong Calm told told_now files reads NoMemory = Unit {0}
+
+-- where the library tells, and the first file that is not accepted, if there is one, is there, reading counts no fault
+abbrev pub ReadsCalmly : Option Shelf → List File → Count → Type 0
+ReadsCalmly told files reads = IsTold told → NoneIsMissing told files → reads.now ≡ reads.before

@@ -1,0 +1,125 @@
+-- What a file is, and which of several is the first that is not accepted (own).
+use Rattle.std.specs.Prelude.{◌≡◌, ℕ, ◌^◌, ◌<◌, ◌≤◌, List, ◌++◌, ◌∷◌, [], length, Option, Some, None}
+use Rattle.yd_parts.specs.Fault.{Fault}
+use Rattle.yd_v1.specs.Grammar.{HasFirstFaultV1, StandsForV1}
+use Rattle.yd_v1.specs.Log.{HasFirstFaultLog, StandsForLog}
+use Rattle.yd_v2.specs.Grammar.{HasFirstFaultV2, StandsForV2}
+use Rattle.yd_ops.specs.Value.{UpdateValue}
+use Rattle.yd_world.specs.Shelf.{Shelf}
+use Rattle.yd_files.specs.Files.{File}
+use Rattle.yd_files.specs.declared.kind.Kind.{Kind}
+use Rattle.yd_files.specs.declared.kind.Kind.TheVariants.{V1, V2, Log}
+
+-- ---- bytes
+
+-- what a file stands for: updates in order. A further kind of file brings what it stands for
+pub data Content : Type 0 where
+  updates : List UpdateValue → Content
+
+-- one update
+abbrev pub one_update : UpdateValue → Content
+one_update u = updates (u ∷ [])
+
+-- the content is made of a value for which the bytes stand
+abbrev pub StandsAs : {X : Type 0} → (X → Content) → (X → Type 0) → Content → Type 0
+StandsAs {X} made Stands content = (x : X) × (content ≡ made x) × Stands x
+
+-- the bytes stand for it, by the grammar of the kind
+abbrev pub StandsIn : Kind → List ℕ → Content → Type 0
+StandsIn V1 bytes = StandsAs one_update (StandsForV1 bytes)
+StandsIn V2 bytes = StandsAs one_update (StandsForV2 bytes)
+StandsIn Log bytes = StandsAs updates (StandsForLog bytes)
+
+-- the fault is the first in them, by the grammar of the kind
+abbrev pub HasFirstFaultIn : Kind → List ℕ → Fault → Type 0
+HasFirstFaultIn V1 bytes = HasFirstFaultV1 bytes
+HasFirstFaultIn V2 bytes = HasFirstFaultV2 bytes
+HasFirstFaultIn Log bytes = HasFirstFaultLog bytes
+
+-- they are at most 256 MiB
+abbrev pub IsWithin : List ℕ → Type 0
+IsWithin bytes = length bytes ≤ 2 ^ 28
+
+-- they are more
+abbrev pub IsTooLarge : List ℕ → Type 0
+IsTooLarge bytes = 2 ^ 28 < length bytes
+
+-- the updates of a content
+abbrev pub updates_of : Content → List UpdateValue
+updates_of (updates us) = us
+
+-- the updates of contents, in order
+abbrev pub updates_in : List Content → List UpdateValue
+updates_in [] = []
+updates_in (content ∷ contents) = updates_of content ++ updates_in contents
+
+-- ---- what a library tells
+
+-- the library tells
+abbrev pub IsTold : Option Shelf → Type 0
+IsTold None = ⊥
+IsTold (Some shelf) = Unit {0}
+
+-- where the library tells, it has bytes under the name, of which this holds
+abbrev pub WhereTold : Option Shelf → List ℕ → (List ℕ → Type 0) → Type 0
+WhereTold None name Holds = Unit {0}
+WhereTold (Some shelf) name Holds = (bytes : List ℕ) × (shelf.bytes_under name ≡ Some bytes) × Holds bytes
+
+-- where the library tells, it has none
+abbrev pub LacksName : Option Shelf → List ℕ → Type 0
+LacksName None name = Unit {0}
+LacksName (Some shelf) name = shelf.bytes_under name ≡ None
+
+-- ---- files
+
+-- what a file is: accepted as what it stands for, refused for what is wrong first, too large, or missing
+pub data Verdict : Type 0 where
+  accepted : Content → Verdict
+  refused : Fault → Verdict
+  too_large : Verdict
+  missing : Verdict
+
+-- the file is so: its bytes stand for the content by its kind, or are outside the grammar, or are too many, or are not there
+abbrev pub HasVerdict : Option Shelf → File → Verdict → Type 0
+HasVerdict told file (accepted content) = WhereTold told file.name (λ bytes. IsWithin bytes × StandsIn file.kind bytes content)
+HasVerdict told file (refused fault) = WhereTold told file.name (λ bytes. IsWithin bytes × HasFirstFaultIn file.kind bytes fault)
+HasVerdict told file too_large = WhereTold told file.name IsTooLarge
+HasVerdict told file missing = LacksName told file.name
+
+-- the file is not accepted
+abbrev pub IsNotAccepted : Verdict → Type 0
+IsNotAccepted (accepted content) = ⊥
+IsNotAccepted (refused fault) = Unit {0}
+IsNotAccepted too_large = Unit {0}
+IsNotAccepted missing = Unit {0}
+
+-- all files are accepted, as these contents
+abbrev pub AreRead : Option Shelf → List File → List Content → Type 0
+AreRead told [] [] = Unit {0}
+AreRead told [] (content ∷ contents) = ⊥
+AreRead told (file ∷ files) [] = ⊥
+AreRead told (file ∷ files) (content ∷ contents) = HasVerdict told file (accepted content) × AreRead told files contents
+
+-- all files are accepted, and these are their updates, in order
+pub record StandFor (told : Option Shelf) (files : List File) (us : List UpdateValue) : Type 0 where
+  pub contents : List Content
+  pub are_read : AreRead told files contents
+  pub updates_are : us ≡ updates_in contents
+
+-- the file is one of these, and all before it are accepted
+pub record IsReached (told : Option Shelf) (files : List File) (file : File) : Type 0 where
+  pub before : List File
+  pub behind : List File
+  pub contents : List Content
+  pub files_are : files ≡ before ++ file ∷ behind
+  pub are_read : AreRead told before contents
+
+-- the first of the files that is not accepted is this one, for what it is
+pub record StopsAt (told : Option Shelf) (files : List File) (file : File) (verdict : Verdict) : Type 0 where
+  pub reached : IsReached told files file
+  pub not_accepted : IsNotAccepted verdict
+  pub verdict_is : HasVerdict told file verdict
+
+-- the first that is not accepted, if there is one, is there
+abbrev pub NoneIsMissing : Option Shelf → List File → Type 0
+NoneIsMissing told files = (file : File) → ¬ (StopsAt told files file missing)

@@ -1,0 +1,77 @@
+//! The kinds of files: how the bytes of each are spelled, and read.
+
+ghost use Rattle.std.specs.Prelude.{◌≡◌, ◌↔◌, map, IfOk, IsTrue};
+ghost use Rattle.yd_words.specs.Each.{Each};
+ghost use Rattle.yd_ops.specs.Valid.{IsValidUpdate};
+ghost use Rattle.yd_ops.specs.View.{update_value};
+ghost use Rattle.yd_reading.specs.Answer.{ReadsWhole};
+ghost use Rattle.yd_files.specs.Files.{IsOneUpdate, prefix_of};
+ghost use Rattle.yd_files.specs.Reading.{AsOne};
+ghost use Rattle.yd_files.specs.Seen.{content_of};
+ghost use Rattle.yd_files.specs.Verdict.{HasFirstFaultIn, StandsIn};
+
+use std::alloc::Global;
+use yd_ops::Update;
+use yd_parts::ReadError;
+use yd_v1::{UpdateList, read_log, read_v1};
+use yd_v2::read_v2;
+
+/// How a file is spelled.
+#[derive(Clone, Copy, Debug, PartialEq, Eq)]
+pub enum Kind {
+    /// One update in V1.
+    V1,
+    /// One update in V2.
+    V2,
+    /// Updates in V1, one behind the other.
+    Log,
+}
+
+impl Kind {
+    /// Whether a file of this kind stands for one update, and not for several.
+    pub fn is_one_update(self) -> bool
+        ensures { IsTrue result ↔ IsOneUpdate self }
+    {
+        match self {
+            Kind::V1 | Kind::V2 => true,
+            Kind::Log => false,
+        }
+    }
+}
+
+/// What stands before the name of a file of this kind, in a word.
+pub fn prefix(kind: Kind) -> &'static str
+    ensures { result.now ≡ prefix_of kind }
+{
+    match kind {
+        Kind::V1 => "v1:",
+        Kind::V2 => "v2:",
+        Kind::Log => "log:",
+    }
+}
+
+/// Reads the bytes of a file of this kind: the updates that they stand for, or the first fault in
+/// them.
+pub(crate) fn read_in(alloc: Global, kind: Kind, bytes: &[u8]) -> Result<UpdateList, ReadError>
+    ensures exact { ReadsWhole content_of (StandsIn kind bytes.now)
+        (HasFirstFaultIn kind bytes.now) result }
+    ensures valid { IfOk result (λ list. Each IsValidUpdate (map update_value list)) }
+{
+    match kind {
+        Kind::V1 => as_one(alloc, read_v1(alloc, bytes)),
+        Kind::V2 => as_one(alloc, read_v2(alloc, bytes)),
+        Kind::Log => read_log(alloc, bytes),
+    }
+}
+
+// The one update as a list.
+fn as_one(alloc: Global, read: Result<Update, ReadError>) -> Result<UpdateList, ReadError>
+    ensures { AsOne read result }
+{
+    let update = read?;
+    let mut list = UpdateList::new(alloc);
+    if list.push(update).is_err() {
+        return Err(ReadError::NoMemory);
+    }
+    Ok(list)
+}
