@@ -10,6 +10,8 @@ mod fields;
 #[cfg(test)]
 mod infos;
 #[cfg(test)]
+mod logs;
+#[cfg(test)]
 mod ops;
 #[cfg(test)]
 mod reading;

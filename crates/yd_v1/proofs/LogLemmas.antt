@@ -9,7 +9,6 @@ use Rattle.yd_parts.specs.Part.{Unread, all_of, blob, here, part_at}
 use Rattle.yd_parts.specs.Plan.{and_then}
 use Rattle.yd_parts.specs.declared.fault.Column.TheVariants.{Whole}
 use Rattle.yd_parts.specs.declared.fault.ReadError.{ReadError}
-use Rattle.yd_parts.specs.declared.fault.ReadError.TheVariants as errors
 use Rattle.yd_fields.specs.UpdatePlan.{update_plan}
 use Rattle.std.specs.Prelude.{None}
 use Rattle.std.specs.Result.{IsErrAnd}

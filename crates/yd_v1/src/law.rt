@@ -5,6 +5,7 @@ ghost use Rattle.yd_fields.specs.UpdatePlan.{vector_plan};
 ghost use Rattle.yd_v1.specs.Grammar.{FailsV1, FillsV1, HasFirstFaultV1, StandsForV1};
 ghost use Rattle.yd_v1.specs.Law.{FieldsAreRead, FieldsComeBackV1};
 ghost use Rattle.yd_v1.specs.Log.{HasFirstFaultLog, StandsForLog, log_reading};
+ghost use Rattle.yd_v1.specs.LogWriting.{LogsComeBack};
 ghost use Rattle.yd_v1.specs.Reading.{v1_reading, vector_reading};
 
 /// The fields of V1 are read as they stand, and fail just where none stands.
@@ -38,4 +39,9 @@ pub fn logs_are_read()
 /// A log stands for one list of updates, or has one first fault, and never both.
 pub fn logs_are_one()
     ensures { FilesAreOne StandsForLog HasFirstFaultLog }
+{}
+
+/// A log of bodies that stand for updates stands for these updates in order.
+pub fn logs_come_back()
+    ensures { LogsComeBack }
 {}

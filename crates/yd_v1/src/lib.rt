@@ -5,8 +5,8 @@
 //! [`V1Writer`]). [`read_v1`] answers the update that a file stands for, or the first fault in it,
 //! by cause and place; [`write_v1`] answers the bytes of an update, and they stand for it. State
 //! vectors are spelled in V1 too ([`read_vector`], [`write_vector`]). A log file is updates in V1 one
-//! behind the other, and [`read_log`] answers them, or the first fault. That all five are exact is
-//! proved of every file, every update and every vector ([`law`]).
+//! behind the other ([`read_log`], [`write_log`]). That all six are exact is proved of every file,
+//! every update and every vector ([`law`]).
 //!
 //! ```rust
 //! let update = read_v1(alloc, &[0, 0])?;
@@ -16,6 +16,7 @@
 
 pub mod law;
 mod log_reading;
+mod log_writing;
 mod logs;
 mod reader;
 mod reading;
@@ -25,6 +26,7 @@ mod writer;
 mod writing;
 
 pub use log_reading::read_log;
+pub use log_writing::write_log;
 pub use logs::UpdateList;
 pub use reader::V1Reader;
 pub use reading::read_v1;

@@ -1,0 +1,43 @@
+//! Log files, written.
+
+ghost use Rattle.std.specs.Prelude.{◌≡◌, ◌++◌, map, IfOk, OnOk};
+ghost use Rattle.yd_num.specs.Writing.{shortest_blob};
+ghost use Rattle.yd_words.specs.Each.{Each};
+ghost use Rattle.yd_ops.specs.Valid.{IsValidUpdate};
+ghost use Rattle.yd_ops.specs.View.{update_value};
+ghost use Rattle.yd_v1.specs.Log.{StandsForLog};
+ghost use Rattle.yd_v1.specs.LogWriting.{IsBody, body_of, log_bytes};
+
+use crate::writing::write_v1;
+use std::alloc::Global;
+use yd_num::Bytes;
+use yd_ops::Update;
+use yd_parts::NoMemory;
+
+/// The bytes of a log of the updates, in their order, which stand for these updates. An update of
+/// 2^53 bytes or more finds no memory (own).
+pub fn write_log(alloc: Global, updates: &[Update]) -> Result<Vec<u8>, NoMemory>
+    requires { Each IsValidUpdate (map update_value updates.now) }
+    ensures written { IfOk result (λ bytes. bytes.items ≡ log_bytes (map update_value updates.now)) }
+    ensures read_again { IfOk result (λ bytes.
+        StandsForLog bytes.items (map update_value updates.now)) }
+{
+    let mut log = Bytes::new(alloc);
+    for update in updates {
+        write_entry(alloc, update, &mut log)?;
+    }
+    Ok(log.into_vec())
+}
+
+// Appends the entry of one update.
+fn write_entry(alloc: Global, update: &Update, log: &mut Bytes) -> Result<(), NoMemory>
+    requires { IsValidUpdate (update_value update.now) }
+    ensures appended { OnOk result
+        (log.new ≡ log.old ++ shortest_blob (body_of (update_value update.now))) }
+    ensures again { OnOk result
+        (IsBody (body_of (update_value update.now)) (update_value update.now)) }
+{
+    let body = write_v1(alloc, update)?;
+    log.push_blob(&body)?;
+    Ok(())
+}
