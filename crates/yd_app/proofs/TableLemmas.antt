@@ -3,8 +3,8 @@ use Rattle.std.proofs.Common.{◌≡◌, ◌⊎◌, ◌∙◌, ℕ, List, [], �
 use Rattle.std.proofs.lemmas.Slice.Eq.{bytes_eq-Decides}
 use Rattle.std.specs.Prelude.{codes}
 use Rattle.std.specs.Str.{bytes_eq}
-use Rattle.yd_app.specs.Command.{Command, arguments_of, convert, name_of, show_text, word_of, words_of}
-use Rattle.yd_app.specs.Table.{Begun, Row, command_in, convert_in, convert_to, either, format_in, row_in, show_in, table}
+use Rattle.yd_app.specs.Command.{Command, arguments_of, convert, name_of, pack, show_text, word_of, words_of}
+use Rattle.yd_app.specs.Table.{Begun, Row, command_in, convert_in, convert_to, either, format_in, pack_in, row_in, show_in, table}
 use Rattle.yd_app.specs.declared.format.Format.{Format}
 use Rattle.yd_app.specs.declared.format.Format.TheVariants.{V1, V2}
 
@@ -66,6 +66,12 @@ convert_sound (word ∷ rest) command names is = by_form (format_in word) refl i
         (refl, subst (λ (ns : List (List ℕ)). word ∷ rest ≡ word_of form ∷ ns) one.1 (ap (λ (w : List ℕ). w ∷ rest) (format_found word form named)))
     by_form None named found = absurd cc
 
+pack_sound : IsSound (record { name = codes "pack"; arguments = pack_in })
+unfolding IsSound
+pack_sound words command names is =
+    let one = read_one pack command words names (Some (pack, words)) refl is in
+    subst (λ (c : Command). (codes "pack" ≡ name_of c) × (words ≡ arguments_of c ++ names)) one.0 (refl, one.1)
+
 -- all rows are so
 AreSound : List Row → Type 0
 AreSound [] = Unit {0}
@@ -73,7 +79,7 @@ AreSound (row ∷ rows) = IsSound row × AreSound rows
 
 table_sound : AreSound table
 unfolding AreSound
-table_sound = (show_sound, (convert_sound, tt))
+table_sound = (show_sound, (convert_sound, (pack_sound, tt)))
 
 row_found : (rows : List Row) → AreSound rows → (name : List ℕ) (words : List (List ℕ)) (command : Command) (names : List (List ℕ)) → row_in rows name words ≡ Some (command, names) → name ∷ words ≡ words_of command names
 unfolding AreSound IsSound
@@ -100,3 +106,4 @@ pub command_read : (command : Command) (names : List (List ℕ)) → command_in 
 command_read (show_text root) names = refl
 command_read (convert V1) names = refl
 command_read (convert V2) names = refl
+command_read pack names = refl

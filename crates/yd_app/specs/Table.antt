@@ -1,7 +1,7 @@
 -- The table of commands: a row for each, with its name and how the words behind it are read (own).
 use Rattle.std.specs.Prelude.{ℕ, List, [], ◌∷◌, Bool, true, false, Option, Some, None, codes}
 use Rattle.std.specs.Str.{bytes_eq}
-use Rattle.yd_app.specs.Command.{Command, convert, show_text}
+use Rattle.yd_app.specs.Command.{Command, convert, pack, show_text}
 use Rattle.yd_app.specs.declared.format.Format.{Format}
 use Rattle.yd_app.specs.declared.format.Format.TheVariants.{V1, V2}
 
@@ -40,10 +40,18 @@ abbrev pub convert_in : List (List ℕ) → Begun
 convert_in [] = None
 convert_in (form ∷ names) = convert_to (format_in form) names
 
+-- `pack`
+abbrev pub pack_in : List (List ℕ) → Begun
+pack_in names = Some (pack, names)
+
 -- ---- the table
 
 abbrev pub table : List Row
-table = record { name = codes "show"; arguments = show_in } ∷ record { name = codes "convert"; arguments = convert_in } ∷ []
+table =
+    record { name = codes "show"; arguments = show_in }
+    ∷ record { name = codes "convert"; arguments = convert_in }
+    ∷ record { name = codes "pack"; arguments = pack_in }
+    ∷ []
 
 -- the row of the name reads the words behind it
 abbrev pub row_in : List Row → List ℕ → List (List ℕ) → Begun

@@ -10,7 +10,8 @@ use crate::word::Word;
 use yd_files::File;
 
 /// How the program is used.
-pub const USAGE: &str = "usage: ydoc show|merge|cut|vector|convert|edit|serve|sync|check|generate";
+pub const USAGE: &str =
+    "usage: ydoc show|merge|cut|vector|convert|edit|serve|sync|check|generate|pack";
 
 /// What is done with files.
 #[derive(Clone, Copy)]
@@ -19,6 +20,8 @@ pub enum Command<'a> {
     ShowText { root: &'a str },
     /// The file's update is written in this format.
     Convert { form: Format },
+    /// All updates are written as one log.
+    Pack,
 }
 
 /// Which files a command wants.
@@ -38,6 +41,7 @@ impl<'a> Command<'a> {
         match self {
             Command::ShowText { .. } => Wanted::Several,
             Command::Convert { .. } => Wanted::OneUpdate,
+            Command::Pack => Wanted::Several,
         }
     }
 }
@@ -85,6 +89,9 @@ fn command_named<'a>(name: &str, words: &'a [Word]) -> Option<(Command<'a>, &'a 
     }
     if name == "convert" {
         return convert_of(words);
+    }
+    if name == "pack" {
+        return Some((Command::Pack, words));
     }
     None
 }

@@ -8,6 +8,7 @@ ghost use Rattle.yd_app.specs.Command.{command_of};
 ghost use Rattle.yd_app.specs.Output.{IsMadeOf};
 
 mod convert;
+mod pack;
 mod show;
 
 use crate::command::Command;
@@ -28,5 +29,6 @@ pub fn output_of(
     match command {
         Command::ShowText { root } => show::show(alloc, root, updates),
         Command::Convert { form } => convert::convert(alloc, form, updates),
+        Command::Pack => pack::pack(alloc, updates),
     }
 }
