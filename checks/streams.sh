@@ -19,7 +19,7 @@ expect() {
 }
 
 expect 3 'read fault no-such-file' show --text t v1:no-such-file
-expect 2 'usage: ydoc show|merge|cut|vector|convert|edit|serve|sync|check|generate' show --text t
+expect 2 'usage: ydoc show|merge|cut|vector|convert|edit|serve|sync|check|generate|pack' show --text t
 # written WORD..: the program succeeds, and its output is what stands in the file work/want
 written() {
   rt try --data data/abc.bin=data/abc.bin --data data/d.v2.bin=data/d.v2.bin \

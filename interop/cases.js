@@ -5,6 +5,8 @@
 
 const fs = require('node:fs');
 const path = require('node:path');
+const decoding = require('lib0/decoding');
+const encoding = require('lib0/encoding');
 const Y = require('yjs');
 const { bytesOf, casesOf, wordsOf } = require('./case_file.js');
 const { APPLIED } = require('./session.js');
@@ -35,16 +37,40 @@ function converted(to, [form, bytes]) {
   return Buffer.from(to === 'v1' ? v1 : Y.convertUpdateFormatV1ToV2(v1));
 }
 
+/** The log of some updates: each in V1, as a byte string of lib0. */
+function packed(updates) {
+  const encoder = encoding.createEncoder();
+  updates.forEach((update) => encoding.writeVarUint8Array(encoder, converted('v1', update)));
+  return Buffer.from(encoding.toUint8Array(encoder));
+}
+
+/** The updates of a log: its byte strings up to the end. */
+function entriesOf(bytes) {
+  const decoder = decoding.createDecoder(bytes);
+  const updates = [];
+  while (decoding.hasContent(decoder)) {
+    updates.push(['v1', decoding.readVarUint8Array(decoder)]);
+  }
+  return updates;
+}
+
+/** The updates for which the file of a word stands, each in its format. */
+function updatesOf(files, word) {
+  const at = word.indexOf(':');
+  const [kind, bytes] = [word.slice(0, at), bytesOf(files.get(word.slice(at + 1)))];
+  return kind === 'log' ? entriesOf(bytes) : [[kind, bytes]];
+}
+
 /** What Yjs makes of words, or null where it has no such call. */
 function answer({ files }, words) {
-  const read = (file) => [file.slice(0, 2), bytesOf(files.get(file.slice(3)))];
-  if (words.some((word) => word.startsWith('log:'))) {
-    return null;
-  }
+  const read = (from) => words.slice(from).flatMap((word) => updatesOf(files, word));
   if (words[0] === 'show' && words[1] === '--text') {
-    return shown(words[2], words.slice(3).map(read));
+    return shown(words[2], read(3));
   }
-  return words[0] === 'convert' ? converted(words[1], read(words[2])) : null;
+  if (words[0] === 'pack') {
+    return packed(read(1));
+  }
+  return words[0] === 'convert' ? converted(words[1], read(2)[0]) : null;
 }
 
 /** What Yjs makes of words, or what it throws, as bytes. */

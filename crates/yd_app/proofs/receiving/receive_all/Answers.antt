@@ -1,5 +1,6 @@
 use Rattle.yd_doc.specs.Kept.{received_of}
-use Rattle.yd_app.proofs.ReceivedLemmas.{received_next, valid_at}
+use Rattle.yd_v1.proofs.LogWrittenLemmas.{valid_at}
+use Rattle.yd_app.proofs.ReceivedLemmas.{received_next}
 use Rattle.yd_app.proofs.receiving.receive_all.Goals as goal
 
 pub apply-requires : goal.apply-requires
