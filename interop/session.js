@@ -15,9 +15,12 @@ const OPENED = {
 /** How an update of each format is applied. */
 const APPLIED = { v1: Y.applyUpdate, v2: Y.applyUpdateV2 };
 
-/** A new document with these roots, which are names with kinds. It collects nothing. */
-function newDocument(roots) {
-  const doc = new Y.Doc({ gc: false });
+/**
+ * A new document with these roots, which are names with kinds. Where it collects, it keeps nothing
+ * of what was deleted but how much that was.
+ */
+function newDocument(roots, gc = false) {
+  const doc = new Y.Doc({ gc });
   for (const [name, kind] of Object.entries(roots)) {
     OPENED[kind](doc, name);
   }
@@ -34,9 +37,10 @@ function isWaiting(doc) {
  * in both formats.
  */
 class Session {
-  constructor(name, roots, clients) {
-    this.name = name;
+  constructor(name, roots, clients, gc) {
+    this.name = gc ? `${name}-collected` : name;
     this.roots = roots;
+    this.gc = gc;
     this.chance = new Chance(name);
     /** What edits made, in the order of time: each is `{ name, v1, v2 }`. */
     this.updates = [];
@@ -46,7 +50,7 @@ class Session {
   }
 
   open(client) {
-    const doc = newDocument(this.roots);
+    const doc = newDocument(this.roots, this.gc);
     doc.clientID = client;
     let told = null;
     doc.on('update', (v1, _origin, _doc, { local }) => {

@@ -47,15 +47,15 @@ function anyEdit(chance, root = ROOT) {
 // ---- sessions of texts
 
 /** One document inserts once. */
-function oneString() {
-  const session = new Session('one-string', { [ROOT]: 'text' }, [1, 2]);
+function oneString(gc) {
+  const session = new Session('one-string', { [ROOT]: 'text' }, [1, 2], gc);
   session.edit(0, insert(0, `abc жук ${SMILE}`));
   return session.settled();
 }
 
 /** One document types, and another reads. */
-function typing() {
-  const session = new Session('typing', { [ROOT]: 'text' }, [1, 2]);
+function typing(gc) {
+  const session = new Session('typing', { [ROOT]: 'text' }, [1, 2], gc);
   for (const word of ['Each ', 'document ', 'tells ', 'what ', 'was ', 'typed', '.\n']) {
     session.edit(0, append(word));
   }
@@ -63,8 +63,8 @@ function typing() {
 }
 
 /** Three documents insert at the same place, again and again. */
-function samePlace() {
-  const session = new Session('same-place', { [ROOT]: 'text' }, [30, 10, 20]);
+function samePlace(gc) {
+  const session = new Session('same-place', { [ROOT]: 'text' }, [30, 10, 20], gc);
   for (const round of ['1', '2', '3', '4']) {
     session.edit(0, insert(0, `x${round}`));
     session.edit(1, insert(0, `y${round}`));
@@ -75,8 +75,8 @@ function samePlace() {
 }
 
 /** Two documents type letter by letter at the same place, one of them backwards. */
-function interleaving() {
-  const session = new Session('interleaving', { [ROOT]: 'text' }, [5, 4]);
+function interleaving(gc) {
+  const session = new Session('interleaving', { [ROOT]: 'text' }, [5, 4], gc);
   session.edit(0, insert(0, '[]'));
   session.settle();
   [...'forth'].forEach((letter, at) => {
@@ -87,8 +87,8 @@ function interleaving() {
 }
 
 /** Documents put words before and behind all others. */
-function endsOfText() {
-  const session = new Session('ends-of-text', { [ROOT]: 'text' }, [9, 300, 70000]);
+function endsOfText(gc) {
+  const session = new Session('ends-of-text', { [ROOT]: 'text' }, [9, 300, 70000], gc);
   for (const round of ['one ', 'two ', 'three ']) {
     session.edit(0, insert(0, round));
     session.edit(1, append(round));
@@ -101,8 +101,8 @@ function endsOfText() {
 }
 
 /** What one document wrote is deleted by others, in ranges that overlap. */
-function deletions() {
-  const session = new Session('deletions', { [ROOT]: 'text' }, [11, 12, 13]);
+function deletions(gc) {
+  const session = new Session('deletions', { [ROOT]: 'text' }, [11, 12, 13], gc);
   session.edit(0, insert(0, 'the first words '));
   session.edit(1, append('and some of another '));
   session.settle();
@@ -123,8 +123,8 @@ function deletions() {
 }
 
 /** Texts with pairs of units, which are inserted and deleted whole. */
-function pairs() {
-  const session = new Session('pairs', { [ROOT]: 'text' }, [21, 22]);
+function pairs(gc) {
+  const session = new Session('pairs', { [ROOT]: 'text' }, [21, 22], gc);
   session.edit(0, insert(0, `a${SMILE}b${SMILE}c`));
   session.settle();
   session.edit(0, insert(3, WAVE));
@@ -140,8 +140,8 @@ function pairs() {
  * Pairs that are parted: one half is deleted, or something is inserted between the halves. That
  * stays there: were it deleted, Yjs would go on showing two lone halves, and ydoc the pair.
  */
-function lonelyHalves() {
-  const session = new Session('lonely-halves', { [ROOT]: 'text' }, [31, 32]);
+function lonelyHalves(gc) {
+  const session = new Session('lonely-halves', { [ROOT]: 'text' }, [31, 32], gc);
   for (let at = 0; at < 6; at += 1) {
     session.edit(0, append(`${at}${SMILE}`));
   }
@@ -158,8 +158,8 @@ function lonelyHalves() {
 }
 
 /** Each document is brought only what the one before it in a ring has. */
-function partialSyncs() {
-  const session = new Session('partial-syncs', { [ROOT]: 'text' }, [103, 101, 104, 102]);
+function partialSyncs(gc) {
+  const session = new Session('partial-syncs', { [ROOT]: 'text' }, [103, 101, 104, 102], gc);
   for (let step = 0; step < 20; step += 1) {
     session.edit(step % 4, anyEdit(session.chance));
     if (step % 3 === 0) {
@@ -170,8 +170,8 @@ function partialSyncs() {
 }
 
 /** Updates are passed one by one; half of them are lost, and brought later in any order. */
-function lostUpdates() {
-  const session = new Session('lost-updates', { [ROOT]: 'text' }, [44, 43, 42]);
+function lostUpdates(gc) {
+  const session = new Session('lost-updates', { [ROOT]: 'text' }, [44, 43, 42], gc);
   const lost = [];
   for (let step = 0; step < 18; step += 1) {
     for (const update of session.edit(step % 3, anyEdit(session.chance))) {
@@ -189,9 +189,9 @@ function lostUpdates() {
 }
 
 /** Several texts in one document, one of which stays empty. */
-function severalRoots() {
+function severalRoots(gc) {
   const roots = { [ROOT]: 'text', 'naïve жук': 'text', [SMILE]: 'text', empty: 'text' };
-  const session = new Session('several-roots', roots, [51, 52, 53]);
+  const session = new Session('several-roots', roots, [51, 52, 53], gc);
   const edited = Object.keys(roots).filter((root) => root !== 'empty');
   for (let step = 0; step < 15; step += 1) {
     session.edit(step % 3, anyEdit(session.chance, session.chance.pick(edited)));
@@ -206,8 +206,8 @@ function severalRoots() {
 }
 
 /** Texts whose lengths take two and three bytes, of clients with the greatest numbers of Yjs. */
-function longTexts() {
-  const session = new Session('long-texts', { [ROOT]: 'text' }, [2 ** 32 - 1, 2 ** 31]);
+function longTexts(gc) {
+  const session = new Session('long-texts', { [ROOT]: 'text' }, [2 ** 32 - 1, 2 ** 31], gc);
   session.edit(0, insert(0, 'Many words of one paste. '.repeat(800)));
   session.edit(1, insert(0, `${SMILE} `.repeat(100)));
   session.settle();
@@ -218,9 +218,9 @@ function longTexts() {
 }
 
 /** Edits, syncs and single updates by chance, in so many documents. */
-function byChance(count) {
+function byChance(gc, count) {
   const clients = [61, 64, 62, 63].slice(0, count);
-  const session = new Session(`chance-of-${count}`, { [ROOT]: 'text' }, clients);
+  const session = new Session(`chance-of-${count}`, { [ROOT]: 'text' }, clients, gc);
   const { chance } = session;
   for (let step = 0; step < 16; step += 1) {
     const at = chance.below(count);
@@ -242,8 +242,8 @@ function byChance(count) {
 // ---- sessions with more kinds of content
 
 /** Marks and embeds in a text. */
-function formatting() {
-  const session = new Session('formatting', { [ROOT]: 'text' }, [71, 72]);
+function formatting(gc) {
+  const session = new Session('formatting', { [ROOT]: 'text' }, [71, 72], gc);
   const text = (at) => session.documents[at].getText(ROOT);
   session.edit(0, insert(0, 'plain and bold and more'));
   session.settle();
@@ -260,9 +260,9 @@ function formatting() {
 }
 
 /** Lists and maps, one in another, with values of each kind. */
-function listsAndMaps() {
+function listsAndMaps(gc) {
   const roots = { list: 'array', map: 'map', [ROOT]: 'text' };
-  const session = new Session('lists-and-maps', roots, [81, 82, 83]);
+  const session = new Session('lists-and-maps', roots, [81, 82, 83], gc);
   const list = (at) => session.documents[at].getArray('list');
   const map = (at) => session.documents[at].getMap('map');
   session.edit(0, () => list(0).insert(0, [1, -70, 2147483647, true, false, null, `x${SMILE}`]));
@@ -285,8 +285,8 @@ function listsAndMaps() {
 }
 
 /** A tree of elements, with attributes, a text and a hook. */
-function elements() {
-  const session = new Session('elements', { tree: 'fragment' }, [91, 92]);
+function elements(gc) {
+  const session = new Session('elements', { tree: 'fragment' }, [91, 92], gc);
   const tree = (at) => session.documents[at].getXmlFragment('tree');
   session.edit(0, () => tree(0).insert(0, [new Y.XmlElement('p'), new Y.XmlText('words')]));
   session.settle();
@@ -301,14 +301,40 @@ function elements() {
   return session.settled();
 }
 
-/** All sessions, made anew, and always the same. */
-function sessions() {
+/** Lists and texts in a list, which are deleted while others write into them. */
+function deletedTypes(gc) {
+  const roots = { list: 'array', [ROOT]: 'text' };
+  const session = new Session('deleted-types', roots, [95, 96, 97], gc);
+  const list = (at) => session.documents[at].getArray('list');
+  session.edit(0, () => list(0).insert(0, [Y.Array.from([1, 2, 3]), new Y.Text('words')]));
+  session.settle();
+  session.edit(0, () => list(0).delete(0, 1));
+  session.edit(1, () => list(1).get(0).push([4, Y.Array.from([5, 6])]));
+  session.edit(1, append('beside it'));
+  session.settle();
+  session.edit(2, () => list(2).get(0).insert(0, 'more '));
+  session.edit(0, () => list(0).delete(0, 1));
+  session.edit(1, () => list(1).insert(1, [new Y.Map([['key', new Y.Text('deep')]])]));
+  session.settle();
+  session.edit(2, remove(0, 4));
+  session.edit(1, () => list(1).delete(0, 1));
+  session.edit(0, insert(0, 'and in front '));
+  return session.settled();
+}
+
+/** All sessions of documents that collect, or of such that do not. */
+function sessionsWith(gc) {
   const ofTexts = [oneString, typing, samePlace, interleaving, endsOfText, deletions];
   const ofUnits = [pairs, lonelyHalves, longTexts];
   const ofSyncs = [partialSyncs, lostUpdates, severalRoots];
-  const ofContents = [formatting, listsAndMaps, elements];
-  const made = [...ofTexts, ...ofUnits, ...ofSyncs, ...ofContents].map((session) => session());
-  return [...made, ...[2, 3, 4].map(byChance)];
+  const ofContents = [formatting, listsAndMaps, elements, deletedTypes];
+  const made = [...ofTexts, ...ofUnits, ...ofSyncs, ...ofContents].map((session) => session(gc));
+  return [...made, ...[2, 3, 4].map((count) => byChance(gc, count))];
+}
+
+/** All sessions, made anew, and always the same: each with what is deleted kept, and collected. */
+function sessions() {
+  return [false, true].flatMap(sessionsWith);
 }
 
 module.exports = { sessions };
