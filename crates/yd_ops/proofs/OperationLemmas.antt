@@ -5,13 +5,17 @@ use Rattle.std.proofs.lemmas.List.{length-map}
 use Rattle.yd_any.specs.Tree.{AnyTrees, no_trees, tree}
 use Rattle.yd_ids.specs.declared.id.Id.{Id}
 use Rattle.yd_ops.specs.declared.lists.List.{List as DocList}
-use Rattle.yd_ops.specs.Value.{ContentValue, json, binary, string, embed, format, nested, any, count_of, len_of, RunValue}
-use Rattle.yd_ops.specs.Operation.{UnitContent, json_unit, text_unit, units_of_trees, units_of_content, later_id, operations_from, operations_of_run}
+use Rattle.yd_ops.specs.Value.{ContentValue, json, binary, string, embed, format, nested, any, deleted, count_of, len_of, RunValue}
+use Rattle.yd_ops.specs.Operation.{UnitContent, json_unit, text_unit, units_of_trees, deleted_units, units_of_content, later_id, operations_from, operations_of_run}
 use Rattle.yd_ops.specs.Law.{first_operation, later_operation}
 
 length-units_of_trees : (ts : AnyTrees) → length (units_of_trees ts) ≡ count_of ts
 length-units_of_trees no_trees = refl
 length-units_of_trees (tree t ts) = ap suc (length-units_of_trees ts)
+
+length-deleted_units : (count : ℕ) → length (deleted_units count) ≡ count
+length-deleted_units zero = refl
+length-deleted_units (suc count) = ap suc (length-deleted_units count)
 
 pub length-units_of_content : (content : ContentValue) → length (units_of_content content) ≡ len_of content
 length-units_of_content (json values) = length-map values json_unit
@@ -21,6 +25,7 @@ length-units_of_content (embed t) = refl
 length-units_of_content (format key t) = refl
 length-units_of_content (nested kind) = refl
 length-units_of_content (any ts) = length-units_of_trees ts
+length-units_of_content (deleted count) = length-deleted_units count
 
 pub length-operations_from : (id : Id) (left right : Option Id) (list : Option DocList) (units : List UnitContent) → length (operations_from id left right list units) ≡ length units
 length-operations_from id left right list [] = refl

@@ -9,7 +9,7 @@ use Rattle.yd_any.specs.AnyView.{items_trees}
 use Rattle.yd_any.specs.declared.any_value.Any.{Any}
 use Rattle.yd_any.specs.Valid.{is_valid_any, are_valid_any}
 use Rattle.yd_ids.specs.declared.id.Client.{Client}
-use Rattle.yd_ops.specs.Value.{StructValue, item, skip, len_of, count_of, BlockValue}
+use Rattle.yd_ops.specs.Value.{StructValue, item, skip, gone, len_of, count_of, BlockValue}
 use Rattle.yd_ops.specs.Valid.{AreValidTrees, HasValidContent, HasValidContents, AreStructsFrom, IsValidBlock}
 
 pub count_items : (vs : List Any) → count_of (items_trees vs) ≡ length vs
@@ -24,6 +24,7 @@ structs_contents : (client : Client) (clock : ℕ) (ss : List StructValue) → A
 structs_contents client clock [] v = tt
 structs_contents client clock (item run ∷ ss) v = (v.0.content, structs_contents client (clock + len_of run.content) ss v.2)
 structs_contents client clock (skip count ∷ ss) v = (tt, structs_contents client (clock + count) ss v.2)
+structs_contents client clock (gone count ∷ ss) v = (tt, structs_contents client (clock + count) ss v.2)
 
 -- the runs of valid blocks have valid contents
 pub blocks_contents : (blocks : List BlockValue) → Each IsValidBlock blocks → Each HasValidContents blocks

@@ -8,7 +8,7 @@ use Rattle.yd_ids.specs.Set.{AreMaximal}
 use Rattle.yd_ids.specs.declared.id.Client.{Client}
 use Rattle.yd_ids.specs.declared.id.Id.{Id}
 use Rattle.yd_units.specs.Half.{AreUnits, IsWhole}
-use Rattle.yd_ops.specs.Value.{ContentValue, json, binary, string, embed, format, nested, any, len_of, clocks_of, RunValue, StructValue, item, skip, BlockValue, UpdateValue}
+use Rattle.yd_ops.specs.Value.{ContentValue, json, binary, string, embed, format, nested, any, deleted, len_of, clocks_of, RunValue, StructValue, item, skip, gone, BlockValue, UpdateValue}
 use Rattle.yd_ops.specs.declared.lists.List.{List as DocList}
 use Rattle.yd_ops.specs.declared.lists.Parent.{Parent}
 use Rattle.yd_ops.specs.declared.lists.Parent.TheVariants.{Root, Item}
@@ -34,11 +34,13 @@ IsValidContent (embed t) = IsTrue (is_valid_json t)
 IsValidContent (format key t) = IsTrue (is_valid_json t)
 IsValidContent (nested kind) = Unit {0}
 IsValidContent (any ts) = AreValidTrees ts
+IsValidContent (deleted count) = Unit {0}
 
 -- a run of the struct has a valid content
 abbrev pub HasValidContent : StructValue → Type 0
 HasValidContent (item run) = IsValidContent run.content
 HasValidContent (skip count) = Unit {0}
+HasValidContent (gone count) = Unit {0}
 
 -- each run of the block has a valid content
 abbrev pub HasValidContents : BlockValue → Type 0
@@ -71,10 +73,11 @@ pub record IsRunAt (client : Client) (clock : ℕ) (run : RunValue) : Type 0 whe
 
 -- ---- updates
 
--- the struct is such a run, or leaves out at least one clock
+-- the struct is such a run, or leaves out at least one clock, or has at least one unit that is gone
 abbrev pub IsStructAt : Client → ℕ → StructValue → Type 0
 IsStructAt client clock (item run) = IsRunAt client clock run
 IsStructAt client clock (skip count) = 0 < count
+IsStructAt client clock (gone count) = 0 < count
 
 -- each struct begins where the one before ends, and ends at a clock
 abbrev pub AreStructsFrom : Client → ℕ → List StructValue → Type 0

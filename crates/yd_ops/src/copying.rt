@@ -72,6 +72,7 @@ impl Struct {
         match self {
             Struct::Item(run) => Ok(Struct::Item(run.copy()?)),
             Struct::Skip(count) => Ok(Struct::Skip(*count)),
+            Struct::Gone(count) => Ok(Struct::Gone(*count)),
         }
     }
 }
@@ -111,6 +112,7 @@ impl Content {
             }),
             Content::Nested(kind) => Ok(Content::Nested(kind.copy()?)),
             Content::Any(values) => Ok(Content::Any(values.copy()?)),
+            Content::Deleted(count) => Ok(Content::Deleted(*count)),
         }
     }
 }

@@ -80,6 +80,7 @@ fn is_struct_at(entry: &Struct, client: Client, clock: u64) -> bool
     match entry {
         Struct::Item(run) => is_run_at(run, client, clock),
         Struct::Skip(count) => *count > 0,
+        Struct::Gone(count) => *count > 0,
     }
 }
 
@@ -139,7 +140,7 @@ impl Content {
             Content::Embed(value) => value.is_valid(),
             Content::Format { value, .. } => value.is_valid(),
             Content::Any(values) => are_values(values.as_slice()),
-            Content::Binary(_) | Content::Nested(_) => true,
+            Content::Binary(_) | Content::Nested(_) | Content::Deleted(_) => true,
         }
     }
 }
