@@ -16,8 +16,6 @@ pub enum Cause {
     BadInfo,
     /// A struct is a subdocument, which is left out.
     Subdocument,
-    /// A struct is collected or deleted, which is not read yet.
-    Collected,
     /// A type's number is past 6.
     BadType,
     /// An any-value has a tag that lib0 does not have.
