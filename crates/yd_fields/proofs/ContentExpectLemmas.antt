@@ -20,7 +20,7 @@ use Rattle.yd_fields.specs.Field.{Field}
 use Rattle.yd_fields.specs.Field as field
 use Rattle.yd_fields.specs.JsonPlan.{made_at, unit_at, value_at}
 use Rattle.yd_parts.specs.Plan.{give, and_then, Expects, repeated}
-use Rattle.yd_fields.specs.StructPlan.{content_plan, kind_plan, nested_plan, unit_step, units_plan, value_step, values_plan}
+use Rattle.yd_fields.specs.StructPlan.{content_plan, deleted_plan, kind_plan, nested_plan, unit_step, units_plan, value_step, values_plan}
 use Rattle.yd_fields.specs.UpdateFields.{field_of_unit, fields_of_content, fields_of_kind, fields_of_trees, text_of_unit}
 use Rattle.yd_parts.specs.declared.fault.Spot.{Spot}
 use Rattle.yd_parts.proofs.ExpectLemmas.{count_some, expects_last, expects_made, expects_none, expects_step}
@@ -102,7 +102,7 @@ text_some units (byte ∷ text) back some = grind (arith, nat_tests)
 
 -- the fields of a content are what its plan wants
 pub content_expects : (content : ops.ContentValue) (begin : Spot) → IsValidContent content → 0 < ops.len_of content → Expects (content_plan (kind_of_content content) begin) (fields_of_content content) content
-unfolding content_plan units_plan values_plan nested_plan
+unfolding content_plan deleted_plan units_plan values_plan nested_plan
 content_expects (ops.json units) begin valid some = (
   length units,
   refl,
@@ -122,3 +122,4 @@ content_expects (ops.any ts) begin valid some = (
   λ spot. rw (count_some (ops.count_of ts) some)
       (expects_last (repeated value_step (ops.count_of ts) no_trees) (λ found. give (ops.any found)) (fields_of_trees ts) ts (ops.any ts) (values_expect no_trees ts) refl),
 )
+content_expects (ops.deleted count) begin valid some = (count, refl, λ spot. rw (count_some count some) refl)

@@ -7,7 +7,7 @@ use Rattle.yd_ops.specs.declared.lists.List.{List as DocList}
 use Rattle.yd_fields.specs.StructPlan.{has_key, has_left, has_right, kind_of_info}
 use Rattle.yd_fields.specs.UpdateFields.{given_bit, info_of_run, key_bit, kind_bits, origin_bit}
 use Rattle.yd_fields.specs.declared.info.ContentKind.{ContentKind}
-use Rattle.yd_fields.specs.declared.info.ContentKind.TheVariants.{Json, Binary, Str, Embed, Format, Nested, Any}
+use Rattle.yd_fields.specs.declared.info.ContentKind.TheVariants.{Deleted, Json, Binary, Str, Embed, Format, Nested, Any}
 use Rattle.yd_fields.specs.declared.info.StructKind.TheVariants.{Item}
 
 -- the kind of a content
@@ -19,6 +19,7 @@ kind_of_content (ops.embed t) = Embed
 kind_of_content (ops.format key t) = Format
 kind_of_content (ops.nested kind) = Nested
 kind_of_content (ops.any ts) = Any
+kind_of_content (ops.deleted count) = Deleted
 
 -- ---- bits
 
@@ -54,6 +55,7 @@ kind_is_low (ops.embed t) = omega arith
 kind_is_low (ops.format key t) = omega arith
 kind_is_low (ops.nested kind) = omega arith
 kind_is_low (ops.any ts) = omega arith
+kind_is_low (ops.deleted count) = omega arith
 
 -- the kind by the low five bits of a content
 kind_by_low : (content : ops.ContentValue) (info : ℕ) → info % 32 ≡ kind_bits content → kind_of_info info ≡ Item (kind_of_content content)
@@ -64,6 +66,7 @@ kind_by_low (ops.embed t) info low = rw low refl
 kind_by_low (ops.format key t) info low = rw low refl
 kind_by_low (ops.nested kind) info low = rw low refl
 kind_by_low (ops.any ts) info low = rw low refl
+kind_by_low (ops.deleted count) info low = rw low refl
 
 -- the highest bit tells whether a left origin is there
 left_by_bits : (low key right : ℕ) (left : Option Id) → low < 32 → IsBit 32 key → IsBit 64 right → has_left (low + key + right + origin_bit 128 left) ≡ is_some left

@@ -1,5 +1,5 @@
 -- An update that is read under a limit has at most so many structs in all its blocks.
-use Rattle.std.proofs.Common.{◌≡◌, ◌+◌, ◌-◌, ◌++◌, ◌≤◌, [], ◌∷◌, ℕ, zero, suc, Bool, true, false, List, Option, Some, None, length, nat_le, if◌then◌else◌, refl, ap, subst, arith}
+use Rattle.std.proofs.Common.{◌≡◌, ◌+◌, ◌-◌, ◌++◌, ◌≤◌, [], ◌∷◌, ℕ, zero, suc, Bool, true, false, List, Option, Some, None, length, if◌then◌else◌, refl, ap, subst, arith}
 use Rattle.std.proofs.lemmas.Bool.Decides.{nat_tests}
 use Rattle.yd_ids.specs.declared.id.Client.{Client}
 use Rattle.yd_ops.specs.Value as ops

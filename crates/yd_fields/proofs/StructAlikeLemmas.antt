@@ -15,12 +15,12 @@ use Rattle.yd_fields.specs.Field.{FieldType, FieldValue}
 use Rattle.yd_fields.specs.Field as field
 use Rattle.yd_fields.specs.JsonPlan.{made_at}
 use Rattle.yd_parts.specs.Plan.{and_then, of_made}
-use Rattle.yd_fields.specs.StructPlan.{carried_plan, content_plan, ended_plan, has_key, has_left, has_right, item_plan, kind_of_info, kind_plan, kinded_plan, list_plan, nested_plan, numbered_plan, optional_plan, parent_plan, skip_plan, struct_plan, type_plan, unit_step, units_plan, value_step, values_plan}
+use Rattle.yd_fields.specs.StructPlan.{carried_plan, clocks_plan, content_plan, deleted_plan, ended_plan, gone_plan, has_key, has_left, has_right, item_plan, kind_of_info, kind_plan, kinded_plan, list_plan, nested_plan, numbered_plan, optional_plan, parent_plan, skip_plan, struct_plan, type_plan, unit_step, units_plan, value_step, values_plan}
 use Rattle.yd_fields.specs.TypeNumber.{kind_of_number}
 use Rattle.yd_fields.specs.declared.info.ContentKind.{ContentKind}
-use Rattle.yd_fields.specs.declared.info.ContentKind.TheVariants.{Json, Binary, Str, Embed, Format, Nested, Any}
+use Rattle.yd_fields.specs.declared.info.ContentKind.TheVariants.{Deleted, Json, Binary, Str, Embed, Format, Nested, Any}
 use Rattle.yd_fields.specs.declared.info.StructKind.{StructKind}
-use Rattle.yd_fields.specs.declared.info.StructKind.TheVariants.{Collected, Item, Subdocument, Skip, Unknown}
+use Rattle.yd_fields.specs.declared.info.StructKind.TheVariants.{Gone, Item, Subdocument, Skip, Unknown}
 use Rattle.yd_fields.specs.declared.kinds.TypeKind.{TypeKind}
 use Rattle.yd_fields.specs.declared.kinds.TypeKind.TheVariants as types
 use Rattle.yd_parts.specs.declared.fault.Spot.{Spot}
@@ -88,6 +88,11 @@ nested_alike : AreAlike nested_plan nested_plan
 unfolding nested_plan kind_plan
 nested_alike = alike_bind (alike_want (λ n spot place. numbered_alike spot place (kind_of_number n))) (λ kind. alike_give (ops.nested kind))
 
+-- deleted units
+deleted_alike : (begin other : Spot) → AreAlike (deleted_plan begin) (deleted_plan other)
+unfolding deleted_plan
+deleted_alike begin other = alike_want (λ count spot place. alike_if (nat_eq count 0) alike_refuse (alike_give (ops.deleted count)))
+
 -- JSON units
 units_alike : (begin other : Spot) → AreAlike (units_plan begin) (units_plan other)
 unfolding units_plan
@@ -101,6 +106,7 @@ values_alike begin other = alike_want (λ count spot place. alike_if (nat_eq cou
 -- a content of each kind
 content_alike : (kind : ContentKind) (begin other : Spot) → AreAlike (content_plan kind begin) (content_plan kind other)
 unfolding content_plan
+content_alike Deleted begin other = deleted_alike begin other
 content_alike Json begin other = units_alike begin other
 content_alike Binary begin other = alike_want (λ bytes spot place. alike_give (ops.binary bytes))
 content_alike Str begin other = alike_want (λ text spot place. alike_if (nat_eq (length text) 0) alike_refuse (alike_give (ops.string (units_of text))))
@@ -125,15 +131,24 @@ item_alike client clock info begin other kind =
     alike_bind (content_alike kind begin other) (λ content.
     ended_alike clock begin other (ops.item (record { id = record { client = client; clock = clock }; left = left; right = right; list = list; content = content }))))))
 
+-- a number of clocks
+clocks_alike : (clock : ℕ) (begin other : Spot) (s : ops.StructValue) → AreAlike (clocks_plan clock begin s) (clocks_plan clock other s)
+clocks_alike clock begin other s = alike_if (nat_eq (ops.clocks_of s) 0) alike_refuse (ended_alike clock begin other s)
+
 -- a skip
 skip_alike : (clock : ℕ) (begin other : Spot) → AreAlike (skip_plan clock begin) (skip_plan clock other)
 unfolding skip_plan
-skip_alike clock begin other = alike_want (λ count spot place. alike_if (nat_eq count 0) alike_refuse (ended_alike clock begin other (ops.skip count)))
+skip_alike clock begin other = alike_want (λ count spot place. clocks_alike clock begin other (ops.skip count))
+
+-- a gone run
+gone_alike : (clock : ℕ) (begin other : Spot) → AreAlike (gone_plan clock begin) (gone_plan clock other)
+unfolding gone_plan
+gone_alike clock begin other = alike_want (λ count spot place. clocks_alike clock begin other (ops.gone count))
 
 -- a struct of each kind
 kinded_alike : (client : Client) (clock info : ℕ) (begin other : Spot) (kind : StructKind) → AreAlike (kinded_plan client clock info begin kind) (kinded_plan client clock info other kind)
 unfolding kinded_plan
-kinded_alike client clock info begin other Collected = alike_refuse
+kinded_alike client clock info begin other Gone = gone_alike clock begin other
 kinded_alike client clock info begin other (Item kind) = item_alike client clock info begin other kind
 kinded_alike client clock info begin other Subdocument = alike_refuse
 kinded_alike client clock info begin other Skip = skip_alike clock begin other

@@ -1,5 +1,5 @@
 -- The fields of a struct are what its plan wants.
-use Rattle.std.proofs.Common.{◌≡◌, ◌+◌, ◌^◌, ◌++◌, [], ℕ, true, nat_lt, refl, sym, ap}
+use Rattle.std.proofs.Common.{◌≡◌, ◌+◌, ◌^◌, ◌++◌, ◌<◌, [], ℕ, true, nat_lt, refl, sym, ap}
 use Rattle.std.specs.Option.{is_some}
 use Rattle.std.proofs.lemmas.Bool.{lt-ltb}
 use Rattle.yd_ids.specs.Id.{IsClock}
@@ -8,7 +8,7 @@ use Rattle.yd_ops.specs.Value as ops
 use Rattle.yd_ops.specs.Valid.{IsRunAt, IsStructAt}
 use Rattle.yd_fields.specs.Field as field
 use Rattle.yd_parts.specs.Plan.{Expects, ◌>>=◌}
-use Rattle.yd_fields.specs.StructPlan.{carried_plan, content_plan, ended_plan, has_key, has_left, has_right, item_plan, kinded_plan, optional_plan, skip_plan, struct_plan}
+use Rattle.yd_fields.specs.StructPlan.{carried_plan, clocks_plan, content_plan, ended_plan, gone_plan, has_key, has_left, has_right, item_plan, kinded_plan, optional_plan, skip_plan, struct_plan}
 use Rattle.yd_fields.specs.UpdateFields.{fields_of_content, fields_of_left, fields_of_list, fields_of_right, fields_of_struct, info_of_run}
 use Rattle.yd_parts.specs.declared.fault.Spot.{Spot}
 use Rattle.yd_fields.proofs.ContentExpectLemmas.{content_expects}
@@ -21,6 +21,10 @@ ended_expects : (clock : ℕ) (begin : Spot) (s other : ops.StructValue) → IsC
 ended_expects clock begin s other ends same =
     let within : nat_lt (clock + ops.clocks_of s) (2 ^ 53) ≡ true = lt-ltb (clock + ops.clocks_of s) (2 ^ 53) ends in
     rw within same
+
+-- a struct that is a number of clocks alone
+clocks_expect : (clock : ℕ) (begin : Spot) (s : ops.StructValue) → 0 < ops.clocks_of s → IsClock (clock + ops.clocks_of s) → Expects (clocks_plan clock begin s) [] s
+clocks_expect clock begin s some ends = rw (count_some (ops.clocks_of s) some) (ended_expects clock begin s s ends refl)
 
 -- the content of an item, which is its last field
 item_content_expects : (client : Client) (clock : ℕ) (begin : Spot) (run : ops.RunValue) → IsRunAt client clock run → IsClock (clock + ops.len_of run.content) →
@@ -46,11 +50,12 @@ item_expects client clock info begin run is ends left right key =
 
 -- the fields of a struct are what its plan wants
 pub struct_expects : (client : Client) (clock : ℕ) (s : ops.StructValue) → IsStructAt client clock s → IsClock (clock + ops.clocks_of s) → Expects (struct_plan client clock) (fields_of_struct s) s
-unfolding struct_plan kinded_plan skip_plan
+unfolding struct_plan kinded_plan skip_plan gone_plan
 struct_expects client clock (ops.item run) is ends = (
   info_of_run run,
   refl,
   λ begin. rw (kind_of_info-run run)
       (item_expects client clock (info_of_run run) begin run is ends (has_left-info run) (has_right-info run) (has_key-info run)),
 )
-struct_expects client clock (ops.skip count) is ends = (10, refl, λ begin. (count, refl, λ spot. rw (count_some count is) (ended_expects clock begin (ops.skip count) (ops.skip count) ends refl)))
+struct_expects client clock (ops.skip count) is ends = (10, refl, λ begin. (count, refl, λ spot. clocks_expect clock begin (ops.skip count) is ends))
+struct_expects client clock (ops.gone count) is ends = (0, refl, λ begin. (count, refl, λ spot. clocks_expect clock begin (ops.gone count) is ends))

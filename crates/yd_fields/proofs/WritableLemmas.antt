@@ -9,7 +9,7 @@ use Rattle.yd_ids.specs.declared.id.Client.{Client}
 use Rattle.yd_ids.specs.declared.id.Id.{Id}
 use Rattle.yd_ops.specs.declared.lists.List.{List as DocList}
 use Rattle.yd_ops.specs.Valid.{AreStructsFrom, AreValidTrees, CarriesList}
-use Rattle.yd_ops.specs.Value.{StructValue, item, skip, clocks_of}
+use Rattle.yd_ops.specs.Value.{StructValue, item, skip, gone, clocks_of}
 use Rattle.yd_fields.specs.Writes.{IsWritableList, IsWritableStruct}
 
 -- ---- items of lists
@@ -46,7 +46,8 @@ list_is_writable (Some left) right (Some list) carries = absurd carries
 pub structs_are_writable : (structs : List StructValue) (client : Client) (clock : ℕ) → AreStructsFrom client clock structs → Each IsWritableStruct structs
 structs_are_writable [] client clock all = tt
 structs_are_writable (item run ∷ structs) client clock all = (
-  record { left = all.0.left; right = all.0.right; list = list_is_writable run.left run.right run.list all.0.list; content = all.0.content },
+  record { left = all.0.left; right = all.0.right; list = list_is_writable run.left run.right run.list all.0.list; content = record { valid = all.0.content; in_range = omega arith } },
   structs_are_writable structs client (clock + clocks_of (item run)) all.2,
 )
 structs_are_writable (skip count ∷ structs) client clock all = (omega arith, structs_are_writable structs client (clock + clocks_of (skip count)) all.2)
+structs_are_writable (gone count ∷ structs) client clock all = (omega arith, structs_are_writable structs client (clock + clocks_of (gone count)) all.2)

@@ -17,19 +17,20 @@ use Rattle.yd_parts.specs.Plan.{give, refuse, want, of_made, ◌>>=◌, repeated
 use Rattle.yd_parts.specs.declared.fault.Cause.TheVariants as causes
 use Rattle.yd_parts.specs.declared.fault.Spot.{Spot}
 use Rattle.yd_fields.specs.declared.info.ContentKind.{ContentKind}
-use Rattle.yd_fields.specs.declared.info.ContentKind.TheVariants.{Json, Binary, Str, Embed, Format, Nested, Any}
+use Rattle.yd_fields.specs.declared.info.ContentKind.TheVariants.{Deleted, Json, Binary, Str, Embed, Format, Nested, Any}
 use Rattle.yd_fields.specs.TypeNumber.{kind_of_number}
 use Rattle.yd_fields.specs.declared.kinds.TypeKind.{TypeKind}
 use Rattle.yd_fields.specs.declared.kinds.TypeKind.TheVariants as types
 use Rattle.yd_fields.specs.declared.info.StructKind.{StructKind}
-use Rattle.yd_fields.specs.declared.info.StructKind.TheVariants.{Collected, Item, Subdocument, Skip, Unknown}
+use Rattle.yd_fields.specs.declared.info.StructKind.TheVariants.{Gone, Item, Subdocument, Skip, Unknown}
 
 -- ---- the info byte
 
 -- the kind of a struct, by the low five bits of its info byte
 abbrev pub kind_of_info : ℕ → StructKind
 kind_of_info info =
-    if nat_lt (info % 32) 2 then Collected
+    if nat_eq (info % 32) 0 then Gone
+    else if nat_eq (info % 32) 1 then Item Deleted
     else if nat_eq (info % 32) 2 then Item Json
     else if nat_eq (info % 32) 3 then Item Binary
     else if nat_eq (info % 32) 4 then Item Str
@@ -108,6 +109,10 @@ numbered_plan spot (Some kind) = type_plan kind
 unfoldable pub kind_plan : FieldPlan Kind
 kind_plan = want field.kind (λ n spot. numbered_plan spot (kind_of_number n))
 
+-- so many deleted units; none at all is refused where the struct began
+unfoldable pub deleted_plan : Spot → FieldPlan ops.ContentValue
+deleted_plan begin = want field.len (λ count spot. if nat_eq count 0 then refuse causes.EmptyStruct begin else give (ops.deleted count))
+
 -- so many JSON units; none at all is refused where the struct began
 unfoldable pub units_plan : Spot → FieldPlan ops.ContentValue
 units_plan begin = want field.len (λ count spot. if nat_eq count 0 then refuse causes.EmptyStruct begin else (do
@@ -128,6 +133,7 @@ nested_plan = do
 
 -- the content of an item; one without units is refused where the struct began
 unfoldable pub content_plan : ContentKind → Spot → FieldPlan ops.ContentValue
+content_plan Deleted begin = deleted_plan begin
 content_plan Json begin = units_plan begin
 content_plan Binary begin = want field.blob (λ bytes spot. give (ops.binary bytes))
 content_plan Str begin = want field.string (λ text spot. if nat_eq (length text) 0 then refuse causes.EmptyStruct begin else give (ops.string (units_of text)))
@@ -151,13 +157,21 @@ item_plan client clock info begin kind = do
   content ← content_plan kind begin
   ended_plan clock begin (ops.item (record { id = record { client = client; clock = clock }; left = left; right = right; list = list; content = content }))
 
+-- a struct that is a number of clocks alone; one of none is refused where it began
+abbrev pub clocks_plan : ℕ → Spot → ops.StructValue → FieldPlan ops.StructValue
+clocks_plan clock begin s = if nat_eq (ops.clocks_of s) 0 then refuse causes.EmptyStruct begin else ended_plan clock begin s
+
 -- a skip behind its info byte: how many clocks it leaves out
 unfoldable pub skip_plan : ℕ → Spot → FieldPlan ops.StructValue
-skip_plan clock begin = want field.number (λ count spot. if nat_eq count 0 then refuse causes.EmptyStruct begin else ended_plan clock begin (ops.skip count))
+skip_plan clock begin = want field.number (λ count spot. clocks_plan clock begin (ops.skip count))
+
+-- a gone run behind its info byte: how many units it has, as a length
+unfoldable pub gone_plan : ℕ → Spot → FieldPlan ops.StructValue
+gone_plan clock begin = want field.len (λ count spot. clocks_plan clock begin (ops.gone count))
 
 -- a struct of each kind behind its info byte
 unfoldable pub kinded_plan : Client → ℕ → ℕ → Spot → StructKind → FieldPlan ops.StructValue
-kinded_plan client clock info begin Collected = refuse causes.Collected begin
+kinded_plan client clock info begin Gone = gone_plan clock begin
 kinded_plan client clock info begin (Item kind) = item_plan client clock info begin kind
 kinded_plan client clock info begin Subdocument = refuse causes.Subdocument begin
 kinded_plan client clock info begin Skip = skip_plan clock begin

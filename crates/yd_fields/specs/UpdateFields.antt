@@ -50,6 +50,7 @@ fields_of_content (ops.embed t) = (field.json, t) ∷ []
 fields_of_content (ops.format key t) = (field.key, key) ∷ (field.json, t) ∷ []
 fields_of_content (ops.nested kind) = fields_of_kind kind
 fields_of_content (ops.any ts) = (field.len, ops.count_of ts) ∷ fields_of_trees ts
+fields_of_content (ops.deleted count) = (field.len, count) ∷ []
 
 -- ---- structs
 
@@ -62,6 +63,7 @@ kind_bits (ops.embed t) = 5
 kind_bits (ops.format key t) = 6
 kind_bits (ops.nested kind) = 7
 kind_bits (ops.any ts) = 8
+kind_bits (ops.deleted count) = 1
 
 -- the bit of an origin that is there
 abbrev pub origin_bit : ℕ → Option Id → ℕ
@@ -111,6 +113,7 @@ fields_of_list (Some list) = fields_of_parent list.parent ++ fields_of_key list.
 abbrev pub fields_of_struct : ops.StructValue → List Field
 fields_of_struct (ops.item run) = (field.info, info_of_run run) ∷ (fields_of_left run.left ++ (fields_of_right run.right ++ (fields_of_list run.list ++ fields_of_content run.content)))
 fields_of_struct (ops.skip count) = (field.info, 10) ∷ (field.number, count) ∷ []
+fields_of_struct (ops.gone count) = (field.info, 0) ∷ (field.len, count) ∷ []
 
 -- structs, one after another
 abbrev pub fields_of_structs : List ops.StructValue → List Field

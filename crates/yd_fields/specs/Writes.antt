@@ -4,7 +4,7 @@ use Rattle.yd_words.specs.Each.{Each}
 use Rattle.yd_ids.specs.Id.{IsId}
 use Rattle.yd_ids.specs.declared.id.Span.{Span}
 use Rattle.yd_ops.specs.Valid.{IsParent, IsValidContent}
-use Rattle.yd_ops.specs.Value.{RunValue, StructValue, item, skip}
+use Rattle.yd_ops.specs.Value.{ContentValue, RunValue, StructValue, item, skip, gone, len_of}
 use Rattle.yd_ops.specs.declared.lists.List.{List as DocList}
 use Rattle.yd_fields.specs.Field.{Field}
 use Rattle.yd_fields.specs.UpdateFields.{groups_of}
@@ -27,17 +27,23 @@ pub record Writes {W : Type 0} (put : Field → W → W) (is_spelled : Field →
 abbrev pub IsWritableList : Option DocList → Type 0
 IsWritableList list = IfSome list (λ found. IsParent found.parent)
 
--- the run has origins and a parent in range, and a valid content
+-- the content is valid, and the number of its units is in range
+pub record IsWritableContent (content : ContentValue) : Type 0 where
+  pub valid : IsValidContent content
+  pub in_range : len_of content < 2 ^ 53
+
+-- the run has origins and a parent in range, and such a content
 pub record IsWritableRun (run : RunValue) : Type 0 where
   pub left : IfSome run.left IsId
   pub right : IfSome run.right IsId
   pub list : IsWritableList run.list
-  pub content : IsValidContent run.content
+  pub content : IsWritableContent run.content
 
--- the struct is such a run, or leaves out a number of clocks that is in range
+-- the struct is such a run, or leaves out a number of clocks that is in range, or so many units are gone
 abbrev pub IsWritableStruct : StructValue → Type 0
 IsWritableStruct (item run) = IsWritableRun run
 IsWritableStruct (skip count) = count < 2 ^ 53
+IsWritableStruct (gone count) = count < 2 ^ 53
 
 -- ranges of a client, none empty, each from this clock on and behind the one before, and up to a clock
 abbrev pub AreRangesFrom : ℕ → List Span → Type 0

@@ -3,14 +3,14 @@
 ghost use Rattle.std.specs.Prelude.{[], ◌∷◌, map, OnOk};
 ghost use Rattle.yd_words.specs.Each.{Each};
 ghost use Rattle.yd_any.specs.AnyView.{any_trees, items_trees};
-ghost use Rattle.yd_ops.specs.Valid.{AreValidTrees, IsValidContent, IsValidUnit};
+ghost use Rattle.yd_ops.specs.Valid.{AreValidTrees, IsValidUnit};
 ghost use Rattle.yd_ops.specs.Value.{any};
 ghost use Rattle.yd_ops.specs.View.{content_value, unit_value};
 ghost use Rattle.yd_units.specs.Text.{text_of};
 ghost use Rattle.yd_fields.specs.Field as field;
 ghost use Rattle.yd_fields.specs.TypeNumber.{number_of_kind};
 ghost use Rattle.yd_fields.specs.UpdateFields.{field_of_unit, fields_of_content, fields_of_kind, fields_of_trees};
-ghost use Rattle.yd_fields.specs.Writes.{Writes};
+ghost use Rattle.yd_fields.specs.Writes.{IsWritableContent, Writes};
 
 use crate::kinds::{TypeKind, number_of_kind};
 use crate::writer::FieldWriter;
@@ -26,7 +26,7 @@ pub fn write_content<W: FieldWriter>(
     content: &Content,
     writer: &mut W,
 ) -> Result<(), NoMemory>
-    requires { IsValidContent (content_value content.now) }
+    requires { IsWritableContent (content_value content.now) }
     ensures { OnOk result (Writes W.with_field W.is_spelled
         (fields_of_content (content_value content.now)) writer.old writer.new) }
 {
@@ -54,6 +54,10 @@ pub fn write_content<W: FieldWriter>(
         }
         Content::Nested(kind) => write_kind(kind, writer),
         Content::Any(values) => write_values(values, writer),
+        Content::Deleted(count) => {
+            writer.put_length(*count)?;
+            Ok(())
+        }
     }
 }
 

@@ -4,11 +4,13 @@ ghost use Rattle.std.specs.Prelude.{◌≡◌};
 ghost use Rattle.yd_fields.specs.StructPlan.{kind_of_info, has_left, has_right, has_key};
 
 // What a struct is, in the low five bits of its info byte (Yjs 13, contentRefs).
-const KIND_COLLECTED: u8 = 0;
-
-const KIND_DELETED: u8 = 1;
-
 const KIND_SUBDOCUMENT: u8 = 9;
+
+/// The bits of a gone run, which are its whole info byte.
+pub const KIND_GONE: u8 = 0;
+
+/// The bits of a deleted run.
+pub const KIND_DELETED: u8 = 1;
 
 /// The bits of JSON units.
 pub const KIND_JSON: u8 = 2;
@@ -46,6 +48,7 @@ pub const LEFT_BIT: u8 = 128;
 /// What an item holds.
 #[derive(Clone, Copy, Debug, PartialEq, Eq)]
 pub enum ContentKind {
+    Deleted,
     Json,
     Binary,
     Str,
@@ -58,7 +61,7 @@ pub enum ContentKind {
 /// What a struct is, by the low five bits of its info byte (Yjs 13, contentRefs).
 #[derive(Clone, Copy, Debug, PartialEq, Eq)]
 pub enum StructKind {
-    Collected,
+    Gone,
     Item(ContentKind),
     Subdocument,
     Skip,
@@ -70,7 +73,8 @@ pub fn kind_of_info(info: u8) -> StructKind
     ensures { result ≡ kind_of_info info }
 {
     match info % KEY_BIT {
-        KIND_COLLECTED | KIND_DELETED => StructKind::Collected,
+        KIND_GONE => StructKind::Gone,
+        KIND_DELETED => StructKind::Item(ContentKind::Deleted),
         KIND_JSON => StructKind::Item(ContentKind::Json),
         KIND_BINARY => StructKind::Item(ContentKind::Binary),
         KIND_STRING => StructKind::Item(ContentKind::Str),

@@ -2,7 +2,7 @@
 
 ghost use Rattle.std.specs.Prelude.{◌≡◌, ◌<◌, ◌≤◌, ◌^◌, map, OnOk};
 ghost use Rattle.yd_words.specs.Each.{Each};
-ghost use Rattle.yd_ops.specs.Value.{item, skip};
+ghost use Rattle.yd_ops.specs.Value.{item, skip, gone};
 ghost use Rattle.yd_ops.specs.View.{content_value, run_value, struct_value};
 ghost use Rattle.yd_fields.specs.UpdateFields.{fields_of_struct, fields_of_structs};
 ghost use Rattle.yd_fields.specs.UpdateFields.{given_bit, info_of_run, key_bit, kind_bits, origin_bit};
@@ -10,8 +10,8 @@ ghost use Rattle.yd_fields.specs.Writes.{IsWritableRun, IsWritableStruct, Writes
 
 use crate::content_writing::write_content;
 use crate::info::{
-    KEY_BIT, KIND_ANY, KIND_BINARY, KIND_EMBED, KIND_FORMAT, KIND_JSON, KIND_NESTED, KIND_SKIP,
-    KIND_STRING, LEFT_BIT, RIGHT_BIT,
+    KEY_BIT, KIND_ANY, KIND_BINARY, KIND_DELETED, KIND_EMBED, KIND_FORMAT, KIND_GONE, KIND_JSON,
+    KIND_NESTED, KIND_SKIP, KIND_STRING, LEFT_BIT, RIGHT_BIT,
 };
 use crate::list_writing::{write_left, write_list, write_right};
 use crate::writer::FieldWriter;
@@ -49,6 +49,7 @@ fn write_struct<W: FieldWriter>(
     match entry {
         Struct::Item(run) => write_run(alloc, run, writer),
         Struct::Skip(count) => write_skip(*count, writer),
+        Struct::Gone(count) => write_gone(*count, writer),
     }
 }
 
@@ -59,6 +60,16 @@ fn write_skip<W: FieldWriter>(count: u64, writer: &mut W) -> Result<(), NoMemory
 {
     writer.put_info(KIND_SKIP)?;
     writer.put_number(count)?;
+    Ok(())
+}
+
+fn write_gone<W: FieldWriter>(count: u64, writer: &mut W) -> Result<(), NoMemory>
+    requires { count < 2 ^ 53 }
+    ensures { OnOk result (Writes W.with_field W.is_spelled
+        (fields_of_struct (gone count)) writer.old writer.new) }
+{
+    writer.put_info(KIND_GONE)?;
+    writer.put_length(count)?;
     Ok(())
 }
 
@@ -96,6 +107,7 @@ fn kind_bits(content: &Content) -> u8
         Content::Format { .. } => KIND_FORMAT,
         Content::Nested(_) => KIND_NESTED,
         Content::Any(_) => KIND_ANY,
+        Content::Deleted(_) => KIND_DELETED,
     }
 }
 
