@@ -17,13 +17,13 @@ use Rattle.yd_fields.specs.Field.{FieldType, FieldValue, FieldPlan, Fits}
 use Rattle.yd_fields.specs.Field as field
 use Rattle.yd_fields.specs.JsonPlan.{unit_at}
 use Rattle.yd_parts.specs.Plan.{give, refuse, want, of_made, ◌>>=◌, repeated}
-use Rattle.yd_fields.specs.StructPlan.{carried_plan, content_plan, ended_plan, has_key, has_left, has_right, item_plan, kind_of_info, kind_plan, kinded_plan, list_plan, nested_plan, optional_plan, parent_plan, skip_plan, struct_plan, unit_step, units_plan, value_step, values_plan}
+use Rattle.yd_fields.specs.StructPlan.{carried_plan, clocks_plan, content_plan, deleted_plan, ended_plan, gone_plan, has_key, has_left, has_right, item_plan, kind_of_info, kind_plan, kinded_plan, list_plan, nested_plan, optional_plan, parent_plan, skip_plan, struct_plan, unit_step, units_plan, value_step, values_plan}
 use Rattle.yd_parts.specs.declared.fault.Cause.TheVariants as causes
 use Rattle.yd_parts.specs.declared.fault.Spot.{Spot}
 use Rattle.yd_fields.specs.declared.info.ContentKind.{ContentKind}
-use Rattle.yd_fields.specs.declared.info.ContentKind.TheVariants.{Json, Binary, Str, Embed, Format, Nested, Any}
+use Rattle.yd_fields.specs.declared.info.ContentKind.TheVariants.{Deleted, Json, Binary, Str, Embed, Format, Nested, Any}
 use Rattle.yd_fields.specs.declared.info.StructKind.{StructKind}
-use Rattle.yd_fields.specs.declared.info.StructKind.TheVariants.{Collected, Item, Subdocument, Skip, Unknown}
+use Rattle.yd_fields.specs.declared.info.StructKind.TheVariants.{Gone, Item, Subdocument, Skip, Unknown}
 use Rattle.yd_reading.proofs.DeletesFitLemmas.{each-last}
 use Rattle.yd_parts.proofs.GivenLemmas.{GivesOnly, gives_only_bind}
 use Rattle.yd_reading.proofs.JsonFitLemmas.{text_has_units, text_units_valid, unit_at_valid}
@@ -103,6 +103,15 @@ value_step_fits : (count : ℕ) (found : AnyTrees) → AreTreesRead count found 
 unfolding value_step
 value_step_fits count found before = λ t spot valid. let later = trees-last found t before.0 valid in (later.0, later.1 ∙ ap suc before.1)
 
+-- deleted units
+deleted_fit : (begin : Spot) → GivesOnly Fits IsFilled (deleted_plan begin)
+unfolding deleted_plan
+deleted_fit begin = λ count spot is_count. by_count count (nat_eq count 0) refl
+  where
+    by_count : (count : ℕ) (none : Bool) → nat_eq count 0 ≡ none → GivesOnly Fits IsFilled (if none then refuse causes.EmptyStruct begin else give (ops.deleted count))
+    by_count count true test = tt
+    by_count count false test = (tt, grind (arith, nat_tests))
+
 -- JSON units
 units_fit : (begin : Spot) → GivesOnly Fits IsFilled (units_plan begin)
 unfolding units_plan
@@ -145,6 +154,7 @@ any_given (want t next) = λ v spot fits. any_given (next v spot)
 -- a content of each kind
 content_fits : (kind : ContentKind) (begin : Spot) → GivesOnly Fits IsFilled (content_plan kind begin)
 unfolding content_plan nested_plan
+content_fits Deleted begin = deleted_fit begin
 content_fits Json begin = units_fit begin
 content_fits Binary begin = λ bytes spot any. (tt, omega arith)
 content_fits Str begin = string_fits begin
@@ -181,19 +191,28 @@ item_fits client clock info begin kind =
     Ends : ops.StructValue → Type 0
     Ends s = EndsAtClock client clock s
 
+-- a number of clocks
+clocks_fit : (client : Client) (clock : ℕ) (begin : Spot) (s : ops.StructValue) → (0 < ops.clocks_of s → IsStructAt client clock s) → GivesOnly Fits (EndsAtClock client clock) (clocks_plan clock begin s)
+clocks_fit client clock begin s is = by_count (nat_eq (ops.clocks_of s) 0) refl
+  where
+    by_count : (none : Bool) → nat_eq (ops.clocks_of s) 0 ≡ none → GivesOnly Fits (EndsAtClock client clock) (if none then refuse causes.EmptyStruct begin else ended_plan clock begin s)
+    by_count true test = tt
+    by_count false test = let some : 0 < ops.clocks_of s = grind (arith, nat_tests) in ended_fits client clock begin s (is some)
+
 -- a skip
 skip_fits : (client : Client) (clock : ℕ) (begin : Spot) → GivesOnly Fits (EndsAtClock client clock) (skip_plan clock begin)
 unfolding skip_plan
-skip_fits client clock begin = λ count spot fits. by_count count (nat_eq count 0) refl
-  where
-    by_count : (count : ℕ) (none : Bool) → nat_eq count 0 ≡ none → GivesOnly Fits (EndsAtClock client clock) (if none then refuse causes.EmptyStruct begin else ended_plan clock begin (ops.skip count))
-    by_count count true test = tt
-    by_count count false test = let some : 0 < count = grind (arith, nat_tests) in ended_fits client clock begin (ops.skip count) some
+skip_fits client clock begin = λ count spot fits. clocks_fit client clock begin (ops.skip count) (λ some. some)
+
+-- a gone run
+gone_fits : (client : Client) (clock : ℕ) (begin : Spot) → GivesOnly Fits (EndsAtClock client clock) (gone_plan clock begin)
+unfolding gone_plan
+gone_fits client clock begin = λ count spot fits. clocks_fit client clock begin (ops.gone count) (λ some. some)
 
 -- a struct of each kind
 kinded_fits : (client : Client) (clock info : ℕ) (begin : Spot) (kind : StructKind) → GivesOnly Fits (EndsAtClock client clock) (kinded_plan client clock info begin kind)
 unfolding kinded_plan
-kinded_fits client clock info begin Collected = tt
+kinded_fits client clock info begin Gone = gone_fits client clock begin
 kinded_fits client clock info begin (Item kind) = item_fits client clock info begin kind
 kinded_fits client clock info begin Subdocument = tt
 kinded_fits client clock info begin Skip = skip_fits client clock begin

@@ -8,7 +8,7 @@ ghost use Rattle.yd_ops.specs.View.{content_value, unit_value};
 ghost use Rattle.yd_parts.specs.Fault.{FailsAs, Gives};
 ghost use Rattle.yd_fields.specs.Field as field;
 ghost use Rattle.yd_parts.specs.Plan.{read_by, repeated};
-ghost use Rattle.yd_fields.specs.StructPlan.{content_plan, nested_plan, unit_step, units_plan, value_step, values_plan};
+ghost use Rattle.yd_fields.specs.StructPlan.{content_plan, deleted_plan, nested_plan, unit_step, units_plan, value_step, values_plan};
 
 use crate::json_making::unit_of_text;
 use crate::list_reading::read_kind;
@@ -42,6 +42,7 @@ pub fn read_content<'a, R: FieldReader<'a>>(
         (read_by R.field_at R.spot_of (content_plan kind begin) reader.old) }
 {
     match kind {
+        ContentKind::Deleted => read_deleted(reader, begin),
         ContentKind::Json => read_units(alloc, reader, begin),
         ContentKind::Binary => {
             let bytes = reader.get_blob()?;
@@ -77,6 +78,18 @@ pub fn empty_struct(begin: Spot) -> ReadError
         cause: Cause::EmptyStruct,
         spot: begin,
     }
+}
+
+#[tactic(auto, unfolding(yd_parts::specs::Plan::read_by, yd_fields::specs::StructPlan::deleted_plan))]
+fn read_deleted<'a, R: FieldReader<'a>>(reader: &mut R, begin: Spot) -> Result<Content, ReadError>
+    ensures { Gives content_value result reader.new
+        (read_by R.field_at R.spot_of (deleted_plan begin) reader.old) }
+{
+    let count = reader.get_length()?;
+    if count == 0 {
+        return Err(empty_struct(begin));
+    }
+    Ok(Content::Deleted(count))
 }
 
 #[tactic(auto, using(crate::proofs::ContentPlanLemmas::read_nested_plan))]

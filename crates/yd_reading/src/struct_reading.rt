@@ -1,11 +1,12 @@
 //! Reading structs.
 
-ghost use Rattle.std.specs.Prelude.{◌≡◌, ◌+◌, ◌<◌, ◌^◌, IfOk, nat_lt};
+ghost use Rattle.std.specs.Prelude.{◌≡◌, ◌+◌, ◌<◌, ◌^◌, IfOk, OnOk, nat_lt};
 ghost use Rattle.yd_ops.specs.Value.{clocks_of};
 ghost use Rattle.yd_ops.specs.View.{struct_value};
-ghost use Rattle.yd_parts.specs.Fault.{Gives};
+ghost use Rattle.yd_parts.specs.Fault.{Gives, Makes, TakesNoMemory};
 ghost use Rattle.yd_parts.specs.Plan.{read_by};
-ghost use Rattle.yd_fields.specs.StructPlan.{item_plan, kind_of_info, kinded_plan, skip_plan, struct_plan};
+ghost use Rattle.yd_fields.specs.StructPlan.{gone_plan, item_plan, kind_of_info, kinded_plan, skip_plan, struct_plan};
+ghost use Rattle.yd_reading.specs.Judged.{clocks_at};
 
 use crate::content_reading::{empty_struct, read_content};
 use crate::list_reading::{read_carried, read_left, read_right};
@@ -44,7 +45,7 @@ fn read_kinded<'a, R: FieldReader<'a>>(
     ensures ends { IfOk result (λ s. id.clock + clocks_of (struct_value s) < 2 ^ 53) }
 {
     match kind_of_info(info) {
-        StructKind::Collected => Err(refused(Cause::Collected, begin)),
+        StructKind::Gone => read_gone(reader, id.clock, begin),
         StructKind::Item(kind) => read_item(alloc, reader, id, info, begin, kind),
         StructKind::Subdocument => Err(refused(Cause::Subdocument, begin)),
         StructKind::Skip => read_skip(reader, id.clock, begin),
@@ -69,13 +70,37 @@ fn read_skip<'a, R: FieldReader<'a>>(
     ensures ends { IfOk result (λ s. clock + clocks_of (struct_value s) < 2 ^ 53) }
 {
     let count = reader.get_number()?;
+    judge_clocks(clock, count, begin)?;
+    Ok(Struct::Skip(count))
+}
+
+#[tactic(auto, unfolding(yd_parts::specs::Plan::read_by, yd_fields::specs::StructPlan::gone_plan))]
+fn read_gone<'a, R: FieldReader<'a>>(
+    reader: &mut R,
+    clock: u64,
+    begin: Spot,
+) -> Result<Struct, ReadError>
+    ensures given { Gives struct_value result reader.new
+        (read_by R.field_at R.spot_of (gone_plan clock begin) reader.old) }
+    ensures ends { IfOk result (λ s. clock + clocks_of (struct_value s) < 2 ^ 53) }
+{
+    let count = reader.get_length()?;
+    judge_clocks(clock, count, begin)?;
+    Ok(Struct::Gone(count))
+}
+
+fn judge_clocks(clock: u64, count: u64, begin: Spot) -> Result<(), ReadError>
+    ensures made { Makes (λ judged. judged) result (clocks_at begin clock count) }
+    ensures ends { OnOk result (clock + count < 2 ^ 53) }
+    ensures memory { TakesNoMemory result }
+{
     if count == 0 {
         return Err(empty_struct(begin));
     }
     if !ends_at_clock(clock, count) {
         return Err(refused(Cause::ClockTooLarge, begin));
     }
-    Ok(Struct::Skip(count))
+    Ok(())
 }
 
 #[tactic(auto, using(crate::proofs::ItemPlanLemmas::read_item_plan))]
