@@ -64,7 +64,6 @@ fn name_of_cause(cause: Cause) -> &'static str
         Cause::BadUtf8 => "BadUtf8",
         Cause::BadInfo => "BadInfo",
         Cause::Subdocument => "Subdocument",
-        Cause::Collected => "Collected",
         Cause::BadType => "BadType",
         Cause::BadTag => "BadTag",
         Cause::TooDeep => "TooDeep",
