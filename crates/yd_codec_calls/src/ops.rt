@@ -19,6 +19,7 @@ fn an_update_is_made_judged_and_copied(rt: HostRuntime) -> Result<(), Fail> {
     let mut structs = StructList::new(alloc);
     structs.push(Struct::Item(run.copy()?))?;
     structs.push(Struct::Skip(4))?;
+    structs.push(Struct::Gone(2))?;
     let mut blocks = BlockList::new(alloc);
     blocks.push(Block {
         client: Client(3),
