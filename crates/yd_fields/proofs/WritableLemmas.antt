@@ -46,7 +46,12 @@ list_is_writable (Some left) right (Some list) carries = absurd carries
 pub structs_are_writable : (structs : List StructValue) (client : Client) (clock : ℕ) → AreStructsFrom client clock structs → Each IsWritableStruct structs
 structs_are_writable [] client clock all = tt
 structs_are_writable (item run ∷ structs) client clock all = (
-  record { left = all.0.left; right = all.0.right; list = list_is_writable run.left run.right run.list all.0.list; content = record { valid = all.0.content; in_range = omega arith } },
+  record {
+    left = all.0.left;
+    right = all.0.right;
+    list = list_is_writable run.left run.right run.list all.0.list;
+    content = record { valid = all.0.content; in_range = omega arith };
+  },
   structs_are_writable structs client (clock + clocks_of (item run)) all.2,
 )
 structs_are_writable (skip count ∷ structs) client clock all = (omega arith, structs_are_writable structs client (clock + clocks_of (skip count)) all.2)

@@ -192,10 +192,12 @@ item_fits client clock info begin kind =
     Ends s = EndsAtClock client clock s
 
 -- a number of clocks
-clocks_fit : (client : Client) (clock : ℕ) (begin : Spot) (s : ops.StructValue) → (0 < ops.clocks_of s → IsStructAt client clock s) → GivesOnly Fits (EndsAtClock client clock) (clocks_plan clock begin s)
+clocks_fit : (client : Client) (clock : ℕ) (begin : Spot) (s : ops.StructValue) → (0 < ops.clocks_of s → IsStructAt client clock s) →
+    GivesOnly Fits (EndsAtClock client clock) (clocks_plan clock begin s)
 clocks_fit client clock begin s is = by_count (nat_eq (ops.clocks_of s) 0) refl
   where
-    by_count : (none : Bool) → nat_eq (ops.clocks_of s) 0 ≡ none → GivesOnly Fits (EndsAtClock client clock) (if none then refuse causes.EmptyStruct begin else ended_plan clock begin s)
+    by_count : (none : Bool) → nat_eq (ops.clocks_of s) 0 ≡ none →
+        GivesOnly Fits (EndsAtClock client clock) (if none then refuse causes.EmptyStruct begin else ended_plan clock begin s)
     by_count true test = tt
     by_count false test = let some : 0 < ops.clocks_of s = grind (arith, nat_tests) in ended_fits client clock begin s (is some)
 
