@@ -1,0 +1,17 @@
+pub mod AddingLemmas
+pub mod AgreementLemmas
+pub mod CoveringLemmas
+pub mod GroupLemmas
+pub mod LevelLemmas
+pub mod MendingLemmas
+pub mod MergingLemmas
+pub mod OnceLemmas
+pub mod OneOfLemmas
+pub mod PartnerLemmas
+pub mod ReceivedLemmas
+pub mod ReceivingLemmas
+pub mod RunLemmas
+pub mod SpellingLemmas
+pub mod TakingLemmas
+pub mod TurnLemmas
+pub mod WritingLemmas

@@ -1,0 +1,5 @@
+pub mod Agreement
+pub mod Deletes
+pub mod Law
+pub mod Pairs
+pub mod Received
