@@ -11,13 +11,13 @@ use Rattle.yd_ids.proofs.IdLemmas.{same_itself, other_id}
 use Rattle.yd_ops.specs.Operation.{Operation}
 use Rattle.yd_origins.specs.Table.{ids_of}
 use Rattle.yd_origins.specs.Deleted.{last_of, IsOverwritten, IsDeleted, by_name, by_key, by_item}
+use Rattle.yd_updates.specs.Received.{has_operation, IsWritten}
 use Rattle.yd_meaning.specs.Names.{has_key, item_of_list}
-use Rattle.yd_meaning.specs.Received.{has_operation, IsWritten}
-use Rattle.yd_meaning.specs.Held.{held_set}
+use Rattle.yd_meaning.specs.Held.{standing}
 use Rattle.yd_meaning.specs.Order.{rows_of, operation_set, list_of, order_of}
-use Rattle.yd_meaning.specs.Deleted.{is_overwritten, is_deleted_within, is_deleted}
+use Rattle.yd_meaning.specs.Deleted.{is_overwritten, is_deleted_within, is_deleted_among}
 use Rattle.yd_meaning.proofs.RowLemmas.{has_row}
-use Rattle.yd_meaning.proofs.NestingLemmas.{nesting, nesting_small, nesting_falls, held_item}
+use Rattle.yd_meaning.proofs.NestingLemmas.{nesting, nesting_small, nesting_falls, standing_item}
 
 -- ---- what is overwritten
 
@@ -78,41 +78,42 @@ deleted_within_is held named (suc n) x e = elim (one_of_three (named x) (is_over
           by_item there (deleted_within_is held named n y deleted)
     ]
 
-module _ (os : List Operation) (w : IsWritten os) (named : Id → Bool) where
-  abbrev held : List Operation
-  held = held_set os
+module _ (held : List Operation) (w : IsWritten held) (named : Id → Bool) where
+  -- the held operations that stand
+  abbrev stands : List Operation
+  stands = standing held
 
   abbrev item : Id → Option Id
-  item x = item_of_list (list_of held x)
+  item x = item_of_list (list_of stands x)
 
   -- more items than an operation lies in change nothing
-  more_items : (n m : ℕ) (x : Id) → IsIn x (ids_of (rows_of held)) → nesting os w x < n → n ≤ m →
-      is_deleted_within held named m x ≡ is_deleted_within held named n x
+  more_items : (n m : ℕ) (x : Id) → IsIn x (ids_of (rows_of stands)) → nesting held w x < n → n ≤ m →
+      is_deleted_within stands named m x ≡ is_deleted_within stands named n x
   more_items zero m x i lt le = absurd (omega arith)
   more_items (suc n) zero x i lt le = absurd (omega arith)
-  more_items (suc n) (suc m) x i lt le = ap (λ t. named x || (is_overwritten held (list_of held x) x || t))
-      (test_alike (is_deleted_within held named m) (is_deleted_within held named n) (item x)
-      (if_some_map (λ y. IsIn y (ids_of (rows_of held)) × (nesting os w y < nesting os w x))
-      (λ y. is_deleted_within held named m y ≡ is_deleted_within held named n y) (item x)
-      (λ y c. more_items n m y c.0 (omega (arith, c.1)) (omega arith)) (nesting_falls os w x i)))
+  more_items (suc n) (suc m) x i lt le = ap (λ t. named x || (is_overwritten stands (list_of stands x) x || t))
+      (test_alike (is_deleted_within stands named m) (is_deleted_within stands named n) (item x)
+      (if_some_map (λ y. IsIn y (ids_of (rows_of stands)) × (nesting held w y < nesting held w x))
+      (λ y. is_deleted_within stands named m y ≡ is_deleted_within stands named n y) (item x)
+      (λ y c. more_items n m y c.0 (omega (arith, c.1)) (omega arith)) (nesting_falls held w x i)))
 
   -- ---- lemmas for callers
 
   -- an operation is deleted where a deletion names it, where it is overwritten, and where the item of its list is deleted
-  pub is_deleted-one : (x : Id) → has_operation held x ≡ true →
-      is_deleted held named x ≡ (named x || (is_overwritten held (list_of held x) x || is_some_and (is_deleted held named) (item x)))
-  is_deleted-one x e = sym (more_items (suc (length held)) (suc (suc (length held))) x (has_row held x e)
-      (omega (arith, nesting_small os w x (has_row held x e))) (omega arith))
+  pub deleted_among-one : (x : Id) → has_operation stands x ≡ true →
+      is_deleted_among stands named x ≡ (named x || (is_overwritten stands (list_of stands x) x || is_some_and (is_deleted_among stands named) (item x)))
+  deleted_among-one x e = sym (more_items (suc (length stands)) (suc (suc (length stands))) x (has_row stands x e)
+      (omega (arith, nesting_small held w x (has_row stands x e))) (omega arith))
 
   -- the test tells what the laws of the order call deleted
-  pub deleted_is : (x : Id) → is_deleted held named x ≡ true → IsDeleted (operation_set held) named x
-  deleted_is x e = deleted_within_is held named (suc (length held)) x e
+  pub deleted_among_is : (x : Id) → is_deleted_among stands named x ≡ true → IsDeleted (operation_set stands) named x
+  deleted_among_is x e = deleted_within_is stands named (suc (length stands)) x e
 
-  pub is_deleted-true : {x : Id} → has_operation held x ≡ true → IsDeleted (operation_set held) named x → is_deleted held named x ≡ true
-  is_deleted-true e (by_name {x = x} by) = is_deleted-one x e
-      ∙ first_holds (named x) (is_overwritten held (list_of held x) x) (is_some_and (is_deleted held named) (item x)) by
-  is_deleted-true e (by_key {x = x} by) = is_deleted-one x e
-      ∙ second_holds (named x) (is_overwritten held (list_of held x) x) (is_some_and (is_deleted held named) (item x)) (is_overwritten-true held x by)
-  is_deleted-true e (by_item {x = x} {y = y} there by) = is_deleted-one x e
-      ∙ third_holds (named x) (is_overwritten held (list_of held x) x) (is_some_and (is_deleted held named) (item x))
-      (ap (λ z. is_some_and (is_deleted held named) z) there ∙ is_deleted-true (held_item os w x y e there) by)
+  pub deleted_among-true : {x : Id} → has_operation stands x ≡ true → IsDeleted (operation_set stands) named x → is_deleted_among stands named x ≡ true
+  deleted_among-true e (by_name {x = x} by) = deleted_among-one x e
+      ∙ first_holds (named x) (is_overwritten stands (list_of stands x) x) (is_some_and (is_deleted_among stands named) (item x)) by
+  deleted_among-true e (by_key {x = x} by) = deleted_among-one x e
+      ∙ second_holds (named x) (is_overwritten stands (list_of stands x) x) (is_some_and (is_deleted_among stands named) (item x)) (is_overwritten-true stands x by)
+  deleted_among-true e (by_item {x = x} {y = y} there by) = deleted_among-one x e
+      ∙ third_holds (named x) (is_overwritten stands (list_of stands x) x) (is_some_and (is_deleted_among stands named) (item x))
+      (ap (λ z. is_some_and (is_deleted_among stands named) z) there ∙ deleted_among-true (standing_item held w x y e there) by)

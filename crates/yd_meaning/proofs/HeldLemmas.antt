@@ -1,92 +1,40 @@
--- What is held, round by round: rounds grow and come to rest, and what is held is the least set with all that it needs.
-use Rattle.std.proofs.Common.{◌≡◌, ℕ, zero, suc, ◌<◌, Bool, true, List, [], ◌∷◌, ◌⊎◌, Some, inl, inr, length, refl, sym, ap, ◌∙◌, subst, arith}
-use Rattle.std.specs.Prelude.{filter}
+-- What is held: the least set with all that it needs.
+use Rattle.std.proofs.Common.{◌≡◌, true, List, Some, sym, ◌∙◌, subst}
+use Rattle.std.specs.Prelude.{Bool, filter}
 use Rattle.yd_words.specs.Member.{IsIn}
 use Rattle.yd_words.proofs.TestLemmas.{one_answer}
-use Rattle.yd_words.proofs.FilterLemmas.{filter-all, kept_one, one_kept, filter_alike, length-filter, same_or_more}
+use Rattle.yd_words.proofs.FilterLemmas.{filter-all, filter_alike}
 use Rattle.yd_ids.specs.declared.id.Id.{Id}
 use Rattle.yd_ops.specs.Operation.{Operation}
-use Rattle.yd_meaning.specs.Received.{has_operation, IsWritten}
-use Rattle.yd_meaning.specs.Held.{item_carried, needs, has_all, next_round, round, held_set}
-use Rattle.yd_meaning.proofs.OneOfLemmas.{operation_with, id_is_there, all_has, has_each}
+use Rattle.yd_updates.specs.Received.{has_operation, IsWritten}
+use Rattle.yd_updates.proofs.OneOfLemmas.{operation_with, id_is_there}
+use Rattle.yd_meaning.specs.Held.{item_carried, needs, has_all, next_round, held_set}
+use Rattle.yd_meaning.proofs.HasAllLemmas.{all_has, has_each}
 use Rattle.yd_meaning.proofs.RowLemmas.{written_distinct, one_operation}
 use Rattle.yd_meaning.proofs.NeedLemmas.{left_needed, right_needed, item_needed}
-
--- ids that stay where operations stay
-ids_stay : (before after : List Operation) → ((o : Operation) → IsIn o before → IsIn o after) → (x : Id) → has_operation before x ≡ true →
-    has_operation after x ≡ true
-ids_stay before after stay x e = let (o, i, g) = operation_with before x e in subst (λ y. has_operation after y ≡ true) g (id_is_there after o (stay o i))
+use Rattle.yd_meaning.proofs.RoundLemmas.{next_round-last, last_in, last_asks, asks_last, last_least}
 
 module _ (os : List Operation) where
-  -- ---- rounds
-
-  -- a round has what the next one needs
-  pub needs_before : (n : ℕ) (o : Operation) → IsIn o (round os (suc n)) → (x : Id) → IsIn x (needs o) → has_operation (round os n) x ≡ true
-  needs_before n o i x j = all_has (round os n) (needs o) (kept_one (λ p. has_all (round os n) (needs p)) os o i).0 x j
-
-  pub round_in : (n : ℕ) (o : Operation) → IsIn o (round os n) → IsIn o os
-  round_in zero o i = absurd i
-  round_in (suc n) o i = (kept_one (λ p. has_all (round os n) (needs p)) os o i).1
-
-  -- each round has the one before
-  pub round_grows : (n : ℕ) (o : Operation) → IsIn o (round os n) → IsIn o (round os (suc n))
-  round_grows zero o i = absurd i
-  round_grows (suc n) o i = one_kept (λ p. has_all (round os (suc n)) (needs p)) os o
-      (has_each (round os (suc n)) (needs o) (λ x j. ids_stay (round os n) (round os (suc n)) (λ p k. round_grows n p k) x (needs_before n o i x j)))
-      (round_in (suc n) o i)
-
-  pub ids_grow : (n : ℕ) (x : Id) → has_operation (round os n) x ≡ true → has_operation (round os (suc n)) x ≡ true
-  ids_grow n = ids_stay (round os n) (round os (suc n)) (round_grows n)
-
-  -- a round is the one before, or longer
-  pub same_or_longer : (n : ℕ) → (round os n ≡ round os (suc n)) ⊎ (length (round os n) < length (round os (suc n)))
-  same_or_longer zero = go (round os 1)
-    where
-      go : (ps : List Operation) → ([] ≡ ps) ⊎ (0 < length ps)
-      go [] = inl refl
-      go (p ∷ ps) = inr (omega arith)
-  same_or_longer (suc n) = same_or_more (λ o. has_all (round os n) (needs o)) (λ o. has_all (round os (suc n)) (needs o))
-      (λ o e. has_each (round os (suc n)) (needs o) (λ x j. ids_grow n x (all_has (round os n) (needs o) e x j))) os
-
-  -- rounds that are not at rest have more operations than their number
-  pub rests_or_long : (n : ℕ) → (round os n ≡ round os (suc n)) ⊎ (n < length (round os (suc n)))
-  rests_or_long zero = elim (same_or_longer zero) [ inl e ↦ inl e | inr lt ↦ inr (omega arith) ]
-  rests_or_long (suc n) = elim (rests_or_long n) [
-    | inl e ↦ inl (ap (next_round os) e)
-    | inr lt ↦ elim (same_or_longer (suc n)) [ inl e ↦ inl e | inr more ↦ inr (omega arith) ]
-  ]
-
-  -- ---- lemmas for callers
-
   -- one more round changes nothing
-  pub next_round-held : next_round os (held_set os) ≡ held_set os
-  next_round-held = elim (rests_or_long (length os)) [
-    | inl e ↦ sym e
-    | inr lt ↦ absurd (omega (arith, length-filter (λ o. has_all (round os (length os)) (needs o)) os))
-  ]
+  pub next_round-held : next_round needs os (held_set os) ≡ held_set os
+  next_round-held = next_round-last needs os
 
   -- what is held is received
   pub held_in : (o : Operation) → IsIn o (held_set os) → IsIn o os
-  held_in = round_in (length os)
+  held_in = last_in needs os
 
   -- all that a held operation needs is held
   pub held_needs : (o : Operation) → IsIn o (held_set os) → (x : Id) → IsIn x (needs o) → has_operation (held_set os) x ≡ true
-  held_needs o i = all_has (held_set os) (needs o)
-      (kept_one (λ p. has_all (held_set os) (needs p)) os o (subst (λ ps. IsIn o ps) (sym next_round-held) i)).0
+  held_needs = last_asks needs os
 
   -- what is received is held, where all that it needs is
   pub needs_held : (o : Operation) → IsIn o os → ((x : Id) → IsIn x (needs o) → has_operation (held_set os) x ≡ true) → IsIn o (held_set os)
-  needs_held o i f = subst (λ ps. IsIn o ps) next_round-held (one_kept (λ p. has_all (held_set os) (needs p)) os o (has_each (held_set os) (needs o) f) i)
+  needs_held = asks_last needs os
 
   -- what is true of an operation once it is true of its needs is true of all that is held
   pub held_least : (P : Id → Type 0) → ((o : Operation) → IsIn o os → ((x : Id) → IsIn x (needs o) → P x) → P o.id) →
       (o : Operation) → IsIn o (held_set os) → P o.id
-  held_least P step = by_rounds (length os)
-    where
-      by_rounds : (n : ℕ) (o : Operation) → IsIn o (round os n) → P o.id
-      by_rounds zero o i = absurd i
-      by_rounds (suc n) o i = step o (round_in (suc n) o i)
-          (λ x j. let (p, k, g) = operation_with (round os n) x (needs_before n o i x j) in subst P g (by_rounds n p k))
+  held_least = last_least needs os
 
   -- the origins of a held operation are held, and so is the item of the list that it carries
   pub held_left : (o : Operation) → IsIn o (held_set os) → (y : Id) → o.left_origin ≡ Some y → has_operation (held_set os) y ≡ true

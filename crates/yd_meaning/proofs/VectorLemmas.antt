@@ -9,9 +9,9 @@ use Rattle.yd_ids.specs.declared.id.Id.{Id}
 use Rattle.yd_ids.specs.Ids.{is_same, HasSmallerClock, is_written_before}
 use Rattle.yd_ids.proofs.IdLemmas.{same_numbers}
 use Rattle.yd_ops.specs.Operation.{Operation}
-use Rattle.yd_meaning.specs.Received.{has_operation, IsWritten}
+use Rattle.yd_updates.specs.Received.{has_operation, IsWritten}
+use Rattle.yd_updates.proofs.OneOfLemmas.{operation_with, has_behind, id_is_there}
 use Rattle.yd_meaning.specs.Held.{needs, has_all, round, held_set, held_clock}
-use Rattle.yd_meaning.proofs.OneOfLemmas.{operation_with, has_behind, id_is_there}
 use Rattle.yd_meaning.proofs.NeedLemmas.{before_needed}
 use Rattle.yd_meaning.proofs.HeldLemmas.{held_needs}
 
@@ -29,9 +29,9 @@ written_kept test (o ∷ os) w = go (test o) (written_kept test os w.1)
 pub held_written : (os : List Operation) → IsWritten os → IsWritten (held_set os)
 held_written os w = go (length os)
   where
-    go : (n : ℕ) → IsWritten (round os n)
+    go : (n : ℕ) → IsWritten (round needs os n)
     go zero = tt
-    go (suc n) = written_kept (λ o. has_all (round os n) (needs o)) os w
+    go (suc n) = written_kept (λ o. has_all (round needs os n) (needs o)) os w
 
 -- of one client the clocks ascend
 ascends : (a b : Id) → is_written_before a b ≡ true → a.client.0 ≡ b.client.0 → a.clock < b.clock

@@ -9,14 +9,14 @@ use Rattle.yd_ids.specs.Set.{HasId}
 use Rattle.yd_ops.specs.declared.lists.List.{List as DocList}
 use Rattle.yd_ops.specs.declared.lists.Parent.{Parent}
 use Rattle.yd_ops.specs.Operation.{Operation}
+use Rattle.yd_updates.specs.Received.{Received, has_operation}
 use Rattle.yd_meaning.specs.Names.{same_parent}
-use Rattle.yd_meaning.specs.Received.{Received, has_operation}
-use Rattle.yd_meaning.specs.Held.{held_set, is_named}
+use Rattle.yd_meaning.specs.Held.{held_set, standing, is_named}
 use Rattle.yd_meaning.specs.Order.{list_of, order_of}
 use Rattle.yd_meaning.specs.Deleted.{is_deleted}
 
 -- a document as it is read: the operations of each list in order, which ids are held and deleted, and the keys under which a
--- parent has operations
+-- parent has operations. What is lost is in no list and under no key, and is deleted
 pub record Document : Type 0 where
   pub units : DocList → List Operation
   pub deleted : Id → Bool
@@ -48,22 +48,22 @@ with_key_of (Some key) keys = with_key key keys
 
 -- the keys of the parent's lists of which some of the operations are
 abbrev pub keys_of : List Operation → List Operation → Parent → List (List ℕ)
-keys_of held [] parent = []
-keys_of held (o ∷ os) parent =
-    if same_parent (list_of held o.id).parent parent then with_key_of (list_of held o.id).key (keys_of held os parent) else keys_of held os parent
+keys_of stands [] parent = []
+keys_of stands (o ∷ os) parent =
+    if same_parent (list_of stands o.id).parent parent then with_key_of (list_of stands o.id).key (keys_of stands os parent) else keys_of stands os parent
 
--- the keys under which a parent has a held operation
+-- the keys under which a parent has one of the operations that stand
 abbrev pub keys_among : List Operation → Parent → List (List ℕ)
-keys_among held parent = keys_of held held parent
+keys_among stands parent = keys_of stands stands parent
 
 -- ---- documents
 
 -- the document of held operations, where deletions name these ids
 abbrev pub document_with : List Operation → (Id → Bool) → Document
 document_with held named = record {
-  units = λ list. operations_at held (order_of held list);
+  units = λ list. operations_at (standing held) (order_of (standing held) list);
   deleted = λ x. has_operation held x && is_deleted held named x;
-  keys = keys_among held;
+  keys = keys_among (standing held);
 }
 
 -- the document that a received set defines

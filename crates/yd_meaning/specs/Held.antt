@@ -1,21 +1,21 @@
--- What is held of the received operations, round by round; the state vector; and what waits (Yjs 13, the clocks of a store and its pending structs).
-use Rattle.std.specs.Prelude.{ℕ, zero, suc, ◌+◌, ◌-◌, Bool, true, false, ◌&&◌, ◌||◌, List, [], ◌∷◌, ◌++◌, Option, Some, None, length, filter, nat_eq, nat_le, nat_lt, if◌then◌else◌}
+-- What is held of the received operations, round by round, and what of it stands or is lost; the state vector; and what waits (Yjs 13, the clocks of a store and its pending structs, and the items that become GC).
+use Rattle.std.specs.Prelude.{ℕ, zero, suc, ◌+◌, ◌-◌, Bool, true, false, ◌&&◌, ◌||◌, not, List, [], ◌∷◌, ◌++◌, Option, Some, None, length, filter, nat_eq, nat_le, nat_lt, if◌then◌else◌}
 use Rattle.yd_ids.specs.declared.id.Client.{Client}
 use Rattle.yd_ids.specs.declared.id.Id.{Id}
 use Rattle.yd_ids.specs.declared.id.Span.{Span}
 use Rattle.yd_ops.specs.declared.lists.List.{List as DocList}
-use Rattle.yd_ops.specs.Operation.{Operation}
+use Rattle.yd_ops.specs.Operation.{Operation, level_of}
+use Rattle.yd_updates.specs.Received.{Received, has_operation}
 use Rattle.yd_meaning.specs.Names.{item_of_list}
-use Rattle.yd_meaning.specs.Received.{Received, has_operation}
 
--- ---- what has to be held before an operation
+-- ---- what an operation needs
 
 -- the client's id before a clock, where there is one
 abbrev pub id_before : Client → ℕ → List Id
 id_before client zero = []
 id_before client (suc clock) = record { client = client; clock = clock } ∷ []
 
--- an id, where it is there
+-- an id, where there is one
 abbrev pub given : Option Id → List Id
 given None = []
 given (Some x) = x ∷ []
@@ -25,9 +25,13 @@ abbrev pub item_carried : Option DocList → Option Id
 item_carried None = None
 item_carried (Some list) = item_of_list list
 
--- what an operation needs: its client's unit before, its origins, and the item of the list that it carries
+-- what an operation stands on: its origins, and the item of the list that it carries; a gone one carries none of these
+abbrev pub sources : Operation → List Id
+sources o = given o.left_origin ++ (given o.right_origin ++ given (item_carried o.list))
+
+-- what has to be held before an operation: its client's unit before, and what it stands on
 abbrev pub needs : Operation → List Id
-needs o = id_before o.id.client o.id.clock ++ (given o.left_origin ++ (given o.right_origin ++ given (item_carried o.list)))
+needs o = id_before o.id.client o.id.clock ++ sources o
 
 -- ---- rounds
 
@@ -36,18 +40,41 @@ abbrev pub has_all : List Operation → List Id → Bool
 has_all os [] = true
 has_all os (x ∷ xs) = has_operation os x && has_all os xs
 
--- the received operations whose needs are in the round before
-abbrev pub next_round : List Operation → List Operation → List Operation
-next_round received before = filter (λ o. has_all before (needs o)) received
+-- a round after another: the operations that find there all that they ask for
+abbrev pub next_round : (Operation → List Id) → List Operation → List Operation → List Operation
+next_round asks os before = filter (λ o. has_all before (asks o)) os
 
--- round 0 is empty
-abbrev pub round : List Operation → ℕ → List Operation
-round received zero = []
-round received (suc n) = next_round received (round received n)
+-- the rounds, by number; round 0 is empty
+abbrev pub round : (Operation → List Id) → List Operation → ℕ → List Operation
+round asks os zero = []
+round asks os (suc n) = next_round asks os (round asks os n)
 
--- what is held: the last of as many rounds as there are operations
+-- the last round, of as many as there are operations
+abbrev pub last_round : (Operation → List Id) → List Operation → List Operation
+last_round asks os = round asks os (length os)
+
+-- what is held: in each round come the operations that find all that they need
 abbrev pub held_set : List Operation → List Operation
-held_set received = round received (length received)
+held_set received = last_round needs received
+
+-- ---- what stands, and what is lost
+
+-- whether an operation is gone
+abbrev pub is_gone : Operation → Bool
+is_gone o = nat_eq (level_of o.content) 0
+
+-- what stands of held operations: of those that are not gone, in each round come the ones that find all that they stand on
+abbrev pub standing : List Operation → List Operation
+standing held = last_round sources (filter (λ o. not (is_gone o)) held)
+
+-- whether an operation is lost: it is held, and does not stand; such a one is in no list
+abbrev pub is_lost : List Operation → Id → Bool
+is_lost held x = has_operation held x && not (has_operation (standing held) x)
+
+-- whether one of the ids passes the test
+abbrev pub is_one_that : (Id → Bool) → List Id → Bool
+is_one_that test [] = false
+is_one_that test (x ∷ xs) = test x || is_one_that test xs
 
 -- ---- counts
 

@@ -1,3 +1,4 @@
+pub mod Collected
 pub mod Deleted
 pub mod Document
 pub mod Example
@@ -6,6 +7,4 @@ pub mod Law
 pub mod ListNames
 pub mod Names
 pub mod Order
-pub mod Pairs
-pub mod Received
 pub mod Text

@@ -1,8 +1,8 @@
 -- The text of a list: its live text units in order, with U+FFFD for a half that does not stand beside its partner (Yjs 13, toString of a text; that lone halves are replaced is own).
 use Rattle.std.specs.Prelude.{ℕ, Bool, false, ◌&&◌, ◌||◌, not, List, [], ◌∷◌, Option, Some, None, filter, if◌then◌else◌}
 use Rattle.yd_ops.specs.declared.lists.List.{List as DocList}
-use Rattle.yd_ops.specs.Operation.{UnitContent, text_unit, any_unit, json_unit, bytes, embedded, mark, nested_type, Operation}
-use Rattle.yd_meaning.specs.Pairs.{is_high, is_low, is_text_and, are_partners}
+use Rattle.yd_ops.specs.Operation.{UnitContent, text_unit, any_unit, json_unit, bytes, embedded, mark, nested_type, deleted_unit, gone_unit, Operation}
+use Rattle.yd_updates.specs.Pairs.{is_high, is_low, is_text_and, are_partners}
 use Rattle.yd_meaning.specs.Document.{Document}
 
 -- the live units of a list, in order
@@ -34,6 +34,8 @@ shown_before lone (bytes blob) units = units
 shown_before lone (embedded value) units = units
 shown_before lone (mark key value) units = units
 shown_before lone (nested_type kind) units = units
+shown_before lone deleted_unit units = units
+shown_before lone gone_unit units = units
 
 -- the text units of live units, behind the one before them
 abbrev pub shown_units : Option Operation → List Operation → List ℕ

@@ -1,30 +1,15 @@
 //! The laws of what updates mean, each the contract of an empty function.
 
-ghost use Rattle.yd_meaning.specs.Law.{ReceivedKeepsPairs, ReceivedIsAll, ReceivedIsOne, RepeatsChangeNothing, HeldIsLeast, VectorCounts, HeldIsTable, ListsFollowOrigins, ListsAreWhole, HonestListsFit, HonestOrderIsStrict, HonestListsGrowInOrder, DeletedFollowsItems, DocumentsConverge};
-
-/// What is received of valid updates has each id once, in the order of writing, and whole pairs.
-pub fn received_keeps_pairs()
-    ensures { ReceivedKeepsPairs }
-{}
-
-/// Under agreement all that was handed in is received.
-pub fn received_is_all()
-    ensures { ReceivedIsAll }
-{}
-
-/// Under agreement neither the order in which updates come nor a repeat changes what is received.
-pub fn received_is_one()
-    ensures { ReceivedIsOne }
-{}
-
-/// An update that is received again changes nothing.
-pub fn repeats_change_nothing()
-    ensures { RepeatsChangeNothing }
-{}
+ghost use Rattle.yd_meaning.specs.Law.{HeldIsLeast, HeldGrows, VectorCounts, RepliesComplete, LostFollowsSources, HeldIsTable, ListsFollowOrigins, ListsAreWhole, HonestListsFit, HonestOrderIsStrict, HonestListsGrowInOrder, ClosedPartsStay, MadeStaysHonest, DeletedFollowsItems, DocumentsConverge};
 
 /// What is held is the least set that has each received operation whose needs it has.
 pub fn held_is_least()
     ensures { HeldIsLeast }
+{}
+
+/// Whatever comes, what is held stays held.
+pub fn held_grows()
+    ensures { HeldGrows }
 {}
 
 /// The state vector counts what is held, without a gap.
@@ -32,7 +17,17 @@ pub fn vector_counts()
     ensures { VectorCounts }
 {}
 
-/// The held operations are a table of origins.
+/// After a reply each id of the other set is there, and what was sent is spelled no fuller.
+pub fn replies_complete()
+    ensures { RepliesComplete }
+{}
+
+/// A held operation is lost where it is gone, or something that it stands on is lost.
+pub fn lost_follows_sources()
+    ensures { LostFollowsSources }
+{}
+
+/// The held operations that are not lost are a table of origins.
 pub fn held_is_table()
     ensures { HeldIsTable }
 {}
@@ -42,7 +37,7 @@ pub fn lists_follow_origins()
     ensures { ListsFollowOrigins }
 {}
 
-/// A list has each held operation that is of it, once and no other, and the document has them all.
+/// A list has each operation that is of it and not lost, once and no other, and the document has them all.
 pub fn lists_are_whole()
     ensures { ListsAreWhole }
 {}
@@ -62,7 +57,17 @@ pub fn honest_lists_grow_in_order()
     ensures { HonestListsGrowInOrder }
 {}
 
-/// A held operation is deleted by name, by its key, or by the item of its list.
+/// A closed part of what is held loses the same, is honest where the whole is, has the same order, and deletes no more.
+pub fn closed_parts_stay()
+    ensures { ClosedPartsStay }
+{}
+
+/// An operation that is made between two neighbours of a list keeps an honest set honest.
+pub fn made_stays_honest()
+    ensures { MadeStaysHonest }
+{}
+
+/// A held operation is deleted as it is lost, by name, by its key, or by the item of its list.
 pub fn deleted_follows_items()
     ensures { DeletedFollowsItems }
 {}

@@ -1,4 +1,4 @@
-use Rattle.yd_meaning.proofs.HonestLemmas.{grown_in_order, grown_is_list}
+use Rattle.yd_meaning.proofs.HonestListLemmas.{grown_in_order, grown_is_list}
 use Rattle.yd_meaning.proofs.law.honest_lists_grow_in_order.Goals as goal
 
 pub returns : goal.returns

@@ -1,4 +1,4 @@
-use Rattle.yd_meaning.proofs.HonestLemmas.{strict_order}
+use Rattle.yd_meaning.proofs.HonestListLemmas.{strict_order}
 use Rattle.yd_meaning.proofs.law.honest_order_is_strict.Goals as goal
 
 pub returns : goal.returns
