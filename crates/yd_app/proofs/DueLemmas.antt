@@ -1,7 +1,7 @@
 -- What is due: one thing, and there always is one.
 use Rattle.std.proofs.Common.{◌≡◌, ◌⊎◌, ◌∙◌, ℕ, List, Option, Some, None, inl, inr, refl, sym, subst, ap}
 use Rattle.yd_meaning.specs.Document.{document_of}
-use Rattle.yd_meaning.specs.Received.{received_set}
+use Rattle.yd_updates.specs.Received.{received_set}
 use Rattle.yd_ops.specs.Value.{UpdateValue}
 use Rattle.yd_world.specs.Shelf.{Shelf}
 use Rattle.yd_world.specs.Traffic.{Traffic}

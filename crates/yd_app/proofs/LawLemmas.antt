@@ -1,24 +1,32 @@
--- Shows of the same contents are the same.
-use Rattle.std.proofs.Common.{◌≡◌, ◌∙◌, ℕ, List, Option, Some, ap, subst, sym}
-use Rattle.yd_meaning.specs.Document.{document_of}
-use Rattle.yd_meaning.proofs.ReceivedLemmas.{received_one}
+-- Shows of the same changes are the same.
+use Rattle.std.proofs.Common.{◌≡◌, ◌∙◌, ℕ, List, Option, Some, ap, subst, sym, inl, inr}
+use Rattle.yd_words.specs.Each.{Each}
 use Rattle.yd_ops.specs.Value.{UpdateValue}
+use Rattle.yd_ops.specs.Valid.{IsValidUpdate}
+use Rattle.yd_updates.specs.Received.{received_set}
+use Rattle.yd_updates.proofs.AgreementLemmas.{received_one, received_merged}
+use Rattle.yd_meaning.specs.Document.{document_of}
 use Rattle.yd_world.specs.Shelf.{Shelf}
 use Rattle.yd_files.proofs.VerdictLemmas.{stand_one, stand_valid}
 use Rattle.yd_files.specs.Files.{File}
 use Rattle.yd_files.specs.Verdict.{StandFor}
 use Rattle.yd_app.proofs.WordLemmas.{asks_same}
-use Rattle.yd_app.specs.Law.{RunsConverge, Shows, ShowsConverge}
+use Rattle.yd_app.specs.Law.{AreSameChanges, RunsConverge, Shows, ShowsConverge}
 use Rattle.yd_app.specs.Command.{Command, show_text}
 use Rattle.yd_app.specs.Commands.Show.{text_line}
 use Rattle.yd_app.specs.Output.{IsOutputOf}
 use Rattle.yd_app.specs.Writing.{TakesAll}
 
--- files of the same contents show the same
+-- of the same changes the same is received
+received_same : (one other : List UpdateValue) → Each IsValidUpdate one → Each IsValidUpdate other → AreSameChanges one other → received_set one ≡ received_set other
+received_same one other valid other_valid (inl contents) = received_one one other valid other_valid contents.alike contents.same
+received_same one other valid other_valid (inr merged) = received_merged one other valid other_valid merged.agree merged.others_agree merged.same
+
+-- files of the same changes show the same
 pub shows_same : ShowsConverge
 shows_same shelf other files others one another root read also contents =
     λ bytes others_bytes a b. a.bytes_are
-    ∙ ap (text_line root) (a.is_document ∙ ap document_of (received_one one another (stand_valid shelf files one read) (stand_valid other others another also) contents.agree contents.same)
+    ∙ ap (text_line root) (a.is_document ∙ ap document_of (received_same one another (stand_valid shelf files one read) (stand_valid other others another also) contents)
     ∙ sym b.is_document)
     ∙ sym b.bytes_are
 
@@ -32,7 +40,7 @@ written_of root updates words shelf taken now shows =
     let one : w.holds.0 ≡ updates = stand_one shelf shows.files w.holds.0 updates read shows.stand in
     (w.holds.2, subst (λ (us : List UpdateValue). IsOutputOf (show_text root) us w.holds.2) one (subst (λ (c : Command). IsOutputOf c w.holds.0 w.holds.2) same.0 w.holds.3), w.holds.4)
 
--- two runs that show a root of the same contents have written the same
+-- two runs that show a root of the same changes have written the same
 pub runs_same : RunsConverge
 runs_same root one another words others shelf other taken now took took_now a b contents =
     let x = written_of root one words shelf taken now a in

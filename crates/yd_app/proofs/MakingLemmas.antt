@@ -2,7 +2,7 @@
 use Rattle.std.proofs.Common.{◌≡◌, ◌≢◌, ◌⊎◌, ◌∙◌, ℕ, List, Option, Result, Ok, Err, IsErr, IsErrAnd, IsOk, refl, inl, inr, subst, sym, ap, arith}
 use Rattle.std.specs.Global.{Vec}
 use Rattle.yd_meaning.specs.Document.{Document, IsDocumentOf, document_of}
-use Rattle.yd_meaning.specs.Received.{Received, received_set}
+use Rattle.yd_updates.specs.Received.{Received, received_set}
 use Rattle.yd_ops.specs.Value.{UpdateValue}
 use Rattle.yd_world.specs.Shelf.{Shelf}
 use Rattle.yd_world.specs.Traffic.{Traffic}

@@ -1,7 +1,7 @@
 -- What a replica received so far of updates in a row.
 use Rattle.std.proofs.Common.{◌≡◌, ◌∙◌, ◌+◌, ◌<◌, ℕ, List, [], ◌∷◌, ◌++◌, length, map, take, get_or, refl, sym, ap}
 use Rattle.std.proofs.lemmas.List.{map-append, take_more}
-use Rattle.yd_meaning.specs.Received.{Received, nothing_received, received_after, received_more, received_set}
+use Rattle.yd_updates.specs.Received.{Received, nothing_received, received_after, received_more, received_set}
 use Rattle.yd_ops.specs.Value.{UpdateValue}
 use Rattle.yd_ops.specs.View.{update_value}
 use Rattle.yd_ops.specs.declared.updates.Update.{Update}

@@ -1,7 +1,7 @@
 -- Laws over words, files, and what is shown of them.
-use Rattle.std.specs.Prelude.{◌≡◌, ℕ, List, Option, Some}
+use Rattle.std.specs.Prelude.{◌≡◌, ◌⊎◌, ℕ, List, Option, Some}
 use Rattle.yd_ops.specs.Value.{UpdateValue}
-use Rattle.yd_meaning.specs.Received.{Agree, HaveSameContents, operations_of_all}
+use Rattle.yd_updates.specs.Agreement.{AreAlike, Agree, HaveSameContents, SayTheSame, operations_of_all}
 use Rattle.yd_world.specs.Shelf.{Shelf}
 use Rattle.yd_world.specs.Traffic.{Traffic}
 use Rattle.yd_files.specs.Files.{File}
@@ -22,14 +22,24 @@ pub record OneIsDue : Type 0 where
   pub some : (words : List (List ℕ)) (shelf : Shelf) (traffic : Option Traffic) → (due : Due) × IsDue words (Some shelf) traffic due
   pub one : (words : List (List ℕ)) (shelf : Shelf) (traffic : Option Traffic) (due other : Due) → IsDue words (Some shelf) traffic due → IsDue words (Some shelf) traffic other → due ≡ other
 
--- the updates of both have the same operations and deletions, in any order and repeated, and no two operations with one id differ
-pub record AreOneContents (one other : List UpdateValue) : Type 0 where
-  pub agree : Agree (operations_of_all one)
+-- the updates of both have the same operations and deletions, in any order and repeated, and operations with one id are alike
+pub record HaveOneContents (one other : List UpdateValue) : Type 0 where
+  pub alike : AreAlike (operations_of_all one)
   pub same : HaveSameContents one other
 
--- files in any formats, by any names and in any libraries, show the same text of each root where they have the same contents
+-- the updates of both agree, and say the same, so that some of one may be merged in the other
+pub record SayOneThing (one other : List UpdateValue) : Type 0 where
+  pub agree : Agree one
+  pub others_agree : Agree other
+  pub same : SayTheSame one other
+
+-- the updates are the same changes: in any order, repeated, or merged
+abbrev pub AreSameChanges : List UpdateValue → List UpdateValue → Type 0
+AreSameChanges one other = HaveOneContents one other ⊎ SayOneThing one other
+
+-- files in any formats, by any names and in any libraries, show the same text of each root where they are the same changes
 abbrev pub ShowsConverge : Type 0
-ShowsConverge = (shelf other : Shelf) (files others : List File) (one another : List UpdateValue) (root : List ℕ) → StandFor (Some shelf) files one → StandFor (Some other) others another → AreOneContents one another →
+ShowsConverge = (shelf other : Shelf) (files others : List File) (one another : List UpdateValue) (root : List ℕ) → StandFor (Some shelf) files one → StandFor (Some other) others another → AreSameChanges one another →
     (bytes others_bytes : List ℕ) → IsOutputOf (show_text root) one bytes → IsOutputOf (show_text root) another others_bytes → bytes ≡ others_bytes
 
 -- the words ask to show the root of files that are read as these updates, and what is promised for status 0 was written
@@ -39,8 +49,8 @@ pub record Shows (root : List ℕ) (updates : List UpdateValue) (words : List (L
   pub stand : StandFor (Some shelf) files updates
   pub writes : Writes words (Some shelf) taken now
 
--- two runs that show a root of the same contents and answer 0 have written the same
+-- two runs that show a root of the same changes and answer 0 have written the same
 abbrev pub RunsConverge : Type 0
 RunsConverge = (root : List ℕ) (one another : List UpdateValue) (words others : List (List ℕ)) (shelf other : Shelf) (taken now took took_now : Option (List ℕ)) →
-    Shows root one words shelf taken now → Shows root another others other took took_now → AreOneContents one another →
+    Shows root one words shelf taken now → Shows root another others other took took_now → AreSameChanges one another →
     (written : List ℕ) × TakesAll taken now written × TakesAll took took_now written

@@ -1,7 +1,7 @@
 -- What a command writes of the updates that its files stand for: a case for each command (own).
 use Rattle.std.specs.Prelude.{◌≡◌, ℕ, List}
 use Rattle.yd_meaning.specs.Document.{Document, IsDocumentOf}
-use Rattle.yd_meaning.specs.Received.{received_set}
+use Rattle.yd_updates.specs.Received.{received_set}
 use Rattle.yd_ops.specs.Value.{UpdateValue}
 use Rattle.yd_v1.specs.Log.{StandsForLog}
 use Rattle.yd_v1.specs.LogWriting.{log_bytes}

@@ -24,14 +24,15 @@ pub fn one_is_due()
     ensures { OneIsDue }
 {}
 
-/// Files of updates with the same contents show the same, in any order, repeated or translated,
-/// where no two operations with one id differ.
+/// Files of the same changes show the same: in any order, repeated or translated, and merged. The
+/// updates have to agree. Of a merge they also have to keep the collecting rule: no update tells one
+/// half of a pair as deleted and the other half whole.
 pub fn shows_converge()
     ensures { ShowsConverge }
 {}
 
-/// Two runs of `show` over the same contents that answer 0 have written the same, where no two
-/// operations with one id differ.
+/// Two runs of `show` over the same changes that answer 0 have written the same, where their updates
+/// agree.
 pub fn runs_converge()
     ensures { RunsConverge }
 {}

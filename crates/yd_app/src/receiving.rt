@@ -3,7 +3,7 @@
 ghost use Rattle.std.specs.Prelude.{◌≡◌, map, IfOk};
 ghost use Rattle.yd_words.specs.Each.{Each};
 ghost use Rattle.yd_doc.specs.Kept.{received_of};
-ghost use Rattle.yd_meaning.specs.Received.{received_set};
+ghost use Rattle.yd_updates.specs.Received.{received_set};
 ghost use Rattle.yd_ops.specs.Valid.{IsValidUpdate};
 ghost use Rattle.yd_ops.specs.View.{update_value};
 

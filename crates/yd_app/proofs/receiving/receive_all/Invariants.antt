@@ -1,6 +1,6 @@
 use Rattle.std.proofs.Common.{◌≡◌, map, take}
 use Rattle.yd_doc.specs.Kept.{received_of}
-use Rattle.yd_meaning.specs.Received.{received_set}
+use Rattle.yd_updates.specs.Received.{received_set}
 use Rattle.yd_ops.specs.View.{update_value}
 use Rattle.yd_app.proofs.receiving.receive_all.Given as goal
 
