@@ -4,6 +4,7 @@ pub mod JsonLists
 pub mod KeyLemmas
 pub mod CarriedLemmas
 pub mod JsonMapLemmas
+pub mod RowLemmas
 pub mod StayLemmas
 pub mod TextLemmas
 pub mod TextValidLemmas

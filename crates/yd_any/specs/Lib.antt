@@ -1,4 +1,5 @@
 pub mod Tree
+pub mod Rows
 pub mod AnyView
 pub mod JsonView
 pub mod Valid

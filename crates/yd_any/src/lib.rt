@@ -24,6 +24,7 @@ pub mod law;
 mod making;
 mod printing;
 mod reading;
+mod splitting;
 mod text;
 mod writing;
 

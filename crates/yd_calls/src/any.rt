@@ -89,6 +89,17 @@ fn pairs_keep_their_order_and_are_carried_by_their_last_keys(rt: HostRuntime) ->
     is_carried(&rt, &Any::Pairs(pairs), "{\"a\":\"x\",\"b\":true}")
 }
 
+#[test]
+fn a_list_is_cut_in_two(rt: HostRuntime) -> Result<(), Fail> {
+    let mut list = AnyList::new(rt.alloc());
+    list.push(Any::Null)?;
+    list.push(Any::Whole(7))?;
+    list.push(Any::Flag(true))?;
+    let rest = list.split_off(1)?;
+    prints(&rt, &Any::List(list), "[null]")?;
+    prints(&rt, &Any::List(rest), "[7,true]")
+}
+
 fn prints(rt: &(impl Abort + AllocGlobal), value: &Any, want: &str) -> Result<(), Fail> {
     assert!(rt; value.is_valid());
     let copy = value.copy()?;
