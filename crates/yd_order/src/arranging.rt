@@ -33,7 +33,8 @@ use yd_ids::Id;
 /// each row of units, each directly behind the one before, that stands between its left origin and
 /// it: so time with the square where all were put in front of one another. Else it takes time and
 /// bytes with the square of how many units there are. For units that keep the edit rules the scan is
-/// made to propose the answer; no clause says that it does.
+/// made to propose the answer; no clause says that it does. A deleted run in a list counts with each
+/// of its units.
 pub fn arrange_stretches(alloc: Global, stretches: &[Stretch]) -> Result<Vec<Id>, NoMemory>
     requires clocks { Each EndsAtClock stretches.now }
     requires table { IsTable (among_rows (rows_of_stretches stretches.now)) }

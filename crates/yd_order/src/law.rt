@@ -66,21 +66,22 @@ pub fn scans_give_order()
     law::scans_give_order();
 }
 
-/// Where what is held keeps the edit rules, each of its lists is a table that fits.
+/// Where what is held keeps the edit rules, what of it is not lost is an honest set, and each list of
+/// this is a table that fits.
 pub fn honest_lists_fit()
     ensures { HonestListsFit }
 {
     yd_meaning::law::honest_lists_fit();
 }
 
-/// Where what is held keeps the edit rules, the order of each list is strict.
+/// Where what is held keeps the edit rules, the order of each list of what is not lost is strict.
 pub fn honest_order_is_strict()
     ensures { HonestOrderIsStrict }
 {
     yd_meaning::law::honest_order_is_strict();
 }
 
-/// Where what is held keeps the edit rules, integration scans give each list.
+/// Where what is held keeps the edit rules, integration scans give each list of what is not lost.
 pub fn honest_lists_grow_in_order()
     ensures { HonestListsGrowInOrder }
 {
