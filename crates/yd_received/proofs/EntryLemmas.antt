@@ -9,18 +9,19 @@ use Rattle.yd_ids.specs.declared.id.Id.{Id}
 use Rattle.yd_ids.proofs.IdLemmas.{same_client}
 use Rattle.yd_ops.specs.Operation.{later_id}
 use Rattle.yd_received.specs.declared.entry.Entry.{Entry}
+use Rattle.yd_received.specs.declared.place.Place.TheVariants.{Waits}
 use Rattle.yd_received.specs.Entries.{StandsBefore, AreInOrder, covers}
 use Rattle.yd_ops.proofs.OperationLemmas.{later_none, later_later}
 use Rattle.yd_received.specs.Taking.{is_covered, AreCovered, HasUnits, EndsBy, EndsBehind, ends_by, BeginsBehind, IsRoom, IsGap}
 
 -- what is read of a place without an entry
 abbrev pub no_entry : Entry
-no_entry = record { id = record { client = record { 0 = 0 }; clock = 0 }; len = 0; left = None; right = None; run = 0; offset = 0; list = None }
+no_entry = record { id = record { client = record { 0 = 0 }; clock = 0 }; len = 0; left = None; right = None; run = 0; offset = 0; is_gone = false; place = Waits }
 
 -- ---- one entry and an id
 
 -- the clients of the two, as numbers
-client_of : (a b : Id) → a.client ≡ b.client → a.client.0 ≡ b.client.0
+pub client_of : (a b : Id) → a.client ≡ b.client → a.client.0 ≡ b.client.0
 client_of a b e = ap (λ c. c.0) e
 
 pub ends_true : (id : Id) (t : Entry) → ends_by id t ≡ true → EndsBy id t
@@ -65,18 +66,19 @@ entries_parted xs id o i j d le lt t = elim (cases_lt i j) [
   | inr ge ↦ let same : i ≡ j = omega arith in rw same t
 ]
 
-each_from : (P : Entry → Type 0) (xs : List Entry) (n : ℕ) (d : Entry) → Each P (drop n xs) → n < length xs → P (get_or xs n d)
+pub each_from : (P : Entry → Type 0) (xs : List Entry) (n : ℕ) (d : Entry) → Each P (drop n xs) → n < length xs → P (get_or xs n d)
 each_from P [] n d e lt = absurd (omega arith)
 each_from P (x ∷ xs) zero d e lt = e.0
 each_from P (x ∷ xs) (suc n) d e lt = each_from P xs n d e (omega arith)
 
-each_past : (P : Entry → Type 0) (xs : List Entry) (n : ℕ) → length xs ≤ n → Each P (drop n xs)
+pub each_past : (P : Entry → Type 0) (xs : List Entry) (n : ℕ) → length xs ≤ n → Each P (drop n xs)
 each_past P [] zero le = tt
 each_past P [] (suc n) le = tt
 each_past P (x ∷ xs) zero le = absurd (omega arith)
 each_past P (x ∷ xs) (suc n) le = each_past P xs n (omega arith)
 
-begins_from : (id : Id) (count : ℕ) (xs : List Entry) (n : ℕ) (d : Entry) → AreInOrder xs → n < length xs → BeginsBehind id count (get_or xs n d) → Each (BeginsBehind id count) (drop n xs)
+pub begins_from : (id : Id) (count : ℕ) (xs : List Entry) (n : ℕ) (d : Entry) → AreInOrder xs → n < length xs → BeginsBehind id count (get_or xs n d) →
+    Each (BeginsBehind id count) (drop n xs)
 begins_from id count [] n d o lt b = absurd (omega arith)
 begins_from id count (x ∷ xs) zero d o lt b = (b, each_weaker (StandsBefore x) (BeginsBehind id count) (λ t before. begins_through id count x t b before) xs o.0)
 begins_from id count (x ∷ xs) (suc n) d o lt b = begins_from id count xs n d o.1 (omega arith) b
@@ -113,7 +115,8 @@ module _ (xs : List Entry) (n : ℕ) (id : Id) (most : ℕ) (order : AreInOrder 
     ends = λ less. absurd (omega arith);
   }
 
-  pub gap_before : (d : Entry) → n < length xs → (get_or xs n d).id.client.0 ≡ id.client.0 → id.clock < (get_or xs n d).id.clock → IsGap xs n id (min most ((get_or xs n d).id.clock - id.clock)) most
+  pub gap_before : (d : Entry) → n < length xs → (get_or xs n d).id.client.0 ≡ id.client.0 → id.clock < (get_or xs n d).id.clock →
+      IsGap xs n id (min most ((get_or xs n d).id.clock - id.clock)) most
   gap_before d lt same less = record {
     room = record { bound = omega arith; before = before; behind = begins_from id (min most ((get_or xs n d).id.clock - id.clock)) xs n d order lt (inr (same_client id (get_or xs n d).id (sym same), omega arith)) };
     ends = λ fewer. covered_at xs n d (later_id id (min most ((get_or xs n d).id.clock - id.clock))) lt

@@ -7,7 +7,7 @@ use Rattle.yd_words.proofs.EachLemmas.{each_weaker}
 use Rattle.yd_ops.specs.declared.runs.Run.{Run}
 use Rattle.yd_received.specs.declared.entry.Entry.{Entry}
 use Rattle.yd_received.specs.Entries.{GrowBy, IsTakenOf, AreTaken, StaysOfFirst, is_of_first}
-use Rattle.yd_received.specs.Received.{ReceivedValue, undone, is_below}
+use Rattle.yd_received.specs.Received.{undone, is_below}
 
 -- ---- one entry after another
 
@@ -68,10 +68,7 @@ front_back old new (more, e) = ap (take (length old)) e ∙ front old
     front (x ∷ xs) = ap (λ ys. x ∷ ys) (front xs)
 
 -- what was added is gone where the first runs are kept
-pub kept_back : (runs new_runs : List Run) (entries new : List Entry) (count : ℕ) (left : List Run) (rest : List Entry) → AreTaken runs entries → count ≡ length runs →
-    GrowBy runs new_runs → StaysOfFirst (length runs) entries new → left ≡ take count new_runs → rest ≡ filter (is_of_first count) new →
-    ◌≡◌ {A = ReceivedValue} (record { runs = left; entries = rest }) (record { runs = runs; entries = entries })
-kept_back runs new_runs entries new count left rest are same grows stays e f =
-    let fst : left ≡ runs = e ∙ ap (λ n. take n new_runs) same ∙ front_back runs new_runs grows in
-    let snd : rest ≡ entries = f ∙ ap (λ n. filter (is_of_first n) new) same ∙ stays (length runs) (omega arith) ∙ filter-all (length runs) entries (of_first runs entries are.each) in
-    λ i. record { runs = fst i; entries = snd i }
+pub first_back : (runs : List Run) (entries new : List Entry) (count : ℕ) → AreTaken runs entries → count ≡ length runs →
+    StaysOfFirst (length runs) entries new → filter (is_of_first count) new ≡ entries
+first_back runs entries new count are same stays =
+    ap (λ n. filter (is_of_first n) new) same ∙ stays (length runs) (omega arith) ∙ filter-all (length runs) entries (of_first runs entries are.each)

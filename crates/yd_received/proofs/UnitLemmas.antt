@@ -1,13 +1,13 @@
--- The operations of units in a row: a part of them, and their ids.
-use Rattle.std.proofs.Common.{◌≡◌, ℕ, zero, suc, ◌+◌, ◌<◌, Bool, true, false, ◌||◌, ◌&&◌, nat_eq, nat_le, nat_lt, List, [], ◌∷◌, ◌++◌, length, take, drop, Option, Some, None, inl, inr, refl, sym, ap, ◌∙◌, arith, tests}
+-- The operations of units in a row, or of units that are gone: a part of them, and their ids.
+use Rattle.std.proofs.Common.{◌≡◌, ℕ, zero, suc, ◌+◌, ◌<◌, ◌≤◌, Bool, true, false, ◌||◌, ◌&&◌, nat_eq, nat_le, nat_lt, List, [], ◌∷◌, ◌++◌, length, take, drop, Option, Some, None, inl, inr, refl, sym, ap, ◌∙◌, arith, tests}
 use Rattle.std.specs.Prelude.{slice_get}
 use Rattle.yd_words.specs.Member.{IsIn}
 use Rattle.yd_ids.specs.declared.id.Id.{Id}
 use Rattle.yd_ids.specs.Ids.{is_same}
 use Rattle.yd_ops.specs.declared.lists.List.{List as DocList}
-use Rattle.yd_ops.specs.Operation.{UnitContent, Operation, later_id, operations_from}
+use Rattle.yd_ops.specs.Operation.{UnitContent, Operation, later_id, gone_operation, gone_from, operations_from}
 use Rattle.yd_ops.proofs.OperationLemmas.{later_none, later_later}
-use Rattle.yd_meaning.specs.Received.{has_operation}
+use Rattle.yd_updates.specs.Received.{has_operation}
 use Rattle.yd_received.specs.Taking.{left_at, list_from}
 
 -- ---- ids in a row
@@ -75,6 +75,43 @@ has_from id left right list (unit ∷ units) x =
         (is_same id x || (nat_eq id.client.0 x.client.0 && (nat_le (id.clock + 1) x.clock && nat_lt x.clock (id.clock + 1 + n))))
         ≡ (nat_eq id.client.0 x.client.0 && (nat_le id.clock x.clock && nat_lt x.clock (id.clock + suc n)))
     first n = grind (arith, tests)
+
+-- ---- units that are gone
+
+pub length-gone_from : (id : Id) (count : ℕ) → length (gone_from id count) ≡ count
+length-gone_from id zero = refl
+length-gone_from id (suc count) = ap suc (length-gone_from (later_id id 1) count)
+
+-- so many of them from one on
+pub gone_part : (n count : ℕ) (id : Id) (all : ℕ) → n + count ≤ all → take count (drop n (gone_from id all)) ≡ gone_from (later_id id n) count
+gone_part zero zero id all le = refl
+gone_part zero (suc count) id zero le = absurd (omega arith)
+gone_part zero (suc count) id (suc all) le =
+    ap (λ os. gone_operation id ∷ os) (gone_part zero count (later_id id 1) all (omega arith) ∙ ap (λ x. gone_from x count) (later_none (later_id id 1)))
+    ∙ ap (λ x. gone_from x (suc count)) (sym (later_none id))
+gone_part (suc n) zero id zero le = refl
+gone_part (suc n) (suc count) id zero le = absurd (omega arith)
+gone_part (suc n) count id (suc all) le =
+    gone_part n count (later_id id 1) all (omega arith) ∙ ap (λ x. gone_from x count) (later_later id 1 n ∙ later_same id (1 + n) (suc n) (omega arith))
+
+-- an operation is that of one of the ids
+pub from_gone : (id : Id) (count : ℕ) (o : Operation) → IsIn o (gone_from id count) → (i : ℕ) × (i < count) × (o ≡ gone_operation (later_id id i))
+from_gone id zero o j = absurd j
+from_gone id (suc count) o (inl e) = (0, omega arith, e ∙ ap gone_operation (sym (later_none id)))
+from_gone id (suc count) o (inr j) =
+    let (i, lt, e) = from_gone (later_id id 1) count o j in
+    (suc i, omega arith, e ∙ ap gone_operation (later_later id 1 i ∙ later_same id (1 + i) (suc i) (omega arith)))
+
+-- the ids of units that are gone
+pub has_gone : (id : Id) (count : ℕ) (x : Id) →
+    has_operation (gone_from id count) x ≡ (nat_eq id.client.0 x.client.0 && (nat_le id.clock x.clock && nat_lt x.clock (id.clock + count)))
+has_gone id zero x = grind (arith, tests)
+has_gone id (suc count) x = ap (λ t. is_same id x || t) (has_gone (later_id id 1) count x) ∙ one count
+  where
+    one : (n : ℕ) →
+        (is_same id x || (nat_eq id.client.0 x.client.0 && (nat_le (id.clock + 1) x.clock && nat_lt x.clock (id.clock + 1 + n))))
+        ≡ (nat_eq id.client.0 x.client.0 && (nat_le id.clock x.clock && nat_lt x.clock (id.clock + suc n)))
+    one n = grind (arith, tests)
 
 -- ---- operations in a list
 

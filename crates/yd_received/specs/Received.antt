@@ -1,12 +1,16 @@
 -- What contracts see of a `Received`, and how it changes (own).
-use Rattle.std.specs.Prelude.{◌≡◌, ℕ, Bool, nat_lt, List, Some, None, map, filter, set, slice_get, take, if◌then◌else◌}
+use Rattle.std.specs.Prelude.{◌≡◌, ℕ, Bool, true, false, nat_lt, List, [], Some, map, filter, set, slice_get, take, length, if◌then◌else◌}
 use Rattle.yd_ids.specs.declared.id.Client.{Client}
 use Rattle.yd_ids.specs.declared.id.Id.{Id}
 use Rattle.yd_ids.specs.Vector.{clock_of}
 use Rattle.yd_ops.specs.declared.runs.Run.{Run}
 use Rattle.yd_ops.specs.Operation.{Operation}
+use Rattle.yd_received.specs.declared.brought.Brought.{Brought}
+use Rattle.yd_received.specs.declared.brought.Brought.TheVariants.{Nothing, Added, Lowered}
 use Rattle.yd_received.specs.declared.entry.Entry.{Entry}
-use Rattle.yd_received.specs.Entries.{AreTaken, operations_in, held_in, is_of_first}
+use Rattle.yd_received.specs.declared.place.Place.{Place}
+use Rattle.yd_received.specs.declared.place.Place.TheVariants.{Waits}
+use Rattle.yd_received.specs.Entries.{AreTaken, operations_in, held_in, standing_in, is_held, is_of_first, OnlyAdds}
 
 -- the runs that are kept, and the entries of the units that were taken of them
 pub record ReceivedValue : Type 0 where
@@ -21,22 +25,40 @@ taken_of r = operations_in r.runs r.entries
 abbrev pub held_of : ReceivedValue → List Operation
 held_of r = held_in r.runs r.entries
 
+-- those of them that are held and not lost
+abbrev pub listed_of : ReceivedValue → List Operation
+listed_of r = standing_in r.runs r.entries
+
 -- its entries are of its runs, in the order of writing, with whole pairs
 abbrev pub IsReceived : ReceivedValue → Type 0
 IsReceived r = AreTaken r.runs r.entries
 
+-- ---- what is taken in
+
+-- whether an update brought something
+abbrev pub brings : Brought → Bool
+brings Nothing = false
+brings Added = true
+brings (Lowered before) = true
+
+-- nothing changed, or waiting units were added, or all waits and what was there is told
+abbrev pub IsBrought : Brought → ReceivedValue → ReceivedValue → Type 0
+IsBrought Nothing old new = new ≡ old
+IsBrought Added old new = OnlyAdds (length old.runs) old.entries new.entries
+IsBrought (Lowered before) old new = (filter is_held new.entries ≡ []) × (before.items ≡ old.entries)
+
 -- ---- what is held
 
--- the units with the number of a list
-abbrev pub with_number : Entry → ℕ → Entry
-with_number t n = record { id = t.id; len = t.len; left = t.left; right = t.right; run = t.run; offset = t.offset; list = Some n }
+-- the units at another place
+abbrev pub with_place : Entry → Place → Entry
+with_place t p = record { id = t.id; len = t.len; left = t.left; right = t.right; run = t.run; offset = t.offset; is_gone = t.is_gone; place = p }
 
--- an entry at a place got a number, and all else is as it was
-pub record GetsNumber (at number : ℕ) (old new : ReceivedValue) : Type 0 where
+-- an entry got a place, and all else is as it was
+pub record GetsPlace (at : ℕ) (place : Place) (old new : ReceivedValue) : Type 0 where
   pub entry : Entry
   pub there : slice_get old.entries at ≡ Some entry
   pub runs_are : new.runs ≡ old.runs
-  pub placed : new.entries ≡ set old.entries at (with_number entry number)
+  pub placed : new.entries ≡ set old.entries at (with_place entry place)
 
 -- ---- what it was before
 
@@ -46,11 +68,12 @@ is_below vector x = nat_lt x.clock (clock_of vector x.client.0)
 
 -- the units, which wait unless they are below a vector's clocks
 abbrev pub undone : List (Client × ℕ) → Entry → Entry
-undone vector t = if is_below vector t.id then t else waiting
-  where
-    waiting : Entry
-    waiting = record { id = t.id; len = t.len; left = t.left; right = t.right; run = t.run; offset = t.offset; list = None }
+undone vector t = if is_below vector t.id then t else with_place t Waits
 
 -- the first runs alone with what was taken of them, of which waits what is not below the clocks
 abbrev pub put_back : ℕ → List (Client × ℕ) → ReceivedValue → ReceivedValue
 put_back count clocks r = record { runs = take count r.runs; entries = map (undone clocks) (filter (is_of_first count) r.entries) }
+
+-- the first runs alone, with these entries
+abbrev pub put_back_entries : ℕ → List Entry → ReceivedValue → ReceivedValue
+put_back_entries count entries r = record { runs = take count r.runs; entries = entries }

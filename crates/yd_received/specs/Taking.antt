@@ -1,25 +1,31 @@
--- What an update brings that was not received before, and how its runs are taken in, unit after unit (own).
-use Rattle.std.specs.Prelude.{◌≡◌, ℕ, zero, suc, ◌+◌, ◌-◌, ◌<◌, ◌≤◌, ◌⊎◌, Bool, true, false, ◌&&◌, ◌||◌, nat_eq, nat_le, nat_lt, List, [], ◌∷◌, ◌++◌, Option, Some, None, length, take, drop, filter, slice_get}
+-- What an update brings that was not received before, and how its structs are taken in, unit after unit (own).
+use Rattle.std.specs.Prelude.{◌≡◌, ◌↔◌, ℕ, zero, suc, ◌+◌, ◌-◌, ◌<◌, ◌≤◌, ◌⊎◌, Bool, true, false, ◌||◌, ◌&&◌, nat_eq, nat_le, nat_lt, List, [], ◌∷◌, ◌++◌, Option, Some, None, length, take, drop, slice_get, IfSome}
 use Rattle.yd_words.specs.Each.{Each}
 use Rattle.yd_words.specs.Member.{IsIn}
 use Rattle.yd_ids.specs.declared.id.Id.{Id}
-use Rattle.yd_ids.specs.Id.{IsClient, IsClock}
-use Rattle.yd_units.specs.Half.{IsCut}
+use Rattle.yd_ids.specs.Id.{IsId, IsClient, IsClock}
 use Rattle.yd_ops.specs.declared.lists.List.{List as DocList}
 use Rattle.yd_ops.specs.declared.runs.Run.{Run}
-use Rattle.yd_ops.specs.Operation.{Operation, later_id, operations_of_run, operations_of}
-use Rattle.yd_ops.specs.Value.{ContentValue, json, binary, string, embed, nested, any, len_of, RunValue, StructValue, item, skip, UpdateValue, format}
-use Rattle.yd_ops.specs.Valid.{IsRunAt}
+use Rattle.yd_ops.specs.Operation.{Operation, later_id, level_of, gone_from, operations_of_run, operations_of}
+use Rattle.yd_ops.specs.Value.{ContentValue, string, deleted, len_of, RunValue, UpdateValue}
+use Rattle.yd_ops.specs.Valid.{IsValidContent, CarriesList}
 use Rattle.yd_ops.specs.View.{run_value}
-use Rattle.yd_meaning.specs.Received.{has_operation, with_runs}
+use Rattle.yd_updates.specs.Pairs.{as_torn}
+use Rattle.yd_updates.specs.Received.{has_operation}
+use Rattle.yd_updates.specs.Law.{AreAPair}
 use Rattle.yd_received.specs.declared.entry.Entry.{Entry}
-use Rattle.yd_received.specs.Entries.{AreTaken, IsTakenOf, operations_of_taken, operations_in, is_held, covers, GrowBy}
+use Rattle.yd_received.specs.declared.place.Place.TheVariants.{Waits}
+use Rattle.yd_received.specs.Entries.{IsTakenOf, AreInOrder, operations_of_taken, operations_in, covers, PartsPair, GrowBy}
 
--- one of the operations has an id that no received operation has
+-- the id of an operation was not received, or the received one says more
+abbrev pub IsNews : List Operation → Operation → Type 0
+IsNews received o = (has_operation received o.id ≡ false) ⊎ ((p : Operation) × IsIn p received × (p.id ≡ o.id) × (level_of o.content < level_of p.content))
+
+-- one of the operations has an id that no received operation has, or says less than the one that has it
 abbrev pub BringsOne : List Operation → List Operation → Type 0
-BringsOne os received = (o : Operation) × IsIn o os × (has_operation received o.id ≡ false)
+BringsOne os received = (o : Operation) × IsIn o os × IsNews received o
 
--- an operation of the update has an id that no received operation has
+-- an operation of the update has an id that no received operation has, or says less than the one that has it
 abbrev pub BringsOperation : UpdateValue → List Operation → Type 0
 BringsOperation update received = BringsOne (operations_of update) received
 
@@ -67,16 +73,6 @@ pub record IsGap (taken : List Entry) (at : ℕ) (id : Id) (count most : ℕ) : 
 
 -- ---- units of a run
 
--- a cut before unit n of the content parts a pair
-abbrev pub PartsPair : ContentValue → ℕ → Type 0
-PartsPair (json values) n = ⊥
-PartsPair (binary blob) n = ⊥
-PartsPair (string units) n = IsCut units n
-PartsPair (embed t) n = ⊥
-PartsPair (format key t) n = ⊥
-PartsPair (nested kind) n = ⊥
-PartsPair (any ts) n = ⊥
-
 -- the left origin of a run's unit n: that of the run, or else the unit before
 abbrev pub left_at : Id → Option Id → ℕ → Option Id
 left_at id left zero = left
@@ -106,8 +102,18 @@ entry_of run n index offset count = record {
   right = run.right;
   run = index;
   offset = offset;
-  list = None;
+  is_gone = false;
+  place = Waits;
 }
+
+-- what is kept of units that are gone
+abbrev pub gone_entry : Id → ℕ → ℕ → Entry
+gone_entry id index count = record { id = id; len = count; left = None; right = None; run = index; offset = 0; is_gone = true; place = Waits }
+
+-- what is kept of a run's units from unit n on, or of units that are gone, which are those of a kept run
+abbrev pub entry_from : Bool → RunValue → ℕ → ℕ → ℕ → Entry
+entry_from true run n index count = gone_entry (later_id run.id n) index count
+entry_from false run n index count = entry_of run n index n count
 
 -- units from one on, of those up to another that are new: whole pairs that are taken as they are, or one half of a pair
 -- whose other half is not new, which is taken as U+FFFD
@@ -119,16 +125,23 @@ pub record IsPiece (content : ContentValue) (from to count : ℕ) (is_torn : Boo
 
 -- ---- steps
 
--- the run is valid wherever it stands
-pub record IsRun (run : RunValue) : Type 0 where
-  pub valid : IsRunAt run.id.client run.id.clock run
+-- the operations of a run, or of as many units that are gone
+abbrev pub operations_from_run : Bool → RunValue → List Operation
+operations_from_run true run = gone_from run.id (len_of run.content)
+operations_from_run false run = operations_of_run run
+
+-- the run has origins or a list; one that stands for units that are gone has no content
+abbrev pub HasOrigins : Bool → RunValue → Type 0
+HasOrigins true run = run.content ≡ deleted (len_of run.content)
+HasOrigins false run = IfSome run.left IsId × IfSome run.right IsId × CarriesList run.left run.right run.list
+
+-- the run is valid wherever it stands, or stands for units that are gone
+pub record IsRun (is_gone : Bool) (run : RunValue) : Type 0 where
+  pub has_units : 0 < len_of run.content
+  pub origins : HasOrigins is_gone run
+  pub content : IsValidContent run.content
   pub client : IsClient run.id.client
   pub end : IsClock (run.id.clock + len_of run.content)
-
--- a struct is such a run, or brings nothing
-abbrev pub IsTakeable : StructValue → Type 0
-IsTakeable (item run) = IsRun run
-IsTakeable (skip count) = Unit {0}
 
 -- the run is kept at this place
 pub record IsKept (runs : List Run) (at : ℕ) (run : RunValue) : Type 0 where
@@ -144,13 +157,12 @@ pub record Adds (old_runs : List Run) (old : List Entry) (runs : List Run) (take
   pub of_run : IsTakenOf runs entry
   pub first : entry.id ≡ id
   pub as_many : entry.len ≡ count
-  pub waits : is_held entry ≡ false
   pub operations : operations_of_taken runs entry ≡ os
 
--- the operations of a piece of a run
-abbrev pub operations_of_piece : RunValue → ℕ → ℕ → Bool → List Operation
-operations_of_piece run from count true = operations_of_run (half_at run from)
-operations_of_piece run from count false = take count (drop from (operations_of_run run))
+-- the operations of a piece of a run, or of units that are gone
+abbrev pub operations_of_piece : Bool → RunValue → ℕ → ℕ → Bool → List Operation
+operations_of_piece is_gone run from count true = operations_of_run (half_at run from)
+operations_of_piece is_gone run from count false = take count (drop from (operations_from_run is_gone run))
 
 -- the units of a run from one up to another were taken before, and nothing changes
 pub record IsPassed (old_runs : List Run) (old : List Entry) (runs : List Run) (taken : List Entry) (run : RunValue) (from count : ℕ) : Type 0 where
@@ -159,21 +171,36 @@ pub record IsPassed (old_runs : List Run) (old : List Entry) (runs : List Run) (
   pub covered : AreCovered old (later_id run.id from) count
 
 -- or they are the first piece of those that are new, and are taken
-pub record IsTakenNext (old_runs : List Run) (old : List Entry) (runs : List Run) (taken : List Entry) (run : RunValue) (from count : ℕ) : Type 0 where
+pub record IsTakenNext (is_gone : Bool) (old_runs : List Run) (old : List Entry) (runs : List Run) (taken : List Entry) (run : RunValue) (from count : ℕ) : Type 0 where
   pub at : ℕ
   pub new : ℕ
   pub torn : Bool
   pub gap : IsGap old at (later_id run.id from) new (len_of run.content - from)
   pub piece : IsPiece run.content from (from + new) count torn
-  pub adds : Adds old_runs old runs taken at (later_id run.id from) count (operations_of_piece run from count torn)
+  pub adds : Adds old_runs old runs taken at (later_id run.id from) count (operations_of_piece is_gone run from count torn)
 
 -- what was received is as it was, with no more runs
 abbrev pub AreUnchanged : List Run → List Entry → List Run → List Entry → Type 0
 AreUnchanged old_runs old runs taken = (runs ≡ old_runs) × (taken ≡ old)
 
--- runs are taken in: what was taken is what the definition says, with the ids of these operations
-pub record TakesIn (old_runs : List Run) (old : List Entry) (runs : List Run) (taken : List Entry) (more : List RunValue) (os : List Operation) : Type 0 where
-  pub received : operations_in runs taken ≡ with_runs more (operations_in old_runs old)
-  pub ids : (x : Id) → has_operation (operations_in runs taken) x ≡ has_operation (operations_in old_runs old) x || has_operation os x
-  pub kept : AreTaken runs taken
-  pub held : filter is_held taken ≡ filter is_held old
+-- a half whose partner comes with it, and the id of that was there
+abbrev pub IsParted : List Operation → List Operation → Operation → Type 0
+IsParted group old o = (p : Operation) × IsIn p group × AreAPair o p × (has_operation old p.id ≡ true)
+
+-- an operation that is new: as it came, or as U+FFFD
+abbrev pub IsAddedAs : List Operation → List Operation → Operation → Operation → Type 0
+IsAddedAs group old o q = ((q ≡ o) × (IsParted group old o → ⊥)) ⊎ ((q ≡ as_torn true o) × IsParted group old o)
+
+-- the operation is one of those with new ids, as it was taken
+abbrev pub IsAdded : List Operation → List Operation → List Operation → Operation → Type 0
+IsAdded group old part q = (o : Operation) × IsIn o part × (has_operation old o.id ≡ false) × IsAddedAs group old o q
+
+-- operations with new ids were added, and none that was there is another
+pub record AddsGroup (old_runs : List Run) (old : List Entry) (runs : List Run) (taken : List Entry) (group : List Operation) : Type 0 where
+  pub operations : (q : Operation) → IsIn q (operations_in runs taken) ↔ (IsIn q (operations_in old_runs old) ⊎ IsAdded group (operations_in old_runs old) group q)
+  pub each : Each (IsTakenOf runs) taken
+  pub in_order : AreInOrder taken
+
+-- one of the operations has a new id
+abbrev pub AddsOne : List Operation → List Operation → Type 0
+AddsOne group old = (o : Operation) × IsIn o group × (has_operation old o.id ≡ false)

@@ -80,7 +80,7 @@ pub(crate) fn known_from(taken: &[Entry], id: Id, most: u64) -> u64
 }
 
 /// How many entries are written wholly before the id.
-fn place(taken: &[Entry], id: Id) -> usize
+pub(crate) fn place(taken: &[Entry], id: Id) -> usize
     requires { AreInOrder taken.now }
     ensures bound { result ≤ length taken.now }
     ensures before { Each (EndsBy id) (take result taken.now) }

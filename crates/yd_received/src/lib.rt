@@ -1,25 +1,35 @@
 //! What was received: runs, and of each the units that were taken, since their ids were new.
 //!
-//! Taking in an update adds what `yd_meaning` defines: the operations with new ids, and of a pair
-//! with one new half that half as U+FFFD ([`Received::take`]). What was held stays as it was. The
-//! entries stand in the order of writing, so an id is found by bisection ([`Received::entry_of`],
-//! [`Received::entry_at`]). A call that finds no memory has changed nothing.
+//! Taking in an update gives what `yd_updates` defines: operations with new ids are added, what
+//! says less lowers what was there to deleted or gone, and a half whose partner is not there is
+//! U+FFFD ([`Received::take`]). The entries stand in the order of writing, so an id is found by
+//! bisection ([`Received::entry_of`], [`Received::entry_at`]). No unit of a deleted or gone run is
+//! walked, and one struct may have as many as there are clocks. Where an update lowers nothing, what
+//! was held stays as it was; where it lowers something all waits, to be held anew, and the contents
+//! of what was lowered stay in their runs. A call that finds no memory has changed nothing.
 //!
 //! ```rust
 //! let mut received = Received::new(alloc);
-//! let brings = received.take(&update)?;
+//! let brought = received.take(&update)?;
 //! ```
 #![tactic(auto)]
 
+mod brought;
 mod entry;
 mod fault;
 mod gaps;
 mod lookup;
+mod lowering;
 mod pieces;
+mod place;
 mod received;
 mod restoring;
+mod splitting;
+mod structs;
 mod taking;
 
+pub use brought::Brought;
 pub use entry::Entry;
 pub use fault::NoMemory;
+pub use place::Place;
 pub use received::Received;

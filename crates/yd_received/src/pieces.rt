@@ -1,18 +1,19 @@
 //! Units of a run that are taken together: whole pairs, or a half whose other half came before.
 
 ghost use Rattle.std.specs.Prelude.{◌≡◌, ◌↔◌, ◌≤◌, ◌<◌, ◌+◌, true, [], ◌∷◌, ◌++◌};
-ghost use Rattle.std.specs.Prelude.{IsTrue, IfOk, OnOk, length, take, drop};
+ghost use Rattle.std.specs.Prelude.{IsTrue, IfOk, OnOk, length, take, drop, ℕ};
 ghost use Rattle.yd_ids.specs.Id.{IsClock};
 ghost use Rattle.yd_ops.specs.declared.runs.Run.{Run};
 ghost use Rattle.yd_ops.specs.Operation.{later_id};
 ghost use Rattle.yd_ops.specs.Value.{len_of};
 ghost use Rattle.yd_ops.specs.View.{content_value, run_value};
-ghost use Rattle.yd_received.specs.Entries.{StaysOfFirst, GrowBy};
-ghost use Rattle.yd_received.specs.Taking.{PartsPair, IsPiece, left_at, list_from, half_at, IsRun};
-ghost use Rattle.yd_received.specs.Taking.{IsKept, Adds, operations_of_piece, entry_of};
+ghost use Rattle.yd_received.specs.Entries.{PartsPair, OnlyAdds, GrowBy};
+ghost use Rattle.yd_received.specs.Taking.{IsPiece, left_at, list_from, half_at, IsRun};
+ghost use Rattle.yd_received.specs.Taking.{IsKept, Adds, operations_of_piece, entry_of, entry_from};
 
 use crate::entry::Entry;
 use crate::fault::NoMemory;
+use crate::place::Place;
 use std::alloc::Global;
 use yd_ids::Id;
 use yd_ops::{Content, List, Run};
@@ -57,7 +58,7 @@ pub(crate) fn first_piece(content: &Content, from: u64, to: u64) -> Piece
 }
 
 /// A cut before unit `n` would part a pair.
-fn parts_pair(content: &Content, n: u64) -> bool
+pub(crate) fn parts_pair(content: &Content, n: u64) -> bool
     ensures { IsTrue result ↔ PartsPair (content_value content.now) n }
 {
     match content {
@@ -66,34 +67,36 @@ fn parts_pair(content: &Content, n: u64) -> bool
     }
 }
 
-/// Takes a piece of a run that is kept at an index, in the time of an insertion.
+/// Takes a piece of a run that is kept at an index, or of units that are gone for which it stands,
+/// in the time of an insertion.
 pub(crate) fn take_piece(
     alloc: Global,
     runs: &mut Vec<Run>,
     taken: &mut Vec<Entry>,
     run: &Run,
+    is_gone: bool,
     index: usize,
     at: usize,
     from: u64,
     piece: Piece,
 ) -> Result<(), NoMemory>
-    requires run { IsRun (run_value run.now) }
+    requires run { IsRun is_gone (run_value run.now) }
     requires kept { IsKept runs.old.items index (run_value run.now) }
     requires place { at ≤ length taken.old.items }
-    requires some { 0 < piece.len }
     requires bound { from + piece.len ≤ len_of (content_value run.now.content) }
-    requires torn { piece.is_torn ≡ true → piece.len ≡ 1 }
+    requires piece { (to : ℕ) × IsPiece (content_value run.now.content) from to
+        piece.len piece.is_torn }
     ensures added { OnOk result (Adds runs.old.items taken.old.items
         runs.new.items taken.new.items at (later_id run.now.id from) piece.len
-        (operations_of_piece (run_value run.now) from piece.len piece.is_torn)) }
+        (operations_of_piece is_gone (run_value run.now) from piece.len piece.is_torn)) }
     ensures grows { GrowBy runs.old.items runs.new.items }
-    ensures first { StaysOfFirst index taken.old.items taken.new.items }
+    ensures adds { OnlyAdds index taken.old.items taken.new.items }
 {
     if piece.is_torn {
         take_half(alloc, runs, taken, run, at, from)?;
         return Ok(());
     }
-    take_whole(taken, run, index, at, from, piece.len)?;
+    take_whole(taken, run, is_gone, index, at, from, piece.len)?;
     Ok(())
 }
 
@@ -101,6 +104,7 @@ pub(crate) fn take_piece(
 fn take_whole(
     taken: &mut Vec<Entry>,
     run: &Run,
+    is_gone: bool,
     index: usize,
     at: usize,
     from: u64,
@@ -109,20 +113,41 @@ fn take_whole(
     requires place { at ≤ length taken.old.items }
     requires fits { IsClock (run.now.id.clock + from) }
     ensures entry { OnOk result (taken.new.items ≡ take at taken.old.items
-        ++ entry_of (run_value run.now) from index from len ∷ drop at taken.old.items) }
-    ensures first { StaysOfFirst index taken.old.items taken.new.items }
+        ++ entry_from is_gone (run_value run.now) from index len ∷ drop at taken.old.items) }
+    ensures adds { OnlyAdds index taken.old.items taken.new.items }
 {
-    let entry = Entry {
+    let entry = entry_from(run, is_gone, index, from, len);
+    taken.insert(at, entry)?;
+    Ok(())
+}
+
+/// What is kept of units of a run, or of units that are gone.
+fn entry_from(run: &Run, is_gone: bool, index: usize, from: u64, len: u64) -> Entry
+    requires { IsClock (run.now.id.clock + from) }
+    ensures { result ≡ entry_from is_gone (run_value run.now) from index len }
+{
+    if is_gone {
+        return Entry {
+            id: id_at(run, from),
+            len,
+            left: None,
+            right: None,
+            run: index,
+            offset: 0,
+            is_gone: true,
+            place: Place::Waits,
+        };
+    }
+    Entry {
         id: id_at(run, from),
         len,
         left: left_at(run, from),
         right: run.right,
         run: index,
         offset: from,
-        list: None,
-    };
-    taken.insert(at, entry)?;
-    Ok(())
+        is_gone: false,
+        place: Place::Waits,
+    }
 }
 
 /// Takes a unit of a run as U+FFFD, as a run of its own.
@@ -142,7 +167,7 @@ fn take_half(
         ++ entry_of (run_value run.now) from (length runs.old.items) 0 1
         ∷ drop at taken.old.items) }
     ensures grows { GrowBy runs.old.items runs.new.items }
-    ensures first { StaysOfFirst (length runs.old.items) taken.old.items taken.new.items }
+    ensures adds { OnlyAdds (length runs.old.items) taken.old.items taken.new.items }
 {
     let half = half_at(alloc, run, from)?;
     let index = runs.len();
@@ -153,7 +178,8 @@ fn take_half(
         right: half.right,
         run: index,
         offset: 0,
-        list: None,
+        is_gone: false,
+        place: Place::Waits,
     };
     runs.push(half)?;
     taken.insert(at, entry)?;
@@ -165,7 +191,7 @@ fn half_at(alloc: Global, run: &Run, n: u64) -> Result<Run, NoMemory>
     requires { IsClock (run.now.id.clock + n) }
     ensures { IfOk result (λ half. run_value half ≡ half_at (run_value run.now) n) }
 {
-    let units = Units::from_text(alloc, "\u{FFFD}")?;
+    let units = replacement(alloc)?;
     let list = list_at(run, n)?;
     Ok(Run {
         id: id_at(run, n),
@@ -174,6 +200,14 @@ fn half_at(alloc: Global, run: &Run, n: u64) -> Result<Run, NoMemory>
         list,
         content: Content::Str(units),
     })
+}
+
+/// The one unit that stands for a half without its partner.
+pub(crate) fn replacement(alloc: Global) -> Result<Units, NoMemory>
+    ensures { IfOk result (λ units. units ≡ 0xFFFD ∷ []) }
+{
+    let units = Units::from_text(alloc, "\u{FFFD}")?;
+    Ok(units)
 }
 
 /// The id of a run's unit `n`.

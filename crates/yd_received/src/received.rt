@@ -1,21 +1,22 @@
 //! What was received, as one value.
 
-ghost use Rattle.std.specs.Prelude.{◌≡◌, ◌≢◌, ◌↔◌, ◌<◌, [], true, length, filter, IsTrue, OnOk, OnErr, IfOk, IfSome, IfNone};
-ghost use Rattle.std.specs.Prelude.{HoldsAt};
-ghost use Rattle.std.specs.Bool.{OnFalse};
+ghost use Rattle.std.specs.Prelude.{◌≡◌, ◌≢◌, ◌↔◌, ◌<◌, [], length, IsTrue, OnOk, OnErr, IfOk, IfSome, IfNone};
+ghost use Rattle.std.specs.Prelude.{HoldsAt, true};
 ghost use Rattle.yd_words.specs.Each.{Each};
 ghost use Rattle.yd_ops.specs.Valid.{IsValidUpdate};
 ghost use Rattle.yd_ops.specs.View.{update_value};
-ghost use Rattle.yd_meaning.specs.Received.{with_runs, runs_of};
-ghost use Rattle.yd_received.specs.Entries.{covers, is_held, StaysOfFirst, GrowBy};
-ghost use Rattle.yd_received.specs.Received.{IsReceived, taken_of, GetsNumber, put_back};
+ghost use Rattle.yd_updates.specs.Received.{with_groups, groups_of};
+ghost use Rattle.yd_received.specs.Entries.{covers, GrowBy};
+ghost use Rattle.yd_received.specs.Received.{IsReceived, taken_of, brings, IsBrought, GetsPlace, put_back, put_back_entries};
 ghost use Rattle.yd_received.specs.Taking.{is_covered, BringsOperation};
 
+use crate::brought::Brought;
 use crate::entry::Entry;
 use crate::fault::NoMemory;
 use crate::lookup::{entry_at, entry_of};
+use crate::place::Place;
 use crate::restoring::{keep_first, undo_holding};
-use crate::taking::take_blocks;
+use crate::structs::take_update;
 use std::alloc::Global;
 use std::marker::Model;
 use yd_ids::{Id, Vector};
@@ -60,7 +61,8 @@ impl Received {
         }
     }
 
-    /// The runs. Those that came later stand behind the others.
+    /// The runs. Those that came later stand behind the others. What is told no more of a run stays
+    /// in it.
     pub fn runs(&self) -> &[Run]
         ensures { result.now ≡ self.now.runs }
     {
@@ -80,35 +82,24 @@ impl Received {
         *self.runs.allocator()
     }
 
-    /// Takes in the operations of an update, and answers whether one had a new id; where none had,
-    /// nothing changes. Each run of which a unit is new is copied once. For each entry that has ids
-    /// of a run, and each new one, it takes a bisection and an insertion. Where memory ends nothing
-    /// was taken.
-    pub fn take(&mut self, update: &Update) -> Result<bool, NoMemory>
+    /// Takes in the operations of an update, and answers what that did: an operation may have a new
+    /// id, or say less than the one that was there. Each run of which a unit is new is copied once.
+    /// For each entry that has ids of a run, and each new or lowered one, it takes a bisection and an
+    /// insertion. Before the first entry is lowered the entries are copied, and then all of them wait.
+    /// Where memory ends nothing was taken.
+    pub fn take(&mut self, update: &Update) -> Result<Brought, NoMemory>
         requires { IsValidUpdate (update_value update.now) }
         ensures received { OnOk result (taken_of self.new
-            ≡ with_runs (runs_of (update_value update.now)) (taken_of self.old)) }
-        ensures brings { IfOk result (λ brings. IsTrue brings
+            ≡ with_groups (groups_of (update_value update.now)) (taken_of self.old)) }
+        ensures brings { IfOk result (λ brought. IsTrue (brings brought)
             ↔ BringsOperation (update_value update.now) (taken_of self.old)) }
-        ensures same { IfOk result (λ brings. OnFalse brings (self.new ≡ self.old)) }
+        ensures brought { IfOk result (λ brought. IsBrought brought self.old self.new) }
         ensures kept { IsReceived self.new }
-        ensures held { OnOk result (filter is_held self.new.entries
-            ≡ filter is_held self.old.entries) }
         ensures grows { OnOk result (GrowBy self.old.runs self.new.runs) }
-        ensures first { OnOk result (StaysOfFirst (length self.old.runs)
-            self.old.entries self.new.entries) }
         ensures unchanged { OnErr result (self.new ≡ self.old) }
     {
-        let alloc = *self.runs.allocator();
-        let count = self.runs.len();
-        let blocks = update.blocks.as_slice();
-        match take_blocks(alloc, &mut self.runs, &mut self.entries, blocks) {
-            Ok(brings) => Ok(brings),
-            Err(NoMemory) => {
-                keep_first(&mut self.runs, &mut self.entries, count);
-                Err(NoMemory)
-            }
-        }
+        let result = take_update(&mut self.runs, &mut self.entries, update);
+        result
     }
 
     /// The place, from 0, of the entry whose units have the id. It takes no memory, and time with
@@ -131,25 +122,32 @@ impl Received {
         entry_at(&self.entries, id)
     }
 
-    /// Notes that the entry at a place is held, in the list with a number.
-    pub fn hold(&mut self, at: usize, number: usize)
+    /// Notes where the entry at a place stands.
+    pub fn hold(&mut self, at: usize, place: Place)
         requires { at < length self.old.entries }
-        ensures { GetsNumber at number self.old self.new }
+        ensures { GetsPlace at place self.old self.new }
     {
         let entry = self.entries[at];
-        self.entries[at] = Entry {
-            list: Some(number),
-            ..entry
-        };
+        self.entries[at] = Entry { place, ..entry };
     }
 
     /// Puts back what it was when it had the first runs alone, and what is not below these clocks
-    /// waited. It takes time with the number of entries.
+    /// waited, if only new units were added since. It takes time with the number of entries.
     pub fn put_back(&mut self, count: usize, clocks: &Vector)
         requires { IsReceived (put_back count clocks.now self.old) }
         ensures { self.new ≡ put_back count clocks.now self.old }
     {
-        keep_first(&mut self.runs, &mut self.entries, count);
+        self.runs.truncate(count);
+        keep_first(&mut self.entries, count);
         undo_holding(&mut self.entries, clocks);
+    }
+
+    /// Puts back the entries that it had when it had the first runs alone.
+    pub fn put_back_entries(&mut self, count: usize, entries: Vec<Entry>)
+        requires { IsReceived (put_back_entries count entries.items self.old) }
+        ensures { self.new ≡ put_back_entries count entries.items self.old }
+    {
+        self.runs.truncate(count);
+        self.entries = entries;
     }
 }

@@ -3,19 +3,19 @@
 ghost use Rattle.std.specs.Prelude.{◌≡◌, map, filter, take};
 ghost use Rattle.yd_words.specs.Each.{Each};
 ghost use Rattle.yd_ids.specs.Id.{IsId};
+ghost use Rattle.yd_received.specs.declared.place.Place.TheVariants.{Waits};
+ghost use Rattle.yd_received.specs.declared.entry.Entry.{Entry};
 ghost use Rattle.yd_received.specs.Entries.{is_of_first};
-ghost use Rattle.yd_received.specs.Received.{undone};
+ghost use Rattle.yd_received.specs.Received.{undone, with_place};
 
 use crate::entry::Entry;
+use crate::place::Place;
 use yd_ids::Vector;
-use yd_ops::Run;
 
-/// Keeps the first runs, and what was taken of them.
-pub(crate) fn keep_first(runs: &mut Vec<Run>, entries: &mut Vec<Entry>, count: usize)
-    ensures runs { runs.new.items ≡ take count runs.old.items }
-    ensures entries { entries.new.items ≡ filter (is_of_first count) entries.old.items }
+/// Keeps what was taken of the first runs.
+pub(crate) fn keep_first(entries: &mut Vec<Entry>, count: usize)
+    ensures { entries.new.items ≡ filter (is_of_first count) entries.old.items }
 {
-    runs.truncate(count);
     entries.retain(|entry| is_of_first(*entry, count));
 }
 
@@ -46,7 +46,20 @@ fn undone(entry: Entry, clocks: &Vector) -> Entry
         return entry;
     }
     Entry {
-        list: None,
+        place: Place::Waits,
         ..entry
+    }
+}
+
+/// Lets all units wait.
+pub(crate) fn let_wait(entries: &mut Vec<Entry>)
+    ensures { entries.new.items ≡ map (λ (t : Entry). with_place t Waits) entries.old.items }
+{
+    for at in 0..entries.len() {
+        let entry = entries[at];
+        entries[at] = Entry {
+            place: Place::Waits,
+            ..entry
+        };
     }
 }

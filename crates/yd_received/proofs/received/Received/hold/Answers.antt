@@ -1,8 +1,8 @@
 use Rattle.std.proofs.Common.{◌<◌, length, set, refl, sym, ap, ◌∙◌, arith}
 use Rattle.std.specs.Prelude.{slice_get}
 use Rattle.std.proofs.lemmas.Option.{slice_get_read}
-use Rattle.yd_received.specs.Received.{ReceivedValue, with_number}
-use Rattle.yd_received.proofs.ChangeLemmas.{are_taken-number}
+use Rattle.yd_received.specs.Received.{ReceivedValue, with_place}
+use Rattle.yd_received.proofs.ChangeLemmas.{are_taken-place}
 use Rattle.yd_received.proofs.received.Received.hold.Goals as goal
 
 pub invariant_of-self : goal.invariant_of-self
@@ -10,7 +10,7 @@ invariant_of-self c =
     let entries = c.self.inside.entries.items in
     let entry = c.index-entry.result.now in
     let lt : c.args.at < length entries = omega (arith, c.requires, ap (λ (p : ReceivedValue). length p.entries) c.self.view_is) in
-    are_taken-number entry c.args.number c.self.inside.runs.items entries c.args.at
+    are_taken-place entry c.args.place c.self.inside.runs.items entries c.args.at
     (slice_get_read entries (length entries) c.args.at entry refl lt c.index-entry.ensures) c.self.invariant
 
 pub returns : goal.returns
@@ -23,5 +23,5 @@ returns c =
       there = ap (λ (p : ReceivedValue). slice_get p.entries c.args.at) (sym c.self.view_is)
           ∙ slice_get_read entries (length entries) c.args.at entry refl lt c.index-entry.ensures;
       runs_are = ap (λ (p : ReceivedValue). p.runs) c.self.view_is;
-      placed = ap (λ (p : ReceivedValue). set p.entries c.args.at (with_number entry c.args.number)) c.self.view_is;
+      placed = ap (λ (p : ReceivedValue). set p.entries c.args.at (with_place entry c.args.place)) c.self.view_is;
     }

@@ -1,19 +1,10 @@
-use Rattle.std.proofs.Common.{◌∙◌, sym, subst}
-use Rattle.yd_received.specs.Received.{IsReceived}
-use Rattle.yd_received.proofs.RestoringLemmas.{kept_back}
+use Rattle.std.proofs.Common.{◌↔◌, subst}
+use Rattle.std.specs.Prelude.{IsTrue, IfOk}
+use Rattle.yd_ops.specs.View.{update_value}
+use Rattle.yd_received.specs.Received.{taken_of, brings}
+use Rattle.yd_received.specs.Taking.{BringsOperation}
 use Rattle.yd_received.proofs.received.Received.take.Goals as goal
 
-pub invariant_of-self-in-Err : goal.invariant_of-self-in-Err
-invariant_of-self-in-Err c =
-    subst IsReceived (sym (kept_back c.self.inside.runs.items c.take_blocks.new.runs.items c.self.inside.entries.items c.take_blocks.new.taken.items c.len-count.result _ _
-    c.self.invariant (c.len-count.ensures ∙ c.self.inside.runs.ok.0) c.take_blocks.ensures.grows c.take_blocks.ensures.first c.keep_first.ensures.runs c.keep_first.ensures.entries))
-    c.self.invariant
-
-pub returns-in-Err-clause-kept : goal.returns-in-Err-clause-kept
-returns-in-Err-clause-kept c = invariant_of-self-in-Err c
-
-pub returns-in-Err-clause-unchanged : goal.returns-in-Err-clause-unchanged
-returns-in-Err-clause-unchanged c =
-    kept_back c.self.inside.runs.items c.take_blocks.new.runs.items c.self.inside.entries.items c.take_blocks.new.taken.items c.len-count.result _ _
-    c.self.invariant (c.len-count.ensures ∙ c.self.inside.runs.ok.0) c.take_blocks.ensures.grows c.take_blocks.ensures.first c.keep_first.ensures.runs c.keep_first.ensures.entries
-    ∙ c.self.view_is
+pub returns-clause-brings : goal.returns-clause-brings
+returns-clause-brings c =
+    subst (λ v. IfOk c.take_update-result.result (λ brought. IsTrue (brings brought) ↔ BringsOperation (update_value c.args.update.now) (taken_of v))) c.self.view_is c.take_update-result.ensures.brings

@@ -1,0 +1,22 @@
+use Rattle.yd_ops.specs.View.{run_value}
+use Rattle.yd_received.proofs.BackedLemmas.{backed_adds, backed_grown}
+use Rattle.yd_received.proofs.StructLemmas.{less_taken, less_brings}
+use Rattle.yd_received.proofs.structs.take_less.Goals as goal
+
+pub returns-clause-taken : goal.returns-clause-taken
+returns-clause-taken c =
+    less_taken c.args.is_gone c.args.runs.now.items c.args.taken.now.items (run_value c.args.run.now) c.requires.taken c.requires.run c.requires.deleted
+    c.add_run.new.runs.items c.add_run.new.taken.items c.in_ok-adds.ensures.added c.in_ok-lowers.lowers c.lower.new.runs.items c.lower.new.taken.items
+    (rw (c.len.ensures, c.level_from-level.ensures) at c.in_ok-lowers.ensures.says) (rw (c.len.ensures, c.level_from-level.ensures) at c.in_ok-lowers.ensures.lowered)
+    c.in_ok-lowers.ensures.unchanged
+
+pub returns-clause-brings : goal.returns-clause-brings
+returns-clause-brings c =
+    less_brings c.args.is_gone c.args.runs.now.items c.args.taken.now.items (run_value c.args.run.now) c.requires.taken c.requires.run c.requires.deleted
+    c.add_run.new.runs.items c.add_run.new.taken.items c.in_ok-adds.ensures.added c.in_ok-adds.adds c.in_ok-lowers.lowers c.in_ok-adds.ensures.says
+    (rw (c.len.ensures, c.level_from-level.ensures) at c.in_ok-lowers.ensures.says)
+
+pub returns-clause-backed : goal.returns-clause-backed
+returns-clause-backed c =
+    backed_grown c.args.runs.now.items c.add_run.new.runs.items c.args.before.now c.args.before.now c.lower.new.before c.args.taken.now.items c.add_run.new.taken.items c.lower.new.taken.items
+    c.in_ok-adds.ensures.grows (backed_adds _ c.args.before.now c.args.taken.now.items c.add_run.new.taken.items c.in_ok-adds.ensures.adds) c.in_ok-lowers.ensures.backed

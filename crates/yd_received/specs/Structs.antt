@@ -1,0 +1,50 @@
+-- How structs are taken in, one after another (own).
+use Rattle.std.specs.Prelude.{◌≡◌, ℕ, ◌+◌, Bool, true, false, List, Option, Some, None, filter, map}
+use Rattle.std.specs.Global.{Vec}
+use Rattle.yd_ids.specs.declared.id.Id.{Id}
+use Rattle.yd_ids.specs.Id.{IsClient, IsClock}
+use Rattle.yd_ops.specs.declared.runs.Run.{Run}
+use Rattle.yd_ops.specs.Operation.{Operation}
+use Rattle.yd_ops.specs.Value.{deleted, clocks_of, RunValue, StructValue}
+use Rattle.yd_ops.specs.Valid.{IsStructAt}
+use Rattle.yd_updates.specs.Received.{with_groups}
+use Rattle.yd_received.specs.declared.brought.Brought.{Brought}
+use Rattle.yd_received.specs.declared.brought.Brought.TheVariants.{Nothing, Added, Lowered}
+use Rattle.yd_received.specs.declared.entry.Entry.{Entry}
+use Rattle.yd_received.specs.declared.place.Place.TheVariants.{Waits}
+use Rattle.yd_received.specs.Entries.{AreTaken, operations_in, is_of_first}
+use Rattle.yd_received.specs.Received.{with_place}
+
+-- the struct begins at the id, and ends at a clock
+pub record IsStructOf (id : Id) (s : StructValue) : Type 0 where
+  pub client : IsClient id.client
+  pub at : IsStructAt id.client id.clock s
+  pub end : IsClock (id.clock + clocks_of s)
+
+-- the run that stands for so many units that are gone, from an id on
+abbrev pub gone_run : Id → ℕ → RunValue
+gone_run id count = record { id = id; left = None; right = None; list = None; content = deleted count }
+
+-- groups are taken in: what was taken is what the definition says
+pub record TakesIn (old_runs : List Run) (old : List Entry) (runs : List Run) (taken : List Entry) (groups : List (List Operation)) : Type 0 where
+  pub received : operations_in runs taken ≡ with_groups groups (operations_in old_runs old)
+  pub kept : AreTaken runs taken
+
+-- ---- the end
+
+-- the entries that were kept aside, if some were, or else these
+abbrev pub kept_of : Option (Vec Entry) → List Entry → List Entry
+kept_of None taken = taken
+kept_of (Some kept) taken = kept.items
+
+-- what an update brought: nothing, or new units; or, where entries were kept aside, all waits, and those of the first runs
+-- are handed out
+abbrev pub IsBroughtBy : ℕ → Option (Vec Entry) → List Entry → Bool → List Entry → Brought → Type 0
+IsBroughtBy count before old false new result = (new ≡ old) × (result ≡ Nothing)
+IsBroughtBy count None old true new result = (new ≡ old) × (result ≡ Added)
+IsBroughtBy count (Some kept) old true new result = (new ≡ map (λ (t : Entry). with_place t Waits) old) × IsLowered result
+  where
+    IsLowered : Brought → Type 0
+    IsLowered Nothing = ⊥
+    IsLowered Added = ⊥
+    IsLowered (Lowered entries) = entries.items ≡ filter (is_of_first count) kept.items

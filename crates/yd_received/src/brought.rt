@@ -1,0 +1,14 @@
+//! What taking in an update did.
+
+use crate::entry::Entry;
+
+/// What taking in an update did.
+#[derive(Drop)]
+pub enum Brought {
+    /// All that it says was known.
+    Nothing,
+    /// It has new ids, and says less of none that was there.
+    Added,
+    /// It says less of an id that was there. All that is received waits; these were the entries.
+    Lowered(Vec<Entry>),
+}

@@ -1,0 +1,290 @@
+//! Taking in the structs of an update, one after another.
+
+ghost use Rattle.std.specs.Prelude.{◌≡◌, ◌↔◌, ◌∷◌, [], false, nat_eq, length, map, filter, IsTrue, OnOk, OnErr, IfOk};
+ghost use Rattle.std.specs.Bool.{OnFalse};
+ghost use Rattle.yd_words.specs.Each.{Each};
+ghost use Rattle.yd_ops.specs.Operation.{operations_of_run, operations_of_struct};
+ghost use Rattle.yd_ops.specs.Operation.{operations_of_structs, operations_of_blocks};
+ghost use Rattle.yd_ids.specs.Id.{IsClient, IsClock};
+ghost use Rattle.yd_ops.specs.Valid.{IsValidBlock, IsValidUpdate, AreStructsFrom};
+ghost use Rattle.yd_ops.specs.View.{content_value, run_value, struct_value, block_value, update_value};
+ghost use Rattle.yd_updates.specs.Received.{groups_of_structs, groups_of_blocks, groups_of};
+ghost use Rattle.yd_received.specs.Entries.{AreTaken, operations_in, is_of_first, GrowBy};
+ghost use Rattle.yd_received.specs.Lowering.{level_of_content, level_from, IsBacked};
+ghost use Rattle.yd_received.specs.Received.{brings, IsBrought};
+ghost use Rattle.yd_received.specs.Structs.{IsStructOf, TakesIn, gone_run, kept_of, IsBroughtBy};
+ghost use Rattle.yd_received.specs.Taking.{BringsOne, BringsOperation, AreUnchanged, IsRun};
+ghost use Rattle.yd_received.specs.Taking.{operations_from_run};
+
+use crate::brought::Brought;
+use crate::entry::Entry;
+use crate::fault::NoMemory;
+use crate::lowering::{DELETED, GONE, lower};
+use crate::restoring::{keep_first, let_wait};
+use crate::taking::add_run;
+use std::alloc::Global;
+use yd_ids::Id;
+use yd_ops::{Block, Content, Run, Struct, Update};
+
+/// Takes in the operations of an update. Where memory ends nothing was taken.
+pub(crate) fn take_update(
+    runs: &mut Vec<Run>,
+    taken: &mut Vec<Entry>,
+    update: &Update,
+) -> Result<Brought, NoMemory>
+    requires update { IsValidUpdate (update_value update.now) }
+    requires taken { AreTaken runs.old.items taken.old.items }
+    ensures taken { OnOk result (TakesIn runs.old.items taken.old.items
+        runs.new.items taken.new.items (groups_of (update_value update.now))) }
+    ensures brings { IfOk result (λ brought. IsTrue (brings brought)
+        ↔ BringsOperation (update_value update.now)
+        (operations_in runs.old.items taken.old.items)) }
+    ensures brought { IfOk result (λ brought. IsBrought brought
+        (record { runs = runs.old.items; entries = taken.old.items })
+        (record { runs = runs.new.items; entries = taken.new.items })) }
+    ensures grows { OnOk result (GrowBy runs.old.items runs.new.items) }
+    ensures unchanged { OnErr result
+        (AreUnchanged runs.old.items taken.old.items runs.new.items taken.new.items) }
+{
+    let alloc = *runs.allocator();
+    let count = runs.len();
+    let mut before = None;
+    match take_blocks(alloc, runs, taken, &mut before, update.blocks.as_slice()) {
+        Ok(more) => Ok(brought(taken, before, count, more)),
+        Err(NoMemory) => {
+            runs.truncate(count);
+            back(taken, before, count);
+            Err(NoMemory)
+        }
+    }
+}
+
+/// What an update brought, which brings something or nothing. Where it lowered something, all
+/// waits.
+fn brought(
+    taken: &mut Vec<Entry>,
+    before: Option<Vec<Entry>>,
+    count: usize,
+    brings: bool,
+) -> Brought
+    ensures { IsBroughtBy count before taken.old.items brings taken.new.items result }
+{
+    if !brings {
+        return Brought::Nothing;
+    }
+    match before {
+        None => Brought::Added,
+        Some(mut entries) => {
+            keep_first(&mut entries, count);
+            let_wait(taken);
+            Brought::Lowered(entries)
+        }
+    }
+}
+
+/// Puts back what was taken of the first runs.
+fn back(taken: &mut Vec<Entry>, before: Option<Vec<Entry>>, count: usize)
+    ensures { taken.new.items ≡ filter (is_of_first count) (kept_of before taken.old.items) }
+{
+    if let Some(entries) = before {
+        *taken = entries;
+    }
+    keep_first(taken, count);
+}
+
+/// Takes in the operations of blocks, and says whether they bring something. Before the first entry
+/// is lowered, the entries are copied.
+fn take_blocks(
+    alloc: Global,
+    runs: &mut Vec<Run>,
+    taken: &mut Vec<Entry>,
+    before: &mut Option<Vec<Entry>>,
+    blocks: &[Block],
+) -> Result<bool, NoMemory>
+    requires blocks { Each IsValidBlock (map block_value blocks.now) }
+    requires taken { AreTaken runs.old.items taken.old.items }
+    ensures taken { OnOk result (TakesIn runs.old.items taken.old.items
+        runs.new.items taken.new.items (groups_of_blocks (map block_value blocks.now))) }
+    ensures brings { IfOk result (λ brings. IsTrue brings
+        ↔ BringsOne (operations_of_blocks (map block_value blocks.now))
+        (operations_in runs.old.items taken.old.items)) }
+    ensures unchanged { IfOk result (λ brings. OnFalse brings
+        (AreUnchanged runs.old.items taken.old.items runs.new.items taken.new.items)) }
+    ensures grows { GrowBy runs.old.items runs.new.items }
+    ensures backed { IsBacked (length runs.old.items) before.old taken.old.items
+        before.new taken.new.items }
+{
+    let mut brings = false;
+    for block in blocks {
+        let first = Id {
+            client: block.client,
+            clock: block.clock,
+        };
+        let more = take_structs(alloc, runs, taken, before, first, block.structs.as_slice())?;
+        brings |= more;
+    }
+    Ok(brings)
+}
+
+/// Takes in the operations of structs that begin at an id, and says whether they bring something.
+fn take_structs(
+    alloc: Global,
+    runs: &mut Vec<Run>,
+    taken: &mut Vec<Entry>,
+    before: &mut Option<Vec<Entry>>,
+    first: Id,
+    structs: &[Struct],
+) -> Result<bool, NoMemory>
+    requires client { IsClient first.client }
+    requires clock { IsClock first.clock }
+    requires structs { AreStructsFrom first.client first.clock (map struct_value structs.now) }
+    requires taken { AreTaken runs.old.items taken.old.items }
+    ensures taken { OnOk result (TakesIn runs.old.items taken.old.items
+        runs.new.items taken.new.items
+        (groups_of_structs first.client first.clock (map struct_value structs.now))) }
+    ensures brings { IfOk result (λ brings. IsTrue brings
+        ↔ BringsOne (operations_of_structs first.client first.clock (map struct_value structs.now))
+        (operations_in runs.old.items taken.old.items)) }
+    ensures unchanged { IfOk result (λ brings. OnFalse brings
+        (AreUnchanged runs.old.items taken.old.items runs.new.items taken.new.items)) }
+    ensures grows { GrowBy runs.old.items runs.new.items }
+    ensures backed { IsBacked (length runs.old.items) before.old taken.old.items
+        before.new taken.new.items }
+{
+    let mut brings = false;
+    let mut clock = first.clock;
+    for entry in structs {
+        let id = Id {
+            client: first.client,
+            clock,
+        };
+        let more = take_struct(alloc, runs, taken, before, id, entry)?;
+        brings |= more;
+        clock += entry.len();
+    }
+    Ok(brings)
+}
+
+/// Takes in the operations of a struct that begins at an id, and says whether they bring something.
+/// A skip brings nothing.
+fn take_struct(
+    alloc: Global,
+    runs: &mut Vec<Run>,
+    taken: &mut Vec<Entry>,
+    before: &mut Option<Vec<Entry>>,
+    id: Id,
+    entry: &Struct,
+) -> Result<bool, NoMemory>
+    requires entry { IsStructOf id (struct_value entry.now) }
+    requires taken { AreTaken runs.old.items taken.old.items }
+    ensures taken { OnOk result (TakesIn runs.old.items taken.old.items runs.new.items
+        taken.new.items (operations_of_struct id.client id.clock (struct_value entry.now) ∷ [])) }
+    ensures brings { IfOk result (λ brings. IsTrue brings
+        ↔ BringsOne (operations_of_struct id.client id.clock (struct_value entry.now))
+        (operations_in runs.old.items taken.old.items)) }
+    ensures unchanged { IfOk result (λ brings. OnFalse brings
+        (AreUnchanged runs.old.items taken.old.items runs.new.items taken.new.items)) }
+    ensures grows { GrowBy runs.old.items runs.new.items }
+    ensures backed { IsBacked (length runs.old.items) before.old taken.old.items
+        before.new taken.new.items }
+{
+    match entry {
+        Struct::Item(run) => {
+            let brings = take_run(alloc, runs, taken, before, run)?;
+            Ok(brings)
+        }
+        Struct::Skip(_) => Ok(false),
+        Struct::Gone(count) => {
+            let run = gone_run(id, *count);
+            let brings = take_less(alloc, runs, taken, before, &run, true)?;
+            Ok(brings)
+        }
+    }
+}
+
+/// The run that stands for so many units that are gone, from an id on.
+fn gone_run(id: Id, count: u64) -> Run
+    ensures { run_value result ≡ gone_run id count }
+{
+    Run {
+        id,
+        left: None,
+        right: None,
+        list: None,
+        content: Content::Deleted(count),
+    }
+}
+
+/// Takes in the operations of a run, and says whether they bring something.
+fn take_run(
+    alloc: Global,
+    runs: &mut Vec<Run>,
+    taken: &mut Vec<Entry>,
+    before: &mut Option<Vec<Entry>>,
+    run: &Run,
+) -> Result<bool, NoMemory>
+    requires run { IsRun false (run_value run.now) }
+    requires taken { AreTaken runs.old.items taken.old.items }
+    ensures taken { OnOk result (TakesIn runs.old.items taken.old.items
+        runs.new.items taken.new.items (operations_of_run (run_value run.now) ∷ [])) }
+    ensures brings { IfOk result (λ brings. IsTrue brings
+        ↔ BringsOne (operations_of_run (run_value run.now))
+        (operations_in runs.old.items taken.old.items)) }
+    ensures unchanged { IfOk result (λ brings. OnFalse brings
+        (AreUnchanged runs.old.items taken.old.items runs.new.items taken.new.items)) }
+    ensures grows { GrowBy runs.old.items runs.new.items }
+    ensures backed { IsBacked (length runs.old.items) before.old taken.old.items
+        before.new taken.new.items }
+{
+    if is_deleted(&run.content) {
+        let brings = take_less(alloc, runs, taken, before, run, false)?;
+        return Ok(brings);
+    }
+    // What is full lowers nothing.
+    let brings = add_run(alloc, runs, taken, run, false)?;
+    Ok(brings)
+}
+
+/// The content is that of deleted units.
+fn is_deleted(content: &Content) -> bool
+    ensures { result ≡ nat_eq (level_of_content (content_value content.now)) 1 }
+{
+    matches!(content, Content::Deleted(_))
+}
+
+/// Takes in the operations of a deleted run, or of one that stands for as many units that are gone,
+/// and says whether they bring something.
+fn take_less(
+    alloc: Global,
+    runs: &mut Vec<Run>,
+    taken: &mut Vec<Entry>,
+    before: &mut Option<Vec<Entry>>,
+    run: &Run,
+    is_gone: bool,
+) -> Result<bool, NoMemory>
+    requires run { IsRun is_gone (run_value run.now) }
+    requires deleted { level_of_content (content_value run.now.content) ≡ 1 }
+    requires taken { AreTaken runs.old.items taken.old.items }
+    ensures taken { OnOk result (TakesIn runs.old.items taken.old.items
+        runs.new.items taken.new.items (operations_from_run is_gone (run_value run.now) ∷ [])) }
+    ensures brings { IfOk result (λ brings. IsTrue brings
+        ↔ BringsOne (operations_from_run is_gone (run_value run.now))
+        (operations_in runs.old.items taken.old.items)) }
+    ensures unchanged { IfOk result (λ brings. OnFalse brings
+        (AreUnchanged runs.old.items taken.old.items runs.new.items taken.new.items)) }
+    ensures grows { GrowBy runs.old.items runs.new.items }
+    ensures backed { IsBacked (length runs.old.items) before.old taken.old.items
+        before.new taken.new.items }
+{
+    let adds = add_run(alloc, runs, taken, run, is_gone)?;
+    let level = level_from(is_gone);
+    let lowers = lower(alloc, runs, taken, before, run.id, run.len(), level)?;
+    Ok(adds | lowers)
+}
+
+/// The level to which deleted units lower, or ones that are gone.
+fn level_from(is_gone: bool) -> u64
+    ensures { result ≡ level_from is_gone }
+{
+    if is_gone { GONE } else { DELETED }
+}
