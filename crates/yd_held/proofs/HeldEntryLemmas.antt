@@ -1,25 +1,25 @@
--- The operations of entries: what is held of them is received, and an id is held where the entry that covers it is.
-use Rattle.std.proofs.Common.{◌≡◌, ℕ, ◌<◌, true, List, [], ◌∷◌, inl, inr, length, get_or, refl, sym, ◌∙◌, subst}
+-- The operations of the entries that pass a test, as the held ones or those in lists: they are received, and an id is one of theirs where its entry passes.
+use Rattle.std.proofs.Common.{◌≡◌, Bool, true, List, [], ◌∷◌, inl, inr, refl, sym, ◌∙◌, subst}
 use Rattle.std.specs.Prelude.{filter}
-use Rattle.yd_words.specs.Each.{Each}
 use Rattle.yd_words.specs.Member.{IsIn}
+use Rattle.yd_words.proofs.FilterLemmas.{kept_one, one_kept}
 use Rattle.yd_words.proofs.MemberLemmas.{in_left_part, in_right_part, in_parts, each_in}
 use Rattle.yd_ids.specs.declared.id.Id.{Id}
 use Rattle.yd_ops.specs.declared.runs.Run.{Run}
 use Rattle.yd_ops.specs.Operation.{Operation}
-use Rattle.yd_meaning.specs.Received.{has_operation}
-use Rattle.yd_meaning.proofs.OneOfLemmas.{operation_with, id_there, ids_stay}
+use Rattle.yd_updates.specs.Received.{has_operation, IsWritten}
+use Rattle.yd_updates.proofs.OneOfLemmas.{operation_with, id_there, ids_stay}
 use Rattle.yd_received.specs.declared.entry.Entry.{Entry}
-use Rattle.yd_received.specs.Entries.{operations_of_taken, operations_in, held_in, is_held, covers, IsTakenOf, AreInOrder}
+use Rattle.yd_received.specs.Entries.{operations_of_taken, operations_in, covers, IsTakenOf}
 use Rattle.yd_received.specs.Taking.{is_covered}
-use Rattle.yd_received.proofs.EntriesLemmas.{entry_at, one_entry}
-use Rattle.yd_words.proofs.FilterLemmas.{kept_one, one_kept}
+use Rattle.yd_received.specs.Received.{ReceivedValue, IsReceived, taken_of}
+use Rattle.yd_received.proofs.EntriesLemmas.{one_entry, each_kept, order_kept}
+use Rattle.yd_received.proofs.TakenLemmas.{has_covered, in_written}
 use Rattle.yd_held.proofs.HeldUnitLemmas.{covers_unit, unit_covers}
-use Rattle.yd_received.proofs.TakenLemmas.{has_covered}
 
 -- ---- operations and entries
 
-pub entry_of_one : (runs : List Run) (ts : List Entry) (o : Operation) → IsIn o (operations_in runs ts) →
+entry_of_one : (runs : List Run) (ts : List Entry) (o : Operation) → IsIn o (operations_in runs ts) →
     (t : Entry) × IsIn t ts × IsIn o (operations_of_taken runs t)
 entry_of_one runs [] o i = absurd i
 entry_of_one runs (t ∷ ts) o i = elim (in_parts o (operations_of_taken runs t) (operations_in runs ts) i) [
@@ -27,55 +27,58 @@ entry_of_one runs (t ∷ ts) o i = elim (in_parts o (operations_of_taken runs t)
   | inr j ↦ let (s, k, l) = entry_of_one runs ts o j in (s, inr k, l)
 ]
 
-pub one_of_entry : (runs : List Run) (ts : List Entry) (t : Entry) (o : Operation) → IsIn t ts → IsIn o (operations_of_taken runs t) →
+one_of_entry : (runs : List Run) (ts : List Entry) (t : Entry) (o : Operation) → IsIn t ts → IsIn o (operations_of_taken runs t) →
     IsIn o (operations_in runs ts)
 one_of_entry runs [] t o i j = absurd i
 one_of_entry runs (s ∷ ss) t o (inl e) j = in_left_part o (operations_of_taken runs s) (operations_in runs ss) (subst (λ u. IsIn o (operations_of_taken runs u)) e j)
 one_of_entry runs (s ∷ ss) t o (inr i) j = in_right_part o (operations_of_taken runs s) (operations_in runs ss) (one_of_entry runs ss t o i j)
 
--- ---- what is held
+-- ---- lemmas for callers, of what is received
 
-module _ (runs : List Run) (ts : List Entry) (each : Each (IsTakenOf runs) ts) (order : AreInOrder ts) where
-  -- ---- lemmas for callers
+module _ (r : ReceivedValue) (is : IsReceived r) where
+  pub is_taken : (t : Entry) → IsIn t r.entries → IsTakenOf r.runs t
+  is_taken = each_in (IsTakenOf r.runs) r.entries is.each
 
-  pub is_taken : (t : Entry) → IsIn t ts → IsTakenOf runs t
-  is_taken = each_in (IsTakenOf runs) ts each
+  -- an operation is of an entry
+  pub taken_entry : (o : Operation) → IsIn o (taken_of r) → (t : Entry) × IsIn t r.entries × IsIn o (operations_of_taken r.runs t)
+  taken_entry = entry_of_one r.runs r.entries
 
-  -- a held operation is of an entry that is held
-  pub held_entry : (o : Operation) → IsIn o (held_in runs ts) → (t : Entry) × IsIn t ts × (is_held t ≡ true) × IsIn o (operations_of_taken runs t)
-  held_entry o i = let (t, j, k) = entry_of_one runs (filter is_held ts) o i in let (held, l) = kept_one is_held ts t j in (t, l, held, k)
+  pub entry_taken : (t : Entry) → IsIn t r.entries → (o : Operation) → IsIn o (operations_of_taken r.runs t) → IsIn o (taken_of r)
+  entry_taken t i o j = one_of_entry r.runs r.entries t o i j
 
-  pub entry_held : (t : Entry) → IsIn t ts → is_held t ≡ true → (o : Operation) → IsIn o (operations_of_taken runs t) → IsIn o (held_in runs ts)
-  entry_held t i held o j = one_of_entry runs (filter is_held ts) t o (one_kept is_held ts t held i) j
+-- ---- lemmas for callers, of the entries that pass a test
 
-  -- what is held is received
-  pub held_received : (o : Operation) → IsIn o (held_in runs ts) → IsIn o (operations_in runs ts)
-  held_received o i = let (t, j, held, k) = held_entry o i in one_of_entry runs ts t o j k
+module _ (test : Entry → Bool) (r : ReceivedValue) (is : IsReceived r) where
+  abbrev chosen : List Operation
+  chosen = operations_in r.runs (filter test r.entries)
 
-  -- an id that is there is covered by an entry
-  pub id_covered : (x : Id) → has_operation (operations_in runs ts) x ≡ true → (t : Entry) × IsIn t ts × (covers t x ≡ true)
-  id_covered x e =
-      let (o, i, f) = operation_with (operations_in runs ts) x e in
-      let (t, j, k) = entry_of_one runs ts o i in
-      (t, j, subst (λ y. covers t y ≡ true) f (unit_covers runs t (is_taken t j) o k))
+  pub chosen_written : IsWritten chosen
+  chosen_written = in_written r.runs (filter test r.entries) (each_kept test (IsTakenOf r.runs) r.entries is.each) (order_kept test r.entries is.in_order)
 
-  pub id_held : (x : Id) → has_operation (held_in runs ts) x ≡ true → (t : Entry) × IsIn t ts × (is_held t ≡ true) × (covers t x ≡ true)
-  id_held x e =
-      let (o, i, f) = operation_with (held_in runs ts) x e in
-      let (t, j, held, k) = held_entry o i in
-      (t, j, held, subst (λ y. covers t y ≡ true) f (unit_covers runs t (is_taken t j) o k))
+  -- an operation is of an entry that passes
+  pub chosen_entry : (o : Operation) → IsIn o chosen → (t : Entry) × IsIn t r.entries × (test t ≡ true) × IsIn o (operations_of_taken r.runs t)
+  chosen_entry o i = let (t, j, k) = entry_of_one r.runs (filter test r.entries) o i in let (passes, l) = kept_one test r.entries t j in (t, l, passes, k)
 
-  pub held_id : (t : Entry) (x : Id) → IsIn t ts → is_held t ≡ true → covers t x ≡ true → has_operation (held_in runs ts) x ≡ true
-  held_id t x i held e = let (o, j, f) = covers_unit runs t (is_taken t i) x e in id_there (held_in runs ts) o x (entry_held t i held o j) f
+  pub entry_chosen : (t : Entry) → IsIn t r.entries → test t ≡ true → (o : Operation) → IsIn o (operations_of_taken r.runs t) → IsIn o chosen
+  entry_chosen t i passes o j = one_of_entry r.runs (filter test r.entries) t o (one_kept test r.entries t passes i) j
 
-  -- the entry that covers a held id is held
-  pub covers_held : (t : Entry) (x : Id) → IsIn t ts → covers t x ≡ true → has_operation (held_in runs ts) x ≡ true → is_held t ≡ true
-  covers_held t x i e f = let (s, j, held, g) = id_held x f in subst (λ u. is_held u ≡ true) (one_entry ts order s t x j i g e) held
+  -- they are received
+  pub chosen_received : (o : Operation) → IsIn o chosen → IsIn o (taken_of r)
+  chosen_received o i = let (t, j, passes, k) = chosen_entry o i in entry_taken r is t j o k
 
-  -- a held id is covered, as the look-up of its entry requires, and the entry that is found is held
-  pub held_covered : (x : Id) → has_operation (held_in runs ts) x ≡ true → is_covered ts x ≡ true
-  held_covered x e = sym (has_covered runs ts x each) ∙ ids_stay (held_in runs ts) (operations_in runs ts) x held_received e
+  pub id_chosen : (x : Id) → has_operation chosen x ≡ true → (t : Entry) × IsIn t r.entries × (test t ≡ true) × (covers t x ≡ true)
+  id_chosen x e =
+      let (o, i, f) = operation_with chosen x e in
+      let (t, j, passes, k) = chosen_entry o i in
+      (t, j, passes, subst (λ y. covers t y ≡ true) f (unit_covers r.runs t (is_taken r is t j) o k))
 
-  pub held_at : (x : Id) (k : ℕ) (d : Entry) → k < length ts → covers (get_or ts k d) x ≡ true → has_operation (held_in runs ts) x ≡ true →
-      is_held (get_or ts k d) ≡ true
-  held_at x k d lt e f = covers_held (get_or ts k d) x (entry_at ts k d lt) e f
+  pub chosen_id : (t : Entry) (x : Id) → IsIn t r.entries → test t ≡ true → covers t x ≡ true → has_operation chosen x ≡ true
+  chosen_id t x i passes e = let (o, j, f) = covers_unit r.runs t (is_taken r is t i) x e in id_there chosen o x (entry_chosen t i passes o j) f
+
+  -- the entry that covers the id passes
+  pub covers_chosen : (t : Entry) (x : Id) → IsIn t r.entries → covers t x ≡ true → has_operation chosen x ≡ true → test t ≡ true
+  covers_chosen t x i e f = let (s, j, passes, g) = id_chosen x f in subst (λ u. test u ≡ true) (one_entry r.entries is.in_order s t x j i g e) passes
+
+  -- the id is covered, as the look-up of its entry requires
+  pub chosen_covered : (x : Id) → has_operation chosen x ≡ true → is_covered r.entries x ≡ true
+  chosen_covered x e = sym (has_covered r.runs r.entries x is.each) ∙ ids_stay chosen (taken_of r) x chosen_received e

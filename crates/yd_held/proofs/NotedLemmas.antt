@@ -11,14 +11,14 @@ use Rattle.yd_ids.specs.Vector.{clock_of}
 use Rattle.yd_ids.proofs.IdLemmas.{same_numbers}
 use Rattle.yd_ops.specs.declared.runs.Run.{Run}
 use Rattle.yd_received.specs.declared.entry.Entry.{Entry}
-use Rattle.yd_received.specs.Entries.{covers, is_held, IsTakenOf, AreInOrder}
+use Rattle.yd_received.specs.Entries.{covers, carried_of, is_held, IsTakenOf, AreInOrder}
 use Rattle.yd_received.proofs.EntriesLemmas.{one_entry}
 use Rattle.yd_words.specs.Member.{IsIn}
 use Rattle.yd_words.proofs.MemberLemmas.{each_in, in_each}
 use Rattle.yd_meaning.specs.Held.{item_carried}
 use Rattle.yd_held.specs.declared.noting.Lack.{Lack}
-use Rattle.yd_received.specs.Received.{is_below, with_number}
-use Rattle.yd_held.specs.Readiness.{IsOriginOf, is_none_or_below, missing_of, first_of, lack_of, first_list, is_ready}
+use Rattle.yd_received.specs.Received.{is_below, with_place}
+use Rattle.yd_held.specs.Readiness.{IsOriginOf, is_none_or_below, missing_of, first_of, lack_of, is_ready}
 use Rattle.yd_held.specs.Noted.{AreSorted, with_lack, Wakes, IsNoted, IsNotedOrTried, AreNoted, AreMissing}
 use Rattle.yd_held.specs.Holding.{HoldsEntry}
 use Rattle.yd_held.specs.Trying.{IsNext}
@@ -67,17 +67,17 @@ module _ (vector : List (Client × ℕ)) (runs : List Run) (t : Entry) where
   rights = missing_of vector t.right
 
   abbrev items : Option Id
-  items = missing_of vector (item_carried (first_list runs t))
+  items = missing_of vector (item_carried (carried_of runs t))
 
   -- what they lack they need, and it is not held
-  pub lack_is : (x : Id) → lack_of vector runs t ≡ Some x → IsOriginOf x t.left t.right (first_list runs t) × (is_below vector x ≡ false)
+  pub lack_is : (x : Id) → lack_of vector runs t ≡ Some x → IsOriginOf x t.left t.right (carried_of runs t) × (is_below vector x ≡ false)
   lack_is x e = go lefts rights items refl refl refl e
     where
       go : (l r i : Option Id) → lefts ≡ l → rights ≡ r → items ≡ i → first_of l (first_of r i) ≡ Some x →
-          IsOriginOf x t.left t.right (first_list runs t) × (is_below vector x ≡ false)
+          IsOriginOf x t.left t.right (carried_of runs t) × (is_below vector x ≡ false)
       go (Some y) r i f g h e = let (is, low) = missing_is vector t.left x (f ∙ e) in (inl is, low)
       go None (Some y) i f g h e = let (is, low) = missing_is vector t.right x (g ∙ e) in (inr (inl is), low)
-      go None None i f g h e = let (is, low) = missing_is vector (item_carried (first_list runs t)) x (h ∙ e) in (inr (inr is), low)
+      go None None i f g h e = let (is, low) = missing_is vector (item_carried (carried_of runs t)) x (h ∙ e) in (inr (inr is), low)
 
   -- what lacks nothing, waits and stands at its client's clock is ready
   pub lacks_nothing : lack_of vector runs t ≡ None → is_held t ≡ false → t.id.clock ≡ clock_of vector t.id.client.0 → is_ready vector runs t ≡ true
@@ -91,7 +91,7 @@ module _ (vector : List (Client × ℕ)) (runs : List Run) (t : Entry) where
       go None (Some y) i f g h e = absurd cc
       go None None (Some y) f g h e = absurd cc
       go None None None f g h e = hold_both _ _ (ap not waits) (hold_both _ _ (same t.id.clock (clock_of vector t.id.client.0) at_clock)
-          (hold_both _ _ (none_missing vector t.left f) (hold_both _ _ (none_missing vector t.right g) (none_missing vector (item_carried (first_list runs t)) h))))
+          (hold_both _ _ (none_missing vector t.left f) (hold_both _ _ (none_missing vector t.right g) (none_missing vector (item_carried (carried_of runs t)) h))))
 
 -- what is noted of them is missing
 pub missing_with : (vector : List (Client × ℕ)) (runs : List Run) (t : Entry) (x : Id) (client : Client) (lacks : List Lack) → lack_of vector runs t ≡ Some x →
@@ -206,7 +206,7 @@ module _ (vector : List (Client × ℕ)) (runs : List Run) (lacks left : List La
     sorted = subst AreSorted (sym wakes.stays) (sorted_kept (λ (l : Lack). not (covers h.entry l.id)) lacks noted.sorted);
     each = in_each (IsNotedOrTried raised runs left more) new (λ t i at_clock. elim (same_or_other t.id.client.0 h.entry.id.client.0) [
       | inl same ↦ inl (subst (λ c. IsIn c more) (sym (one_client t.id.client h.entry.id.client same)) this_tried)
-      | inr other ↦ elim (set_is h.entry (with_number h.entry h.number) ts at t (subst (IsIn t) h.placed i)) [
+      | inr other ↦ elim (set_is h.entry (with_place h.entry h.place) ts at t (subst (IsIn t) h.placed i)) [
         | inl e ↦ absurd (other (ap (λ (u : Entry). u.id.client.0) e))
         | inr j ↦ elim (each_in (IsNotedOrTried vector runs lacks (h.entry.id.client ∷ tries)) ts noted.each t j (at_clock ∙ h.raises.other_clients t.id.client.0 other)) [
           | inl (inl same) ↦ absurd (other (ap (λ (c : Client). c.0) same))

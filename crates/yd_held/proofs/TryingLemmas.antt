@@ -1,12 +1,14 @@
 -- One client is tried: its next units are ready, or what they lack is noted, or it has none.
-use Rattle.std.proofs.Common.{◌≡◌, ℕ, zero, suc, ◌+◌, ◌<◌, true, false, List, [], ◌∷◌, ◌++◌, inl, inr, Option, Some, None, length, take, get_or, sym, ap, ◌∙◌, subst, arith}
-use Rattle.std.specs.Prelude.{HoldsAt, slice_get}
-use Rattle.std.proofs.lemmas.List.{get_or_default}
+use Rattle.std.proofs.Common.{◌≡◌, ◌≢◌, ℕ, zero, suc, ◌+◌, ◌<◌, true, false, List, [], ◌∷◌, ◌++◌, inl, inr, Option, Some, None, length, take, get_or, sym, ap, ◌∙◌, subst, arith}
+use Rattle.std.specs.Prelude.{HoldsAt, IfSome, IfNone, MatchOption, slice_get}
+use Rattle.std.proofs.lemmas.List.{get_or_default, take_more}
 use Rattle.yd_words.specs.Each.{Each}
+use Rattle.yd_words.proofs.EachLemmas.{each_weaker, each_append}
 use Rattle.yd_words.proofs.OptionLemmas.{some_is}
 use Rattle.yd_ids.specs.declared.id.Client.{Client}
 use Rattle.yd_ids.specs.declared.id.Id.{Id}
 use Rattle.yd_ids.specs.Vector.{clock_of}
+use Rattle.yd_ids.proofs.IdLemmas.{same_numbers}
 use Rattle.yd_ops.specs.declared.runs.Run.{Run}
 use Rattle.yd_received.specs.declared.entry.Entry.{Entry}
 use Rattle.yd_received.specs.Entries.{is_held, IsTakenOf, AreInOrder}
@@ -49,6 +51,26 @@ pub got_in : {X : Type 0} (xs : List X) (n : ℕ) (x : X) → slice_get xs n ≡
 got_in [] n x e = absurd cc
 got_in (y ∷ ys) zero x e = inl (sym (some_is y x e))
 got_in (y ∷ ys) (suc n) x e = inr (got_in ys n x e)
+
+-- the client of one more entry is among the clients then
+pub entry_more : (ts : List Entry) (k : ℕ) (d : Entry) (clients more : List Client) → k < length ts → Tries (get_or ts k d).id.client clients more →
+    Each (λ (u : Entry). IsIn u.id.client clients) (take k ts) → Each (λ (u : Entry). IsIn u.id.client more) (take (k + 1) ts)
+entry_more ts k d clients more lt tries each = subst (Each (λ (u : Entry). IsIn u.id.client more)) (sym (take_more ts k d lt))
+    (each_append (λ (u : Entry). IsIn u.id.client more) (take k ts) (get_or ts k d ∷ [])
+    (each_stays (λ (u : Entry). u.id.client) (take k ts) clients more tries.stay each) (tries.here, tt))
+
+-- ---- the next units of a client
+
+pub next_is : (vector : List (Client × ℕ)) (client : Client) (clock : ℕ) (ts : List Entry) (z : Option ℕ) → clock ≡ clock_of vector client.0 →
+    IfSome z (λ at. (at < length ts) × HoldsAt (λ (t : Entry). t.id ≡ record { client = client; clock = clock }) ts at) →
+    IfNone z (Each (λ (t : Entry). t.id ≢ record { client = client; clock = clock }) ts) →
+    MatchOption z (Each (λ t. IsNext vector client t → ⊥) ts) (λ at. (at < length ts) × HoldsAt (IsNext vector client) ts at)
+next_is vector client clock ts None e found none = each_weaker (λ (t : Entry). t.id ≢ record { client = client; clock = clock }) (λ t. IsNext vector client t → ⊥)
+    (λ t other next. other (same_numbers t.id (record { client = client; clock = clock }) (ap (λ (c : Client). c.0) next.of_client) (next.at_clock ∙ sym e))) ts none
+next_is vector client clock ts (Some at) e found none = (
+  found.0,
+  (λ d. record { of_client = ap (λ (x : Id). x.client) (found.1 d); at_clock = ap (λ (x : Id). x.clock) (found.1 d) ∙ e }),
+)
 
 -- ---- the client that is tried
 

@@ -3,10 +3,10 @@ use Rattle.std.proofs.Common.{◌≡◌, ℕ, zero, suc, ◌<◌, ◌≤◌, tru
 use Rattle.std.specs.Prelude.{slice_get, IfSome}
 use Rattle.std.proofs.lemmas.Bool.{cases_Bool, false_from_ne_true}
 use Rattle.yd_words.specs.Each.{Each}
+use Rattle.yd_words.proofs.EachLemmas.{each_weaker}
 use Rattle.yd_words.proofs.OptionLemmas.{some_is}
 use Rattle.yd_ids.specs.declared.id.Client.{Client}
 use Rattle.yd_ids.specs.Vector.{clock_of}
-use Rattle.yd_ops.specs.declared.lists.List.{List as DocList}
 use Rattle.yd_ops.specs.declared.runs.Run.{Run}
 use Rattle.yd_received.specs.declared.entry.Entry.{Entry}
 use Rattle.yd_received.specs.Entries.{is_held, is_of_first, IsTakenOf}
@@ -14,24 +14,24 @@ use Rattle.yd_words.specs.Member.{IsIn}
 use Rattle.yd_words.proofs.MemberLemmas.{each_in, in_each}
 use Rattle.yd_words.proofs.FilterLemmas.{one_kept}
 use Rattle.yd_held.specs.declared.noting.Lack.{Lack}
+use Rattle.yd_held.specs.Held.{HeldValue}
 use Rattle.yd_held.specs.Holding.{IsHolding, AreUnready}
 use Rattle.yd_held.specs.Noted.{IsNoted, IsNotedOrTried, AreNoted}
 use Rattle.yd_held.specs.Readiness.{is_ready}
 use Rattle.yd_held.specs.Trying.{AreWaiting}
-use Rattle.yd_held.proofs.HeldUnitLemmas.{covers_first}
-use Rattle.yd_held.proofs.HeldEntryLemmas.{is_taken, held_id}
-use Rattle.yd_held.proofs.HoldingLemmas.{tells, ready_is}
+use Rattle.yd_held.proofs.HeldUnitLemmas.{covers_first, none_there}
+use Rattle.yd_held.proofs.HeldEntryLemmas.{is_taken, chosen_id}
+use Rattle.yd_held.proofs.HoldingLemmas.{ready_is}
 use Rattle.yd_held.proofs.NotedLemmas.{not_below}
 
-module _ (runs : List Run) (ts : List Entry) (vector : List (Client × ℕ)) (names : List DocList) (h : IsHolding runs ts vector names) where
-  waits : (t : Entry) → IsIn t ts → t.id.clock ≡ clock_of vector t.id.client.0 → is_held t ≡ false
+module _ (k : HeldValue) (h : IsHolding k) where
+  waits : (t : Entry) → IsIn t k.received.entries → t.id.clock ≡ clock_of k.vector t.id.client.0 → is_held t ≡ false
   waits t i at_clock = false_from_ne_true (is_held t) (λ held.
-      let there = held_id runs ts h.in_order.each h.in_order.in_order t t.id i held (covers_first runs t (is_taken runs ts h.in_order.each h.in_order.in_order t i)) in
-      omega (arith, (tells runs ts vector names h t.id).0 there, at_clock))
+      omega (arith, (h.tells t.id).0 (chosen_id is_held k.received h.in_order t t.id i held (covers_first k.received.runs t (is_taken k.received h.in_order t i))), at_clock))
 
   -- units at their client's clock wait
-  pub are_waiting : AreWaiting vector ts
-  are_waiting = in_each (λ t. t.id.clock ≡ clock_of vector t.id.client.0 → is_held t ≡ false) ts waits
+  pub are_waiting : AreWaiting k.vector k.received.entries
+  are_waiting = in_each (λ t. t.id.clock ≡ clock_of k.vector t.id.client.0 → is_held t ≡ false) k.received.entries waits
 
 -- ready units lack nothing, so nothing is noted of them
 pub ready_lacks_nothing : (runs : List Run) (vector : List (Client × ℕ)) (lacks : List Lack) (t : Entry) → IsNoted vector runs lacks t → is_ready vector runs t ≡ true → ⊥
@@ -61,11 +61,6 @@ module _ (runs : List Run) (from : ℕ) (ts : List Entry) (each : Each (IsTakenO
   new_tried : (t : Entry) → IsIn t ts → from ≤ t.run → IsIn t.id.client clients
   new_tried t i le = go (slice_get runs t.run) refl (each_in (IsTakenOf runs) ts each t i).client (each_in (IsTakenOf runs) ts each t i).run_there
     where
-      none_there : (rs : List Run) (k : ℕ) → k < length rs → slice_get rs k ≡ None → ⊥
-      none_there [] k lt e = absurd (omega arith)
-      none_there (r ∷ rs) zero lt e = absurd cc
-      none_there (r ∷ rs) (suc k) lt e = none_there rs k (omega arith) e
-
       go : (z : Option Run) → slice_get runs t.run ≡ z → IfSome z (λ (run : Run). run.id.client ≡ t.id.client) → t.run < length runs → IsIn t.id.client clients
       go None e same lt = absurd (none_there runs t.run lt e)
       go (Some run) e same lt = subst (λ c. IsIn c clients) same (each_behind (λ (r : Run). IsIn r.id.client clients) runs from t.run run all le e)
@@ -81,3 +76,10 @@ module _ (runs : List Run) (from : ℕ) (ts : List Entry) (each : Each (IsTakenO
       | inr new ↦ inl (new_tried t i (grind (arith, tests)))
     ]);
   }
+
+-- where nothing is noted, the clients of all entries are to be tried
+pub noted_all : (runs : List Run) (ts : List Entry) (clients : List Client) → Each (λ (t : Entry). IsIn t.id.client clients) ts → AreNoted [] runs [] clients ts
+noted_all runs ts clients all = record {
+  sorted = tt;
+  each = each_weaker (λ (t : Entry). IsIn t.id.client clients) (IsNotedOrTried [] runs [] clients) (λ t i at_clock. inl i) ts all;
+}

@@ -4,5 +4,6 @@ pub mod Holding
 pub mod Noted
 pub mod Numbered
 pub mod Numbering
+pub mod Placed
 pub mod Readiness
 pub mod Trying

@@ -8,10 +8,10 @@ use Rattle.yd_ids.specs.Vector.{clock_of}
 use Rattle.yd_ids.specs.Ids.{is_same, is_smaller}
 use Rattle.yd_ops.specs.declared.runs.Run.{Run}
 use Rattle.yd_received.specs.declared.entry.Entry.{Entry}
-use Rattle.yd_received.specs.Entries.{covers}
+use Rattle.yd_received.specs.Entries.{covers, carried_of}
 use Rattle.yd_held.specs.declared.noting.Lack.{Lack}
 use Rattle.yd_received.specs.Received.{is_below}
-use Rattle.yd_held.specs.Readiness.{IsOriginOf, first_list, is_ready}
+use Rattle.yd_held.specs.Readiness.{IsOriginOf, is_ready}
 
 -- ---- the notes
 
@@ -47,7 +47,7 @@ pub record Wakes (held : Entry) (old left : List Lack) (tries more : List Client
 -- it is noted that the client's next units lack an id: they need it, and it is not held
 pub record IsNoted (vector : List (Client × ℕ)) (runs : List Run) (lacks : List Lack) (t : Entry) : Type 0 where
   pub id : Id
-  pub needed : IsOriginOf id t.left t.right (first_list runs t)
+  pub needed : IsOriginOf id t.left t.right (carried_of runs t)
   pub missing : is_below vector id ≡ false
   pub there : IsIn (record { id = id; client = t.id.client }) lacks
 

@@ -1,5 +1,5 @@
 -- Which units have all that they need, by the state vector (own).
-use Rattle.std.specs.Prelude.{◌≡◌, ◌⊎◌, ℕ, Bool, true, not, ◌&&◌, List, Option, Some, None, slice_get, nat_eq, if◌then◌else◌}
+use Rattle.std.specs.Prelude.{◌≡◌, ◌⊎◌, ℕ, Bool, true, not, ◌&&◌, List, Option, Some, None, nat_eq, if◌then◌else◌}
 use Rattle.yd_ids.specs.declared.id.Client.{Client}
 use Rattle.yd_ids.specs.declared.id.Id.{Id}
 use Rattle.yd_ids.specs.Vector.{clock_of}
@@ -8,7 +8,7 @@ use Rattle.yd_ops.specs.declared.runs.Run.{Run}
 use Rattle.yd_meaning.specs.Held.{item_carried}
 use Rattle.yd_received.specs.declared.entry.Entry.{Entry}
 use Rattle.yd_received.specs.Received.{is_below}
-use Rattle.yd_received.specs.Entries.{list_at, is_held}
+use Rattle.yd_received.specs.Entries.{carried_of, is_held}
 
 -- the id is an origin, or the item of a list
 abbrev pub IsOriginOf : Id → Option Id → Option Id → Option DocList → Type 0
@@ -24,10 +24,6 @@ abbrev pub is_none_or_below : List (Client × ℕ) → Option Id → Bool
 is_none_or_below vector None = true
 is_none_or_below vector (Some x) = is_below vector x
 
--- the list that the first of the units carries
-abbrev pub first_list : List Run → Entry → Option DocList
-first_list runs t = list_at (slice_get runs t.run) t.offset
-
 -- the one id, or where it is absent the other
 abbrev pub first_of : Option Id → Option Id → Option Id
 first_of None other = other
@@ -35,10 +31,10 @@ first_of (Some x) other = Some x
 
 -- what units at their client's clock lack: an origin, or the item of the list that the first of them carries
 abbrev pub lack_of : List (Client × ℕ) → List Run → Entry → Option Id
-lack_of vector runs t = first_of (missing_of vector t.left) (first_of (missing_of vector t.right) (missing_of vector (item_carried (first_list runs t))))
+lack_of vector runs t = first_of (missing_of vector t.left) (first_of (missing_of vector t.right) (missing_of vector (item_carried (carried_of runs t))))
 
 -- whether the units wait, begin at their client's clock, and have their origins and the item of their list below the vector
 abbrev pub is_ready : List (Client × ℕ) → List Run → Entry → Bool
 is_ready vector runs t =
     not (is_held t) && (nat_eq t.id.clock (clock_of vector t.id.client.0) && (is_none_or_below vector t.left
-    && (is_none_or_below vector t.right && is_none_or_below vector (item_carried (first_list runs t)))))
+    && (is_none_or_below vector t.right && is_none_or_below vector (item_carried (carried_of runs t)))))

@@ -1,38 +1,144 @@
 //! An update is taken in, and what can be held then is held.
 
-ghost use Rattle.std.specs.Prelude.{◌≡◌, ◌↔◌, length, IsTrue, OnOk, IfOk};
+ghost use Rattle.std.specs.Prelude.{◌≡◌, ◌↔◌, ◌≤◌, [], length, filter, IsTrue, OnOk, IfOk};
 ghost use Rattle.yd_ops.specs.Valid.{IsValidUpdate};
 ghost use Rattle.yd_ops.specs.View.{update_value};
-ghost use Rattle.yd_meaning.specs.Received.{with_runs, runs_of};
-ghost use Rattle.yd_received.specs.Entries.{GrowBy};
-ghost use Rattle.yd_received.specs.Received.{taken_of};
+ghost use Rattle.yd_updates.specs.Received.{with_groups, groups_of};
+ghost use Rattle.yd_received.specs.Received.{taken_of, brings};
 ghost use Rattle.yd_received.specs.Taking.{BringsOperation};
-ghost use Rattle.yd_held.specs.Changing.{IsChanged};
-ghost use Rattle.yd_held.specs.Holding.{MarkChanges};
+ghost use Rattle.yd_held.specs.Changing.{TellsChanges, IsOf, back_to};
 ghost use Rattle.yd_held.specs.Held.{held_value, HoldsAll};
+ghost use Rattle.yd_held.specs.Holding.{IsHolding, HoldsRest, OnlyHolds};
+ghost use Rattle.yd_held.specs.Noted.{AreNoted, AreMissing};
+ghost use Rattle.yd_held.specs.declared.parts.Kept.TheVariants.{All};
+ghost use Rattle.yd_received.specs.Entries.{is_held, is_of_first};
+ghost use Rattle.yd_received.specs.Received.{IsReceived};
 
 use crate::fault::NoMemory;
 use crate::holding::hold_all;
-use crate::parts::HeldParts;
+use crate::parts::{Before, HeldParts, Kept};
+use crate::trying::{clients_from, clients_of};
+use std::mem;
+use yd_ids::Vector;
 use yd_ops::Update;
+use yd_received::{Brought, Entry};
 
-/// Takes the update in, and answers whether it has an operation whose id was not received, and a
-/// mark for each list that got units. Where memory ends, what was held can be put back.
-pub(crate) fn change(held: &mut HeldParts, update: &Update) -> Result<(bool, Vec<bool>), NoMemory>
+/// What a change of what is held did.
+#[derive(Drop)]
+pub(crate) struct Changed {
+    /// An operation had a new id, or said less than the one that was there.
+    pub brings: bool,
+    /// All was held anew.
+    pub anew: bool,
+    /// A mark for each list: one with a mark got units, and one without got none.
+    pub stale: Vec<bool>,
+}
+
+/// Takes the update in, and holds what can be held then: where it only added units, those that have
+/// all that they need now, and where it lowered some, all anew. Where memory ends, what was held can
+/// be put back.
+pub(crate) fn change(
+    held: &mut HeldParts,
+    before: &mut Before,
+    update: &Update,
+) -> Result<Changed, NoMemory>
     requires update { IsValidUpdate (update_value update.now) }
     requires holds { HoldsAll (held_value held.old) }
+    requires before { IsOf (held_value held.old) before.old }
     ensures received { OnOk result (taken_of held.new.received
-        ≡ with_runs (runs_of (update_value update.now)) (taken_of held.old.received)) }
-    ensures brings { IfOk result (λ taken. IsTrue taken.0
+        ≡ with_groups (groups_of (update_value update.now)) (taken_of held.old.received)) }
+    ensures brings { IfOk result (λ changed. IsTrue changed.brings
         ↔ BringsOperation (update_value update.now) (taken_of held.old.received)) }
-    ensures marked { IfOk result (λ taken. MarkChanges taken.1.items
-        held.old.received.entries held.new.received.entries
-        (length held.old.names.items) (length held.new.names.items)) }
+    ensures told { IfOk result (λ changed. TellsChanges changed.anew changed.stale.items
+        (held_value held.old) (held_value held.new)) }
     ensures holds { OnOk result (HoldsAll (held_value held.new)) }
-    ensures changed { IsChanged (held_value held.old) (held_value held.new) }
+    ensures back { back_to before.new (held_value held.new) ≡ held_value held.old }
 {
     let from = held.received.runs().len();
-    let brings = held.received.take(update)?;
-    let stale = hold_all(held, from)?;
-    Ok((brings, stale))
+    let brought = held.received.take(update)?;
+    let brings = brings(&brought);
+    if let Brought::Lowered(entries) = brought {
+        set_aside(held, before, entries);
+        let stale = hold_anew(held)?;
+        return Ok(Changed {
+            brings,
+            anew: true,
+            stale,
+        });
+    }
+    let stale = hold_new(held, from)?;
+    Ok(Changed {
+        brings,
+        anew: false,
+        stale,
+    })
+}
+
+/// An operation had a new id, or said less than the one that was there.
+fn brings(brought: &Brought) -> bool
+    ensures { result ≡ brings brought.now }
+{
+    match brought {
+        Brought::Nothing => false,
+        _ => true,
+    }
+}
+
+/// Holds what can be held when the runs from one on are new.
+fn hold_new(held: &mut HeldParts, from: usize) -> Result<Vec<bool>, NoMemory>
+    requires from { from ≤ length held.old.received.runs }
+    requires holding { IsHolding (held_value held.old) }
+    requires noted { AreNoted held.old.vector held.old.received.runs held.old.lacks.items []
+        (filter (is_of_first from) held.old.received.entries) }
+    requires missing { AreMissing held.old.vector held.old.lacks.items }
+    ensures held { IfOk result (λ stale.
+        HoldsRest (held_value held.old) (held_value held.new) stale.items) }
+    ensures only { OnlyHolds (held_value held.old) (held_value held.new) }
+{
+    let alloc = held.received.allocator();
+    let tries = clients_from(alloc, held.received.runs(), from)?;
+    let stale = hold_all(held, tries)?;
+    Ok(stale)
+}
+
+/// Puts aside which lists there are and what is lacked, so that nothing is held.
+fn set_aside(held: &mut HeldParts, before: &mut Before, entries: Vec<Entry>)
+    ensures held { held_value held.new ≡ record {
+      received = held.old.received;
+      vector = [];
+      names = [];
+      lacks = [];
+    } }
+    ensures before { before.new ≡ record {
+      runs = before.old.runs;
+      kept = All entries held.old.names;
+      vector = before.old.vector;
+      lacks = before.old.lacks;
+    } }
+{
+    let alloc = held.received.allocator();
+    let lists = mem::replace(&mut held.names, Vec::new(alloc));
+    before.kept = Kept::All(entries, lists);
+    held.vector = Vector::new(alloc);
+    held.lacks = Vec::new(alloc);
+}
+
+/// Holds what can be held of what is received, when nothing is.
+fn hold_anew(held: &mut HeldParts) -> Result<Vec<bool>, NoMemory>
+    requires received { IsReceived held.old.received }
+    requires waits { filter is_held held.old.received.entries ≡ [] }
+    requires nothing { held_value held.old ≡ record {
+      received = held.old.received;
+      vector = [];
+      names = [];
+      lacks = [];
+    } }
+    ensures held { IfOk result (λ stale.
+        HoldsRest (held_value held.old) (held_value held.new) stale.items) }
+    ensures only { OnlyHolds (held_value held.old) (held_value held.new) }
+{
+    let alloc = held.received.allocator();
+    let tries = clients_of(alloc, held.received.entries())?;
+    let stale = hold_all(held, tries)?;
+    Ok(stale)
 }

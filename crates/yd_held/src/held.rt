@@ -1,16 +1,15 @@
 //! What is held, as one value.
 
-ghost use Rattle.std.specs.Prelude.{◌≡◌, ◌↔◌, [], length, IsTrue, OnOk, OnErr, IfOk};
+ghost use Rattle.std.specs.Prelude.{◌≡◌, ◌↔◌, [], IsTrue, OnOk, OnErr, IfOk};
 ghost use Rattle.yd_ops.specs.Valid.{IsValidUpdate};
 ghost use Rattle.yd_ops.specs.View.{update_value};
-ghost use Rattle.yd_meaning.specs.Received.{with_runs, runs_of};
-ghost use Rattle.yd_received.specs.Entries.{GrowBy};
+ghost use Rattle.yd_updates.specs.Received.{with_groups, groups_of};
 ghost use Rattle.yd_received.specs.Received.{taken_of};
 ghost use Rattle.yd_received.specs.Taking.{BringsOperation};
-ghost use Rattle.yd_held.specs.Holding.{MarkChanges};
-ghost use Rattle.yd_held.specs.Held.{HoldsAll, back_to};
+ghost use Rattle.yd_held.specs.Changing.{TellsChanges, back_to};
+ghost use Rattle.yd_held.specs.Held.{HoldsAll};
 
-use crate::changing::change;
+use crate::changing::{Changed, change};
 use crate::fault::NoMemory;
 use crate::parts::{Before, HeldParts};
 use std::alloc::Global;
@@ -43,8 +42,10 @@ impl Model for Held {
 /// What a `take` did.
 #[derive(Drop)]
 pub struct Taken {
-    /// An operation had a new id.
+    /// An operation had a new id, or said less than the one that was there.
     pub brings: bool,
+    /// All was held anew, and the lists have other numbers than before.
+    pub anew: bool,
     /// A mark for each list: one with a mark got units, and one without got none.
     pub stale: Vec<bool>,
     /// What puts back what was held before.
@@ -82,7 +83,7 @@ impl Held {
         &self.parts.vector
     }
 
-    /// The lists with held units, by number.
+    /// The lists with units that stand, by number.
     pub fn names(&self) -> &[List]
         ensures names { result.now ≡ self.now.names }
         ensures holds { HoldsAll self.now }
@@ -94,25 +95,31 @@ impl Held {
     /// is noted by it, once for each client, and tried again as soon as that is held; then it is
     /// noted no more. So it takes some look-ups for each new run, for each entry that is held, and
     /// for each time that one is tried, and a copy of the clocks and of what is lacked. The names of
-    /// new lists go behind the others. Where memory ends nothing was taken.
+    /// new lists go behind the others. Where an operation says less than one that was there, all
+    /// that is received is held anew. Where memory ends nothing was taken.
     pub fn take(&mut self, update: &Update) -> Result<Taken, NoMemory>
         requires { IsValidUpdate (update_value update.now) }
         ensures received { OnOk result (taken_of self.new.received
-            ≡ with_runs (runs_of (update_value update.now)) (taken_of self.old.received)) }
+            ≡ with_groups (groups_of (update_value update.now)) (taken_of self.old.received)) }
         ensures brings { IfOk result (λ taken. IsTrue taken.brings
             ↔ BringsOperation (update_value update.now) (taken_of self.old.received)) }
-        ensures marked { IfOk result (λ taken. MarkChanges taken.stale.items
-            self.old.received.entries self.new.received.entries
-            (length self.old.names) (length self.new.names)) }
-        ensures grows { OnOk result (GrowBy self.old.names self.new.names) }
+        ensures told { IfOk result (λ taken. TellsChanges taken.anew taken.stale.items
+            self.old self.new) }
         ensures holds { HoldsAll self.new }
         ensures back { IfOk result (λ taken. back_to taken.before self.new ≡ self.old) }
         ensures unchanged { OnErr result (self.new ≡ self.old) }
     {
-        let before = self.parts.before()?;
-        match change(&mut self.parts, update) {
-            Ok((brings, stale)) => Ok(Taken {
+        let mut before = self.parts.before()?;
+        match change(&mut self.parts, &mut before, update) {
+            Ok(
+                Changed {
+                    brings,
+                    anew,
+                    stale,
+                },
+            ) => Ok(Taken {
                 brings,
+                anew,
                 stale,
                 before,
             }),

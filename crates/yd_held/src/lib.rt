@@ -1,9 +1,9 @@
 //! What is held of what was received: each unit whose origins, item and unit before it are held.
 //!
-//! Taking an update in gives exactly the held set that `yd_meaning` defines, however the operations
-//! came ([`Held::take`]). It keeps the clock that each client has reached, and numbers the lists by
-//! their names ([`is_same_list`]). What waits is noted by what it lacks, and tried again when that is
-//! held. A call that finds no memory has changed nothing.
+//! Taking an update in gives exactly the held set that `yd_meaning` defines, and tells what of it is
+//! lost, however the operations came ([`Held::take`]). It keeps the clock that each client has
+//! reached, and numbers the lists by their names ([`is_same_list`]). What waits is noted by what it
+//! lacks, and tried again when that is held. A call that finds no memory has changed nothing.
 //!
 //! ```rust
 //! let mut held = Held::new(alloc);
@@ -20,6 +20,7 @@ mod names;
 mod noting;
 mod numbering;
 mod parts;
+mod placing;
 mod readiness;
 mod trying;
 
@@ -27,4 +28,4 @@ pub use fault::NoMemory;
 pub use held::{Held, Taken};
 pub use names::is_same_list;
 pub use noting::Lack;
-pub use parts::Before;
+pub use parts::{Before, Kept};

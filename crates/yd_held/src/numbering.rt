@@ -1,21 +1,20 @@
 //! The number of the list that units are of.
 
-ghost use Rattle.std.specs.Prelude.{◌≡◌, true, None, Some, is_some, IfSome, IfOk, position};
+ghost use Rattle.std.specs.Prelude.{◌≡◌, true, false, None, Some, is_some, IfSome, IfOk, position};
 ghost use Rattle.yd_meaning.specs.Names.{same_list};
 ghost use Rattle.yd_meaning.specs.Order.{list_or_root};
-ghost use Rattle.yd_received.specs.Entries.{IsTakenOf, GrowBy};
+ghost use Rattle.yd_received.specs.Entries.{IsTakenOf, GrowBy, carried_of};
 ghost use Rattle.yd_held.specs.Numbered.{number_of};
 ghost use Rattle.yd_held.specs.Numbering.{NumbersName, NumbersEntry};
-ghost use Rattle.yd_held.specs.Readiness.{first_list};
 ghost use Rattle.yd_ops.specs.declared.lists.List.{List as DocList};
 
 use crate::fault::NoMemory;
 use crate::names::is_same_list;
 use yd_ids::Id;
 use yd_ops::{List, Run};
-use yd_received::{Entry, Received};
+use yd_received::{Entry, Place, Received};
 
-/// The number of the list of units whose origins are held: that of the left origin, else of the
+/// The number of the list of units whose origins are in lists: that of the left origin, else of the
 /// right origin, else the one that they carry. A list whose name is new is added at the end.
 pub(crate) fn number_for(
     received: &Received,
@@ -23,11 +22,12 @@ pub(crate) fn number_for(
     entry: Entry,
 ) -> Result<usize, NoMemory>
     requires entry { IsTakenOf received.now.runs entry }
+    requires told { entry.is_gone ≡ false }
     requires left { IfSome entry.left
         (λ y. is_some (number_of received.now.entries y) ≡ true) }
     requires right { IfSome entry.right
         (λ y. is_some (number_of received.now.entries y) ≡ true) }
-    ensures number { IfOk result (λ n. NumbersEntry received.now.runs received.now.entries
+    ensures number { IfOk result (λ n. NumbersEntry received.now
         names.old.items names.new.items entry n) }
     ensures grows { GrowBy names.old.items names.new.items }
 {
@@ -46,18 +46,19 @@ fn number_at(received: &Received, id: Id) -> usize
     requires { is_some (number_of received.now.entries id) ≡ true }
     ensures { number_of received.now.entries id ≡ Some result }
 {
-    match received.entries()[received.entry_of(id)].list {
-        Some(number) => number,
-        None => unreachable!(),
+    match received.entries()[received.entry_of(id)].place {
+        Place::In(number) => number,
+        _ => unreachable!(),
     }
 }
 
 /// The number of the list that units without origins carry.
 fn number_carried(runs: &[Run], names: &mut Vec<List>, entry: Entry) -> Result<usize, NoMemory>
     requires entry { IsTakenOf runs.now entry }
+    requires told { entry.is_gone ≡ false }
     requires left { entry.left ≡ None }
     requires right { entry.right ≡ None }
-    ensures number { IfOk result (λ n. NumbersName (list_or_root (first_list runs.now entry))
+    ensures number { IfOk result (λ n. NumbersName (list_or_root (carried_of runs.now entry))
         names.old.items names.new.items n) }
     ensures grows { GrowBy names.old.items names.new.items }
 {

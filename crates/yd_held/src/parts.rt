@@ -1,16 +1,15 @@
 //! What is held of what was received, and what it was before a change.
 
-ghost use Rattle.std.specs.Prelude.{◌≡◌, IfOk, OnOk};
-ghost use Rattle.std.specs.Prelude.{length};
-ghost use Rattle.yd_held.specs.Held.{held_value, back_to};
-ghost use Rattle.yd_held.specs.Changing.{IsOf};
-ghost use Rattle.yd_received.specs.Received.{IsReceived, put_back};
+ghost use Rattle.std.specs.Prelude.{◌≡◌, IfOk};
+ghost use Rattle.yd_held.specs.Held.{held_value};
+ghost use Rattle.yd_held.specs.Changing.{IsOf, back_to, received_before};
+ghost use Rattle.yd_received.specs.Received.{IsReceived};
 
 use crate::fault::NoMemory;
 use crate::noting::Lack;
 use yd_ids::Vector;
 use yd_ops::List;
-use yd_received::Received;
+use yd_received::{Entry, Received};
 
 /// What was received, and what is held of it, while it changes.
 #[derive(Drop)]
@@ -19,7 +18,7 @@ pub struct HeldParts {
     pub received: Received,
     /// The clock up to which each client's units are held.
     pub vector: Vector,
-    /// The lists with held units, by number.
+    /// The lists with units that stand, by number.
     pub names: Vec<List>,
     /// What the next units of clients lack, by the ids that they lack.
     pub lacks: Vec<Lack>,
@@ -30,37 +29,62 @@ pub struct HeldParts {
 pub struct Before {
     /// How many runs there were.
     pub runs: usize,
-    /// How many lists there were.
-    pub names: usize,
+    /// What is kept of the entries and the lists.
+    pub kept: Kept,
     /// The clocks that were reached.
     pub vector: Vector,
     /// What was lacked.
     pub lacks: Vec<Lack>,
 }
 
+/// What is kept of the entries and the lists that there were.
+#[derive(Drop)]
+pub enum Kept {
+    /// Others are only added, so it is enough how many lists there were.
+    Count(usize),
+    /// All is held anew, so the entries are kept, and the lists.
+    All(Vec<Entry>, Vec<List>),
+}
+
 impl HeldParts {
-    /// What it is before a change. It copies clients and what is lacked, and no units.
+    /// What it is before a change that only adds to it. It copies clients and what is lacked, and no
+    /// units.
     pub(crate) fn before(&self) -> Result<Before, NoMemory>
         ensures { IfOk result (IsOf (held_value self.now)) }
     {
         let alloc = self.received.allocator();
         Ok(Before {
             runs: self.received.runs().len(),
-            names: self.names.len(),
+            kept: Kept::Count(self.names.len()),
             vector: self.vector.copy()?,
             lacks: Vec::from_slice(alloc, &self.lacks)?,
         })
     }
 
-    /// Puts back what it was: what was added to the runs and the names goes, and what was taken of
-    /// them; units above the old clocks wait again.
+    /// Puts back what it was. Where others were only added, what was added to the runs and the
+    /// lists goes, and what was taken of them, and units above the old clocks wait again.
     pub(crate) fn put_back(&mut self, before: Before)
-        requires { IsReceived (put_back before.runs before.vector self.old.received) }
+        requires { IsReceived (received_before before.kept before.runs before.vector
+            self.old.received) }
         ensures { held_value self.new ≡ back_to before (held_value self.old) }
     {
-        self.received.put_back(before.runs, &before.vector);
-        self.names.truncate(before.names);
-        self.vector = before.vector;
-        self.lacks = before.lacks;
+        let Before {
+            runs,
+            kept,
+            vector,
+            lacks,
+        } = before;
+        match kept {
+            Kept::Count(lists) => {
+                self.received.put_back(runs, &vector);
+                self.names.truncate(lists);
+            }
+            Kept::All(entries, lists) => {
+                self.received.put_back_entries(runs, entries);
+                self.names = lists;
+            }
+        }
+        self.vector = vector;
+        self.lacks = lacks;
     }
 }

@@ -4,15 +4,16 @@ ghost use Rattle.std.specs.Prelude.{◌≡◌, IfSome};
 ghost use Rattle.yd_ids.specs.Id.{IsId};
 ghost use Rattle.yd_meaning.specs.Names.{item_of_parent};
 ghost use Rattle.yd_meaning.specs.Held.{item_carried};
-ghost use Rattle.yd_received.specs.Entries.{IsTakenOf};
-ghost use Rattle.yd_held.specs.Readiness.{missing_of, lack_of, first_list};
+ghost use Rattle.yd_received.specs.Entries.{IsTakenOf, carried_of};
+ghost use Rattle.yd_held.specs.Readiness.{missing_of, lack_of};
 
 use yd_ids::{Id, Vector};
 use yd_ops::{List, Parent, Run};
 use yd_received::Entry;
 
 /// What units at their client's clock lack: an origin of the first, or the item of the list that it
-/// carries, which is not held. The later ones need the one before them and the same right origin.
+/// carries, which is not held. The later ones need the one before them and the same right origin,
+/// and gone ones only the one before them.
 /// It takes time with the logarithm of how many clients there are.
 pub(crate) fn lack_of(runs: &[Run], vector: &Vector, entry: Entry) -> Option<Id>
     requires { IsTakenOf runs.now entry }
@@ -40,12 +41,12 @@ fn missing_of(vector: &Vector, id: Option<Id>) -> Option<Id>
 }
 
 /// The item of the list that the first of the units carries.
-fn first_item(runs: &[Run], entry: Entry) -> Option<Id>
+pub(crate) fn first_item(runs: &[Run], entry: Entry) -> Option<Id>
     requires { IsTakenOf runs.now entry }
-    ensures item { result ≡ item_carried (first_list runs.now entry) }
+    ensures item { result ≡ item_carried (carried_of runs.now entry) }
     ensures is_id { IfSome result IsId }
 {
-    if entry.offset > 0 {
+    if entry.is_gone || entry.offset > 0 {
         return None;
     }
     item_in(&runs[entry.run].list)

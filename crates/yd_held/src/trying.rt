@@ -6,6 +6,7 @@ ghost use Rattle.yd_words.specs.Each.{Each};
 ghost use Rattle.yd_ids.specs.declared.id.Client.{Client};
 ghost use Rattle.yd_ids.specs.Vector.{clock_of};
 ghost use Rattle.yd_ops.specs.declared.runs.Run.{Run};
+ghost use Rattle.yd_received.specs.declared.entry.Entry.{Entry};
 ghost use Rattle.yd_ids.specs.Id.{IsId};
 ghost use Rattle.yd_held.specs.Noted.{AreNoted, Finds, StayMissing};
 ghost use Rattle.yd_words.specs.Member.{IsIn};
@@ -17,7 +18,7 @@ use crate::readiness::lack_of;
 use std::alloc::Global;
 use yd_ids::{Client, Id, Vector};
 use yd_ops::Run;
-use yd_received::Received;
+use yd_received::{Entry, Received};
 
 /// No client has this number or a greater one.
 const CLIENTS_END: u64 = 1 << 53;
@@ -35,6 +36,18 @@ pub(crate) fn clients_from(
     let mut clients = Vec::new(alloc);
     for run in &runs[from..] {
         try_client(&mut clients, run.id.client)?;
+    }
+    Ok(clients)
+}
+
+/// The clients of the entries, each of a row of entries once.
+pub(crate) fn clients_of(alloc: Global, entries: &[Entry]) -> Result<Vec<Client>, NoMemory>
+    ensures { IfOk result (λ clients.
+        Each (λ (t : Entry). IsIn t.id.client clients.items) entries.now) }
+{
+    let mut clients = Vec::new(alloc);
+    for entry in entries {
+        try_client(&mut clients, entry.id.client)?;
     }
     Ok(clients)
 }

@@ -1,37 +1,38 @@
-use Rattle.std.proofs.Common.{length, sym, ap, subst}
-use Rattle.yd_received.specs.Received.{ReceivedValue}
-use Rattle.yd_held.specs.Changing.{IsChanged}
+use Rattle.std.proofs.Common.{length, ap}
 use Rattle.yd_held.specs.Held.{held_value}
-use Rattle.yd_held.proofs.BackLemmas.{changed_none, changed_holding}
-use Rattle.yd_held.proofs.KeptLemmas.{holding_taken, noted_taken, marked_taken}
+use Rattle.yd_held.proofs.BackLemmas.{none_back, added_back}
+use Rattle.yd_held.proofs.KeptLemmas.{brought_adds, holding_added, noted_added, marked_alike}
 use Rattle.yd_held.proofs.changing.change.Goals as goal
 
-pub returns-in_err-brings-clause-changed : goal.returns-in_err-brings-clause-changed
-returns-in_err-brings-clause-changed c =
-    let held = held_value c.args.held.now in
-    subst (λ (r : ReceivedValue). IsChanged held (record { received = r; vector = held.vector; names = held.names; lacks = held.lacks }))
-    (sym c.in_err-brings.ensures.unchanged) (changed_none held c.requires.holds)
+pub returns-in_err-brought-clause-back : goal.returns-in_err-brought-clause-back
+returns-in_err-brought-clause-back c = none_back (held_value c.args.held.now) c.requires.holds c.args.before.now c.requires.before c.take.new.self c.in_err-brought.ensures.unchanged
 
-pub hold_all-requires-clause-holding : goal.hold_all-requires-clause-holding
-hold_all-requires-clause-holding c =
-    holding_taken (held_value c.args.held.now) c.take.new.self c.requires.holds c.in_ok-brings.ensures.grows c.take.ensures.kept c.in_ok-brings.ensures.held
+pub hold_new-requires-clause-holding : goal.hold_new-requires-clause-holding
+hold_new-requires-clause-holding c =
+    let adds = brought_adds c.args.held.now.received c.take.new.self c.in_ok-brought.brought c.in_default.not-Lowered c.in_ok-brought.ensures.brought in
+    holding_added (held_value c.args.held.now) c.take.new.self c.requires.holds c.in_ok-brought.ensures.grows c.take.ensures.kept adds
 
-pub hold_all-requires-clause-noted : goal.hold_all-requires-clause-noted
-hold_all-requires-clause-noted c =
-    noted_taken (held_value c.args.held.now) c.take.new.self c.requires.holds c.in_ok-brings.ensures.grows c.take.ensures.kept c.in_ok-brings.ensures.held
-    _ (ap length c.runs-from.ensures) c.in_ok-brings.ensures.first
+pub hold_new-requires-clause-noted : goal.hold_new-requires-clause-noted
+hold_new-requires-clause-noted c =
+    let adds = brought_adds c.args.held.now.received c.take.new.self c.in_ok-brought.brought c.in_default.not-Lowered c.in_ok-brought.ensures.brought in
+    noted_added (held_value c.args.held.now) c.take.new.self c.requires.holds c.in_ok-brought.ensures.grows c.take.ensures.kept adds _ (ap length c.runs-from.ensures)
 
-pub returns-in_err-stale-clause-changed : goal.returns-in_err-stale-clause-changed
-returns-in_err-stale-clause-changed c =
-    changed_holding (held_value c.args.held.now) c.requires.holds c.take.new.self (held_value c.hold_all.new.held) c.in_ok-brings.ensures.grows c.in_ok-brings.ensures.first
-    c.hold_all.ensures.runs c.hold_all.ensures.undone c.hold_all.ensures.grows
+pub returns-in_err-stale-2-clause-back : goal.returns-in_err-stale-2-clause-back
+returns-in_err-stale-2-clause-back c =
+    let adds = brought_adds c.args.held.now.received c.take.new.self c.in_ok-brought.brought c.in_default.not-Lowered c.in_ok-brought.ensures.brought in
+    added_back (held_value c.args.held.now) c.requires.holds c.take.new.self c.in_ok-brought.ensures.grows adds (held_value c.hold_new.new.held) c.hold_new.ensures.only
+    c.args.before.now c.requires.before
 
-pub returns-clause-marked : goal.returns-clause-marked
-returns-clause-marked c =
-    marked_taken (held_value c.args.held.now) c.take.new.self c.requires.holds c.in_ok-brings.ensures.grows c.take.ensures.kept c.in_ok-brings.ensures.held
-    _ _ _ _ c.in_ok-stale.ensures.marked
+pub returns-clause-back : goal.returns-clause-back
+returns-clause-back c =
+    let adds = brought_adds c.args.held.now.received c.take.new.self c.in_ok-brought.brought c.in_default.not-Lowered c.in_ok-brought.ensures.brought in
+    added_back (held_value c.args.held.now) c.requires.holds c.take.new.self c.in_ok-brought.ensures.grows adds (held_value c.hold_new.new.held) c.hold_new.ensures.only
+    c.args.before.now c.requires.before
 
-pub returns-clause-changed : goal.returns-clause-changed
-returns-clause-changed c =
-    changed_holding (held_value c.args.held.now) c.requires.holds c.take.new.self (held_value c.hold_all.new.held) c.in_ok-brings.ensures.grows c.in_ok-brings.ensures.first
-    c.hold_all.ensures.runs c.hold_all.ensures.undone c.hold_all.ensures.grows
+pub returns-clause-told : goal.returns-clause-told
+returns-clause-told c =
+    let adds = brought_adds c.args.held.now.received c.take.new.self c.in_ok-brought.brought c.in_default.not-Lowered c.in_ok-brought.ensures.brought in (
+      marked_alike c.in_ok-stale-2.stale.items c.args.held.now.received.entries c.take.new.self.entries c.hold_new.new.held.received.entries _ _ adds.held
+          c.in_ok-stale-2.ensures.held.marked,
+      c.hold_new.ensures.only.grows,
+    )

@@ -1,42 +1,41 @@
-use Rattle.std.proofs.Common.{◌≤◌, sym, subst}
+use Rattle.std.proofs.Common.{refl, sym, subst}
 use Rattle.yd_received.proofs.EntryLemmas.{no_entry}
-use Rattle.yd_held.proofs.HoldAtLemmas.{left_numbered, right_numbered, is_entry, fewer_waiting, number_within, holding_then, holds_more, holds_entry}
+use Rattle.yd_held.specs.Held.{held_value}
+use Rattle.yd_held.specs.Holding.{IsWithin}
+use Rattle.yd_held.proofs.HoldAtLemmas.{origins_covered, is_entry, within, fewer_waiting, holds_entry, holding_then, holds_more}
 use Rattle.yd_held.proofs.holding.hold_at.Goals as goal
 
-pub number_for-requires-clause-entry : goal.number_for-requires-clause-entry
-number_for-requires-clause-entry c = is_entry c.args.held.now.received c.entries.result.now c.args.held.now.vector c.args.held.now.names.items c.args.at no_entry c.entries.ensures.entries
-    c.requires.holding c.requires.inside c.requires.ready
+pub place_for-requires-clause-entry : goal.place_for-requires-clause-entry
+place_for-requires-clause-entry c = is_entry (held_value c.args.held.now) c.entries.result.now c.args.at no_entry c.entries.ensures.entries c.requires.holding c.requires.inside c.requires.ready
 
-pub number_for-requires-clause-left : goal.number_for-requires-clause-left
-number_for-requires-clause-left c = left_numbered c.args.held.now.received c.entries.result.now c.args.held.now.vector c.args.held.now.names.items c.args.at no_entry c.entries.ensures.entries
-    c.requires.holding c.requires.inside c.requires.ready
+pub place_for-requires-clause-held : goal.place_for-requires-clause-held
+place_for-requires-clause-held c =
+    origins_covered (held_value c.args.held.now) c.entries.result.now c.args.at no_entry c.entries.ensures.entries c.requires.holding c.requires.inside c.requires.ready
 
-pub number_for-requires-clause-right : goal.number_for-requires-clause-right
-number_for-requires-clause-right c = right_numbered c.args.held.now.received c.entries.result.now c.args.held.now.vector c.args.held.now.names.items c.args.at no_entry c.entries.ensures.entries
-    c.requires.holding c.requires.inside c.requires.ready
-
-pub mark-requires : goal.mark-requires
-mark-requires c = subst (λ n. c.in_ok-number.number ≤ n) (sym c.requires.marks) (number_within c.args.held.now.received c.entries.result.now c.args.held.now.vector c.args.held.now.names.items c.args.at no_entry c.entries.ensures.entries
-    c.requires.holding c.requires.inside c.requires.ready
-    c.number_for.new.names.items c.in_ok-number.number c.in_ok-number.ensures.number)
+pub mark_place-requires : goal.mark_place-requires
+mark_place-requires c = subst (λ n. IsWithin n c.in_ok-place.place) (sym c.requires.marks)
+    (within (held_value c.args.held.now) c.entries.result.now c.args.at no_entry c.entries.ensures.entries c.requires.holding c.requires.inside c.requires.ready
+    c.place_for.new.names.items c.in_ok-place.place c.in_ok-place.ensures.place)
 
 pub returns-clause-holding : goal.returns-clause-holding
-returns-clause-holding c = holding_then c.args.held.now.received c.entries.result.now c.args.held.now.vector c.args.held.now.names.items c.args.at no_entry c.entries.ensures.entries
-    c.requires.holding c.requires.inside c.requires.ready
-    c.in_ok-number.number c.hold.new.self c.hold.ensures c.number_for.new.names.items c.in_ok-number.ensures.number c.raise.new.self c.in_ok-raise.ensures.raised
+returns-clause-holding c =
+    holding_then (held_value c.args.held.now) c.entries.result.now c.args.at no_entry c.entries.ensures.entries c.requires.holding c.requires.inside c.requires.ready
+    c.in_ok-place.place c.hold.new.self c.hold.ensures c.place_for.new.names.items c.in_ok-place.ensures.place
+    (record { received = c.hold.new.self; vector = c.raise.new.self; names = c.place_for.new.names.items; lacks = c.args.held.now.lacks.items })
+    refl c.in_ok-raise.ensures.raised refl
 
 pub returns-clause-more : goal.returns-clause-more
-returns-clause-more c = holds_more c.args.held.now.received c.entries.result.now c.args.held.now.vector c.args.held.now.names.items c.args.at no_entry c.entries.ensures.entries
-    c.requires.holding c.requires.inside c.requires.ready
-    c.in_ok-number.number c.hold.new.self c.hold.ensures c.number_for.new.names.items c.in_ok-number.ensures.number
-    c.args.stale.now.items c.mark.new.stale.items c.requires.marks c.in_ok-mark.ensures
+returns-clause-more c =
+    holds_more (held_value c.args.held.now) c.entries.result.now c.args.at no_entry c.entries.ensures.entries c.requires.holding c.requires.inside c.requires.ready
+    c.in_ok-place.place c.hold.new.self c.hold.ensures c.place_for.new.names.items c.in_ok-place.ensures.place
+    c.args.stale.now.items c.mark_place.new.stale.items c.requires.marks c.in_ok-mark_place.ensures
 
 pub returns-clause-fewer : goal.returns-clause-fewer
-returns-clause-fewer c = fewer_waiting c.args.held.now.received c.entries.result.now c.args.held.now.vector c.args.held.now.names.items c.args.at no_entry c.entries.ensures.entries
-    c.requires.holding c.requires.inside c.requires.ready
-    c.in_ok-number.number c.hold.new.self c.hold.ensures
+returns-clause-fewer c =
+    fewer_waiting (held_value c.args.held.now) c.entries.result.now c.args.at no_entry c.entries.ensures.entries c.requires.holding c.requires.inside c.requires.ready
+    c.in_ok-place.place c.hold.new.self c.hold.ensures c.place_for.new.names.items c.in_ok-place.ensures.place
 
 pub returns-clause-held : goal.returns-clause-held
-returns-clause-held c = holds_entry c.args.held.now.received c.entries.result.now c.args.held.now.vector c.args.held.now.names.items c.args.at no_entry c.entries.ensures.entries
-    c.requires.holding c.requires.inside c.requires.ready
-    c.in_ok-number.number c.hold.new.self c.hold.ensures c.raise.new.self c.in_ok-raise.ensures.raised
+returns-clause-held c =
+    holds_entry (held_value c.args.held.now) c.entries.result.now c.args.at no_entry c.entries.ensures.entries c.requires.holding c.requires.inside c.requires.ready
+    c.in_ok-place.place c.hold.new.self c.hold.ensures c.place_for.new.names.items c.in_ok-place.ensures.place c.raise.new.self c.in_ok-raise.ensures.raised

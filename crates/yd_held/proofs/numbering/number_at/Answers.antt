@@ -1,7 +1,8 @@
-use Rattle.std.proofs.Common.{◌∙◌, List, Option, ℕ, get_or, is_some, ap, sym, true≢false}
-use Rattle.yd_received.specs.declared.entry.Entry.{Entry}
+use Rattle.std.proofs.Common.{◌∙◌, ap, sym}
+use Rattle.std.specs.Prelude.{is_some}
 use Rattle.yd_received.proofs.EntryLemmas.{no_entry}
-use Rattle.yd_held.proofs.NumberOfLemmas.{number_of-entry, numbered_covered}
+use Rattle.yd_held.specs.Numbered.{list_at_place}
+use Rattle.yd_held.proofs.NumberOfLemmas.{number_read, numbered_covered, numbered_place}
 use Rattle.yd_held.proofs.numbering.number_at.Goals as goal
 
 pub entry_of-requires : goal.entry_of-requires
@@ -9,9 +10,12 @@ entry_of-requires c = numbered_covered c.args.received.now.entries c.args.id c.r
 
 pub unreachable-requires : goal.unreachable-requires
 unreachable-requires c =
-    let number = number_of-entry c.args.received.now.entries c.args.id c.entry_of.result no_entry c.entries.ensures.kept.in_order c.entry_of.ensures.inside (c.entry_of.ensures.covers no_entry) ∙ ap (λ (us : List Entry). (get_or us c.entry_of.result no_entry).list) (sym c.entries.ensures.entries) ∙ c.in-None.is in
-    true≢false (sym c.requires ∙ ap (λ (z : Option ℕ). is_some z) number)
+    let number = number_read c.args.received.now.entries c.entries.result.now c.args.id c.entry_of.result no_entry c.entries.ensures.entries
+    c.entries.ensures.kept.in_order c.entry_of.ensures.inside (c.entry_of.ensures.covers no_entry) in
+    numbered_place _ (ap is_some (sym number) ∙ c.requires) c.in_default.not-In
 
 pub returns : goal.returns
 returns c =
-    number_of-entry c.args.received.now.entries c.args.id c.entry_of.result no_entry c.entries.ensures.kept.in_order c.entry_of.ensures.inside (c.entry_of.ensures.covers no_entry) ∙ ap (λ (us : List Entry). (get_or us c.entry_of.result no_entry).list) (sym c.entries.ensures.entries) ∙ c.in-Some.is
+    number_read c.args.received.now.entries c.entries.result.now c.args.id c.entry_of.result no_entry c.entries.ensures.entries
+    c.entries.ensures.kept.in_order c.entry_of.ensures.inside (c.entry_of.ensures.covers no_entry)
+    ∙ ap list_at_place c.in-In.is

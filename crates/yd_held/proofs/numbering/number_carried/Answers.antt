@@ -7,6 +7,6 @@ pub returns-clause-number : goal.returns-clause-number
 returns-clause-number c =
     let entry = c.args.entry in
     subst (λ name. NumbersName name c.args.names.now.items c.number_named.new.names.items c.in_ok-number-in-Some.number)
-    (sym (carried_is c.args.runs.now entry.run c.index-runs-entry.result entry.offset entry.left entry.right c.in-Some.name
-    c.requires.entry.run_there c.index-runs-entry.is c.requires.left c.requires.right c.requires.entry.list (ap (λ run. run.list) c.index-runs-entry.is ∙ c.in-Some.is)))
+    (sym (carried_is c.args.runs.now entry c.index-runs-entry.result c.in-Some.name
+    c.requires.entry c.requires.told c.index-runs-entry.is c.requires.left c.requires.right (ap (λ run. run.list) c.index-runs-entry.is ∙ c.in-Some.is)))
     c.in_ok-number-in-Some.ensures.number
