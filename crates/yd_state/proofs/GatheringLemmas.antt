@@ -1,11 +1,14 @@
 -- The stretches of each list with a mark, as they are gathered one entry after another.
-use Rattle.std.proofs.Common.{◌≡◌, ◌≢◌, ℕ, ◌<◌, Bool, true, false, List, [], ◌∷◌, ◌++◌, Option, Some, None, zero, suc, length, map, set, get_or, replicate, refl, sym, ap, ◌∙◌, subst, arith, tests, true≢false}
+use Rattle.std.proofs.Common.{◌≡◌, ◌≢◌, ℕ, ◌<◌, Bool, true, false, List, [], ◌∷◌, ◌++◌, Some, zero, suc, length, map, set, get_or, replicate, refl, sym, ap, ◌∙◌, subst, arith, tests, true≢false}
 use Rattle.std.specs.Prelude.{filter, if◌then◌else◌, nat_eq, slice_get}
 use Rattle.std.specs.Global.{Vec}
 use Rattle.std.proofs.lemmas.List.{map-append, length-replicate, append-nil}
 use Rattle.std.proofs.lemmas.List.Elements.{filter-append}
 use Rattle.yd_order.specs.declared.stretch.Stretch.{Stretch}
 use Rattle.yd_received.specs.declared.entry.Entry.{Entry}
+use Rattle.yd_received.specs.declared.place.Place.{Place}
+use Rattle.yd_received.specs.declared.place.Place.TheVariants.{Waits, Lost, In}
+use Rattle.yd_received.specs.Received.{with_place}
 use Rattle.yd_held.specs.Numbered.{is_in_list}
 use Rattle.yd_state.specs.Stretches.{stretch_of, stretches_in, stretch_lists, with_last, AreGathered}
 
@@ -38,17 +41,18 @@ stretches_in-one m t true e = rw e refl
 stretches_in-one m t false e = rw e refl
 
 -- an entry is in the list of its number, and in no other
-in_list-own : (n : ℕ) (t : Entry) → t.list ≡ Some n → is_in_list n t ≡ true
+in_list-own : (n : ℕ) (t : Entry) → t.place ≡ In n → is_in_list n t ≡ true
 in_list-own n t e = rw e (grind (arith, tests))
 
-in_list-is : (m : ℕ) (t : Entry) → is_in_list m t ≡ true → t.list ≡ Some m
-in_list-is m t = go t.list
+in_list-is : (m : ℕ) (t : Entry) → is_in_list m t ≡ true → t.place ≡ In m
+in_list-is m t = go t.place
   where
-    go : (z : Option ℕ) → is_in_list m (record { id = t.id; len = t.len; left = t.left; right = t.right; run = t.run; offset = t.offset; list = z }) ≡ true → z ≡ Some m
-    go None e = absurd (true≢false (sym e))
-    go (Some n) e = let same : n ≡ m = grind (arith, tests) in ap Some same
+    go : (p : Place) → is_in_list m (with_place t p) ≡ true → p ≡ In m
+    go Waits e = absurd (true≢false (sym e))
+    go Lost e = absurd (true≢false (sym e))
+    go (In n) e = let same : n ≡ m = grind (arith, tests) in ap In same
 
-in_list-other : (m : ℕ) (t : Entry) → (t.list ≡ Some m → ⊥) → is_in_list m t ≡ false
+in_list-other : (m : ℕ) (t : Entry) → (t.place ≡ In m → ⊥) → is_in_list m t ≡ false
 in_list-other m t other = go (is_in_list m t) refl
   where
     go : (u : Bool) → is_in_list m t ≡ u → u ≡ false
@@ -70,11 +74,11 @@ gathered_none stale = record { each = length-replicate (length stale) empty; gat
     none (mark ∷ marks) (suc n) e = none marks n e
 
 -- the stretch of an entry is put behind those of its list
-pub gathered_put : (stale : List Bool) (seen : List Entry) (t : Entry) (n : ℕ) (buckets : List (List Stretch)) → t.list ≡ Some n →
+pub gathered_put : (stale : List Bool) (seen : List Entry) (t : Entry) (n : ℕ) (buckets : List (List Stretch)) → t.place ≡ In n →
     AreGathered stale seen buckets → AreGathered stale (seen ++ t ∷ []) (with_last n (stretch_of t) buckets)
 gathered_put stale seen t n buckets is g = record { each = length-with_last n (stretch_of t) buckets ∙ g.each; gathered = go }
   where
-    one_number : {m : ℕ} → Some n ≡ Some m → n ≡ m
+    one_number : {m : ℕ} → ◌≡◌ {A = Place} (In n) (In m) → n ≡ m
     one_number e = cc
 
     go : (m : ℕ) → slice_get stale m ≡ Some true → slice_get (with_last n (stretch_of t) buckets) m ≡ Some (stretches_in m (seen ++ t ∷ []))
@@ -84,7 +88,7 @@ gathered_put stale seen t n buckets is g = record { each = length-with_last n (s
         pick true e = let same : n ≡ m = grind (arith, tests) in
             subst (λ k. slice_get (with_last k (stretch_of t) buckets) m ≡ Some (stretches_in m (seen ++ t ∷ []))) (sym same)
             (with_last-same m (stretch_of t) buckets (stretches_in m seen) (g.gathered m marked)
-            ∙ ap Some (sym (stretches_in-more m seen t ∙ ap (λ (k : List Stretch). stretches_in m seen ++ k) (stretches_in-one m t true (in_list-own m t (is ∙ ap Some same))))))
+            ∙ ap Some (sym (stretches_in-more m seen t ∙ ap (λ (k : List Stretch). stretches_in m seen ++ k) (stretches_in-one m t true (in_list-own m t (is ∙ ap In same))))))
         pick false e = let other : n ≢ m = λ (same : n ≡ m). grind (arith, tests) in
             with_last-other n m (stretch_of t) buckets other ∙ g.gathered m marked
             ∙ ap Some (sym (stretches_in-more m seen t
@@ -93,7 +97,7 @@ gathered_put stale seen t n buckets is g = record { each = length-with_last n (s
 
 -- an entry that is of no list with a mark adds nothing
 pub gathered_skip : (stale : List Bool) (seen : List Entry) (t : Entry) (buckets : List (List Stretch)) →
-    ((n : ℕ) → t.list ≡ Some n → slice_get stale n ≡ Some true → ⊥) →
+    ((n : ℕ) → t.place ≡ In n → slice_get stale n ≡ Some true → ⊥) →
     AreGathered stale seen buckets → AreGathered stale (seen ++ t ∷ []) buckets
 gathered_skip stale seen t buckets unmarked g = record {
   each = g.each;

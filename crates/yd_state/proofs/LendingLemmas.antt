@@ -1,9 +1,9 @@
 -- Ids of a list that are in a row: the units that they lend are those of their entry.
-use Rattle.std.proofs.Common.{◌≡◌, ℕ, zero, suc, ◌+◌, ◌-◌, ◌<◌, ◌≤◌, Bool, true, false, List, [], ◌∷◌, ◌++◌, Some, inl, inr, length, take, drop, map, get_or, refl, sym, ap, ◌∙◌, subst, arith, true≢false}
+use Rattle.std.proofs.Common.{◌≡◌, ℕ, zero, suc, ◌+◌, ◌-◌, ◌<◌, ◌≤◌, Bool, true, false, List, [], ◌∷◌, ◌++◌, Some, length, take, drop, map, get_or, refl, sym, ap, ◌∙◌, subst, arith, true≢false}
 use Rattle.std.specs.Prelude.{◌↔◌, slice_get, Decides}
 use Rattle.std.proofs.lemmas.Option.{slice_get-get_or}
-use Rattle.std.proofs.lemmas.Bool.{or_right}
 use Rattle.yd_words.specs.Member.{AreDistinct, IsIn}
+use Rattle.yd_words.proofs.MemberLemmas.{each_in}
 use Rattle.yd_words.proofs.TestLemmas.{one_answer}
 use Rattle.yd_ids.specs.declared.id.Id.{Id}
 use Rattle.yd_ids.specs.declared.id.Span.{Span}
@@ -15,21 +15,22 @@ use Rattle.yd_ops.specs.Value.{len_of}
 use Rattle.yd_ops.specs.View.{content_value}
 use Rattle.yd_ops.proofs.OperationLemmas.{length-units_of_content}
 use Rattle.yd_origins.specs.Table.{ids_of}
-use Rattle.yd_meaning.specs.Received.{has_operation}
+use Rattle.yd_updates.specs.Received.{has_operation}
 use Rattle.yd_meaning.specs.Held.{is_named}
 use Rattle.yd_meaning.specs.Order.{rows_of}
 use Rattle.yd_meaning.specs.Document.{operation_before, operations_at}
 use Rattle.yd_meaning.proofs.RowLemmas.{written_distinct}
 use Rattle.yd_meaning.proofs.DocumentLemmas.{found_before}
 use Rattle.yd_received.specs.declared.entry.Entry.{Entry}
-use Rattle.yd_received.specs.Entries.{units_of, list_at, operations_of_taken, IsTakenOf, AreTaken, held_in, covers}
+use Rattle.yd_received.specs.Entries.{units_of, list_at, operations_told, operations_of_taken, IsTold, TellsRight, IsTakenOf, AreTaken, is_listed, standing_in, covers}
+use Rattle.yd_received.specs.Received.{ReceivedValue}
+use Rattle.yd_state.specs.Lending.{AreTold}
 use Rattle.yd_state.specs.Lent.{Lent, lent, lent_from, lent_in, IsRow}
 use Rattle.yd_received.specs.Taking.{is_covered}
 use Rattle.yd_state.proofs.NamedLemmas.{named_decides}
 use Rattle.yd_received.proofs.EntryLemmas.{covers_in}
 use Rattle.yd_held.proofs.HeldUnitLemmas.{covers_less, covers_unit}
-use Rattle.yd_received.proofs.WrittenLemmas.{held_written}
-use Rattle.yd_held.proofs.HeldEntryLemmas.{is_taken, entry_held, covers_held, id_held}
+use Rattle.yd_held.proofs.HeldEntryLemmas.{is_taken, chosen_written, entry_chosen, covers_chosen, chosen_covered}
 use Rattle.yd_ops.proofs.OperationLemmas.{later_none, later_later}
 use Rattle.yd_received.proofs.UnitLemmas.{later_same, from_unit}
 
@@ -111,12 +112,7 @@ drop_here (suc k) (y ∷ ys) x e = drop_here k ys x e
 
 -- ---- operations
 
-entry_covers : (ts : List Entry) (t : Entry) (x : Id) → IsIn t ts → covers t x ≡ true → is_covered ts x ≡ true
-entry_covers [] t x i e = absurd i
-entry_covers (s ∷ ss) t x (inl f) e = rw (ap (λ u. covers u x) (sym f) ∙ e) refl
-entry_covers (s ∷ ss) t x (inr i) e = or_right (covers s x) (is_covered ss x) (entry_covers ss t x i e)
-
--- the held operation with an id holds the unit
+-- the operation with an id holds the unit
 abbrev Holds : List Operation → List UnitContent → Id → ℕ → Type 0
 Holds held units x k = (o : Operation) × IsIn o held × (o.id ≡ x) × (slice_get units k ≡ Some o.content)
 
@@ -154,10 +150,13 @@ lent_row held distinct deletes units deleted (suc n) k id (x ∷ order) holds ro
 
 -- ---- lemmas for callers
 
-module _ (runs : List Run) (taken : List Entry) (are : AreTaken runs taken) (id : Id) (held : has_operation (held_in runs taken) id ≡ true) where
-  -- a held id is one of those that were taken
-  pub held_covered : is_covered taken id ≡ true
-  held_covered = let (t, i, is, e) = id_held runs taken are.each are.in_order id held in entry_covers taken t id i e
+module _ (runs : List Run) (taken : List Entry) (are : AreTaken runs taken) (told : AreTold taken) (id : Id) (stands : has_operation (standing_in runs taken) id ≡ true) where
+  abbrev kept : ReceivedValue
+  kept = record { runs = runs; entries = taken }
+
+  -- an id of a list is one of those that were taken
+  pub listed_covered : is_covered taken id ≡ true
+  listed_covered = chosen_covered is_listed kept are id stands
 
   module _ (t : Entry) (is_there : IsIn t taken) (is_its : covers t id ≡ true) where
     abbrev skipped : ℕ
@@ -166,15 +165,25 @@ module _ (runs : List Run) (taken : List Entry) (are : AreTaken runs taken) (id 
     abbrev all_units : List UnitContent
     all_units = units_of (slice_get runs t.run)
 
+    is : IsTakenOf runs t
+    is = is_taken kept are t is_there
+
+    listed : is_listed t ≡ true
+    listed = covers_chosen is_listed kept are t id is_there is_its stands
+
+    -- the units of its entry are those of a run
+    not_gone : t.is_gone ≡ false
+    not_gone = each_in (λ (t : Entry). is_listed t ≡ true → t.is_gone ≡ false) taken told t is_there listed
+
+    of_run : IsTold runs t
+    of_run = subst (λ b. TellsRight b runs t) not_gone is.told
+
     -- so many ids from it on are of its entry
-    holds_at : (n : ℕ) → n ≤ t.len - skipped → (i : ℕ) → i < n → Holds (held_in runs taken) all_units (later_id id i) (t.offset + skipped + i)
+    holds_at : (n : ℕ) → n ≤ t.len - skipped → (i : ℕ) → i < n → Holds (standing_in runs taken) all_units (later_id id i) (t.offset + skipped + i)
     holds_at n le i lt =
         let own : covers t (later_id id i) ≡ true = covers_in t (later_id id i) client (omega (arith, low)) (omega (arith, low)) in
         of_one (covers_unit runs t is (later_id id i) own)
       where
-        is : IsTakenOf runs t
-        is = is_taken runs taken are.each are.in_order t is_there
-
         client : t.id.client.0 ≡ id.client.0
         client = (covers_less t id is_its).0
 
@@ -183,30 +192,30 @@ module _ (runs : List Run) (taken : List Entry) (are : AreTaken runs taken) (id 
 
         with_unit : (o : Operation) → IsIn o (operations_of_taken runs t) → o.id ≡ later_id id i →
             (m : ℕ) × (m < length (take t.len (drop t.offset all_units))) × (o.id ≡ later_id t.id m) × (slice_get (take t.len (drop t.offset all_units)) m ≡ Some o.content) →
-            Holds (held_in runs taken) all_units (later_id id i) (t.offset + skipped + i)
+            Holds (standing_in runs taken) all_units (later_id id i) (t.offset + skipped + i)
         with_unit o j e (m, less, f, unit) =
             let place : m ≡ skipped + i = unit_place t.id id o.id m i low f e in (
               o,
-              entry_held runs taken are.each are.in_order t is_there (covers_held runs taken are.each are.in_order t id is_there is_its held) o j,
+              entry_chosen is_listed kept are t is_there listed o j,
               e,
               part_unit t.offset t.len all_units m (t.offset + skipped + i) o.content unit (omega arith),
             )
 
-        of_one : (o : Operation) × IsIn o (operations_of_taken runs t) × (o.id ≡ later_id id i) → Holds (held_in runs taken) all_units (later_id id i) (t.offset + skipped + i)
-        of_one (o, j, e) = with_unit o j e (from_unit t.id t.left t.right (list_at (slice_get runs t.run) t.offset) (take t.len (drop t.offset all_units)) o j)
+        of_one : (o : Operation) × IsIn o (operations_of_taken runs t) × (o.id ≡ later_id id i) → Holds (standing_in runs taken) all_units (later_id id i) (t.offset + skipped + i)
+        of_one (o, j, e) = with_unit o j e (from_unit t.id t.left t.right (list_at (slice_get runs t.run) t.offset) (take t.len (drop t.offset all_units)) o
+            (subst (λ b. IsIn o (operations_told b runs t)) not_gone j))
 
     run_there : (d : Run) → slice_get runs t.run ≡ Some (get_or runs t.run d)
-    run_there d = slice_get-get_or runs t.run d (is_taken runs taken are.each are.in_order t is_there).run_there
+    run_there d = slice_get-get_or runs t.run d is.run_there
 
     -- so many ids from it on are units of the run, and are in range
     pub row_inside : (d : Run) (n : ℕ) → n ≤ t.len - skipped →
         (t.offset + skipped + n ≤ len_of (content_value (get_or runs t.run d).content)) × IsClock (id.clock + n)
     row_inside d n le =
-        let is = is_taken runs taken are.each are.in_order t is_there in
         let (client, low, high) = covers_less t id is_its in
         let many : length (units_of (slice_get runs t.run)) ≡ len_of (content_value (get_or runs t.run d).content) =
         ap (λ z. length (units_of z)) (run_there d) ∙ length-units_of_content (content_value (get_or runs t.run d).content) in
-        (omega (arith, is.within), omega (arith, is.end))
+        (omega (arith, of_run.within), omega (arith, is.end))
 
     pub place_within : (d : Run) → t.offset + skipped ≤ len_of (content_value (get_or runs t.run d).content)
     place_within d = let (client, low, high) = covers_less t id is_its in let inside = row_inside d 0 (omega arith) in omega (arith, inside.0)
@@ -217,7 +226,7 @@ module _ (runs : List Run) (taken : List Entry) (are : AreTaken runs taken) (id 
         lent_in runs taken deletes order
         ≡ lent_from id deleted (take n (drop offset (units_of_content (content_value (get_or runs t.run d).content)))) ++ lent_in runs taken deletes (drop n order)
     row_lent d deletes deleted n offset order named place le row =
-        lent_row (held_in runs taken) (written_distinct (held_in runs taken) (held_written runs taken are)) deletes (units_of (slice_get runs t.run))
+        lent_row (standing_in runs taken) (written_distinct (standing_in runs taken) (chosen_written is_listed kept are)) deletes (units_of (slice_get runs t.run))
         (is_named deletes id) n (t.offset + skipped) id order (holds_at n le) row
         ∙ ap (λ z. lent_from id (is_named deletes id) (take n (drop (t.offset + skipped) (units_of z))) ++ lent_in runs taken deletes (drop n order)) (run_there d)
         ∙ ap (λ k. lent_from id (is_named deletes id) (take n (drop k (units_of_content (content_value (get_or runs t.run d).content)))) ++ lent_in runs taken deletes (drop n order)) (sym place)

@@ -10,8 +10,10 @@ pub mod LendingLemmas
 pub mod LentLemmas
 pub mod ListOrderLemmas
 pub mod ListedLemmas
+pub mod LostSpanLemmas
 pub mod MadeOrderLemmas
 pub mod NamedLemmas
+pub mod NamingLemmas
 pub mod NoveltyLemmas
 pub mod NumberLemmas
 pub mod OneListLemmas

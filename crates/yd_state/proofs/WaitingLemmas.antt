@@ -1,23 +1,24 @@
 -- How much waits, entry by entry and span by span; and the counts of ids in maximal spans are in range.
-use Rattle.std.proofs.Common.{◌≡◌, ℕ, ◌+◌, ◌-◌, ◌*◌, ◌^◌, ◌≤◌, Bool, true, false, List, [], ◌∷◌, ◌++◌, inl, inr, length, take, drop, refl, sym, ap, ◌∙◌, subst, arith}
+use Rattle.std.proofs.Common.{◌≡◌, ℕ, zero, suc, ◌+◌, ◌-◌, ◌*◌, ◌^◌, ◌≤◌, Bool, true, false, List, [], ◌∷◌, ◌++◌, inl, inr, length, take, drop, refl, sym, ap, ◌∙◌, subst, arith}
 use Rattle.std.specs.Prelude.{filter, slice_get, if◌then◌else◌}
 use Rattle.std.specs.List.{sum_by}
 use Rattle.std.proofs.lemmas.List.{length-append}
 use Rattle.std.proofs.lemmas.List.Sums.{sum_by-cons}
 use Rattle.yd_words.specs.Each.{Each}
 use Rattle.yd_ids.specs.declared.id.Client.{Client}
+use Rattle.yd_ids.specs.declared.id.Id.{Id}
 use Rattle.yd_ids.specs.declared.id.Span.{Span}
 use Rattle.yd_ids.specs.Id.{IsSpan}
 use Rattle.yd_ids.specs.Span.{EndsBefore}
 use Rattle.yd_ids.specs.Set.{AreMaximal}
 use Rattle.yd_ids.specs.Vector.{clock_of}
 use Rattle.yd_ops.specs.declared.runs.Run.{Run}
-use Rattle.yd_ops.specs.Operation.{Operation}
+use Rattle.yd_ops.specs.Operation.{Operation, later_id, gone_from}
 use Rattle.yd_ops.proofs.OperationLemmas.{length-operations_from}
-use Rattle.yd_meaning.specs.Received.{IsWritten}
+use Rattle.yd_updates.specs.Received.{IsWritten}
 use Rattle.yd_meaning.specs.Held.{held_set, held_clock, count_of_ids, named_count}
 use Rattle.yd_received.specs.declared.entry.Entry.{Entry}
-use Rattle.yd_received.specs.Entries.{units_of, list_at, operations_of_taken, operations_in, IsTakenOf, is_held}
+use Rattle.yd_received.specs.Entries.{units_of, list_at, operations_told, operations_of_taken, operations_in, TellsRight, IsTakenOf, is_held}
 use Rattle.yd_received.specs.Received.{taken_of}
 use Rattle.yd_held.specs.Held.{HeldValue, HoldsAll}
 use Rattle.yd_state.specs.Waiting.{waiting_units, waiting_ids}
@@ -27,9 +28,17 @@ use Rattle.yd_state.proofs.CountLemmas.{count_in, count_named}
 
 -- ---- units
 
+length-gone : (id : Id) (count : ℕ) → length (gone_from id count) ≡ count
+length-gone id zero = refl
+length-gone id (suc count) = ap suc (length-gone (later_id id 1) count)
+
 length-taken : (runs : List Run) (t : Entry) → IsTakenOf runs t → length (operations_of_taken runs t) ≡ t.len
-length-taken runs t is = length-operations_from t.id t.left t.right (list_at (slice_get runs t.run) t.offset) (take t.len (drop t.offset (units_of (slice_get runs t.run))))
-    ∙ units_taken runs t is
+length-taken runs t is = go t.is_gone is.told
+  where
+    go : (b : Bool) → TellsRight b runs t → length (operations_told b runs t) ≡ t.len
+    go true untold = length-gone t.id t.len
+    go false told = length-operations_from t.id t.left t.right (list_at (slice_get runs t.run) t.offset) (take t.len (drop t.offset (units_of (slice_get runs t.run))))
+        ∙ units_taken runs t told
 
 -- the units that wait and those that are held are all units
 units_parted : (runs : List Run) (ts : List Entry) → Each (IsTakenOf runs) ts →

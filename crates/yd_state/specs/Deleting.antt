@@ -1,5 +1,5 @@
--- What deletions do, list by list: which ids go with the item of a list or under its key, and which part of a span is held (own).
-use Rattle.std.specs.Prelude.{◌↔◌, ◌⊎◌, ◌<◌, ℕ, ◌-◌, min, Bool, List, [], if◌then◌else◌, length, take}
+-- What deletions do: which ids are lost, which part of a span is held, and list by list, which ids go with its item or under its key (own).
+use Rattle.std.specs.Prelude.{◌↔◌, ◌⊎◌, ◌<◌, ℕ, ◌-◌, min, Bool, true, false, List, [], map, filter, if◌then◌else◌, length, take}
 use Rattle.yd_words.specs.Member.{IsIn}
 use Rattle.yd_words.specs.Test.{is_some_and}
 use Rattle.yd_ids.specs.declared.id.Client.{Client}
@@ -9,14 +9,31 @@ use Rattle.yd_ids.specs.Set.{HasId}
 use Rattle.yd_ids.specs.Vector.{clock_of}
 use Rattle.yd_ops.specs.declared.lists.List.{List as DocList}
 use Rattle.yd_meaning.specs.Names.{item_of_list, has_key}
+use Rattle.yd_received.specs.declared.entry.Entry.{Entry}
+use Rattle.yd_received.specs.declared.place.Place.{Place}
+use Rattle.yd_received.specs.declared.place.Place.TheVariants.{Waits, Lost, In}
 
 -- the span of one id
 abbrev pub span_of_id : Id → Span
 span_of_id id = record { client = id.client; clock = id.clock; len = 1 }
 
+-- the span of an entry's ids
+abbrev pub span_of_entry : Entry → Span
+span_of_entry t = record { client = t.id.client; clock = t.id.clock; len = t.len }
+
 -- the span's ids below a clock
 abbrev pub span_below : Span → ℕ → Span
 span_below span clock = record { client = span.client; clock = span.clock; len = min span.len (clock - span.clock) }
+
+-- whether units are held and lost
+abbrev pub is_lost_at : Place → Bool
+is_lost_at Waits = false
+is_lost_at Lost = true
+is_lost_at (In n) = false
+
+-- the spans of the units that are lost
+abbrev pub lost_spans : List Entry → List Span
+lost_spans taken = map span_of_entry (filter (λ (t : Entry). is_lost_at t.place) taken)
 
 -- the new spans have those ids of the others that are below the clocks of a vector
 abbrev pub HasHeld : List (Client × ℕ) → List Span → List Span → Type 0

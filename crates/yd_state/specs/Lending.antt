@@ -1,12 +1,16 @@
 -- What is lent of a list while its units are read.
-use Rattle.std.specs.Prelude.{◌≡◌, true, List}
+use Rattle.std.specs.Prelude.{◌≡◌, true, false, List}
 use Rattle.yd_words.specs.Each.{Each}
 use Rattle.yd_ids.specs.declared.id.Id.{Id}
 use Rattle.yd_ids.specs.declared.id.Span.{Span}
 use Rattle.yd_ops.specs.declared.runs.Run.{Run}
-use Rattle.yd_meaning.specs.Received.{has_operation}
+use Rattle.yd_updates.specs.Received.{has_operation}
 use Rattle.yd_received.specs.declared.entry.Entry.{Entry}
-use Rattle.yd_received.specs.Entries.{AreTaken, held_in}
+use Rattle.yd_received.specs.Entries.{AreTaken, is_listed, standing_in}
+
+-- no unit in a list is gone
+abbrev pub AreTold : List Entry → Type 0
+AreTold taken = Each (λ (t : Entry). is_listed t ≡ true → t.is_gone ≡ false) taken
 
 -- what is lent of a list: what is kept for it, and the ids that are still to come
 pub record Lending : Type 0 where
@@ -15,7 +19,8 @@ pub record Lending : Type 0 where
   pub deletes : List Span
   pub order : List Id
 
--- each id that is to come is held
+-- each id that is to come is that of a unit in a list, and no such unit is gone
 pub record IsLending (view : Lending) : Type 0 where
   pub taken : AreTaken view.runs view.taken
-  pub held : Each (λ id. has_operation (held_in view.runs view.taken) id ≡ true) view.order
+  pub told : AreTold view.taken
+  pub stands : Each (λ id. has_operation (standing_in view.runs view.taken) id ≡ true) view.order

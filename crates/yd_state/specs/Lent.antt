@@ -12,7 +12,7 @@ use Rattle.yd_origins.specs.Deleted.{last_of}
 use Rattle.yd_meaning.specs.Held.{is_named}
 use Rattle.yd_meaning.specs.Document.{Document, operations_at}
 use Rattle.yd_received.specs.declared.entry.Entry.{Entry}
-use Rattle.yd_received.specs.Entries.{held_in}
+use Rattle.yd_received.specs.Entries.{standing_in}
 use Rattle.yd_state.specs.declared.listing.RunView.{RunView}
 use Rattle.yd_state.specs.Lending.{Lending}
 
@@ -48,9 +48,9 @@ pub record IsWithin (view : RunView) : Type 0 where
   pub units : view.offset + view.len ≤ len_of (content_value view.content.now)
   pub ids : IsClock (view.id.clock + view.len)
 
--- the held units with these ids, in the order of the ids, as they are lent
+-- the units in lists with these ids, in the order of the ids, as they are lent
 abbrev pub lent_in : List Run → List Entry → List Span → List Id → List Lent
-lent_in runs taken deletes order = map (lent (is_named deletes)) (operations_at (held_in runs taken) order)
+lent_in runs taken deletes order = map (lent (is_named deletes)) (operations_at (standing_in runs taken) order)
 
 -- the units that are still to come
 abbrev pub units_left : Lending → List Lent

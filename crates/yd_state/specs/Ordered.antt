@@ -1,4 +1,4 @@
--- The lists of what is held with their ids in order (own; the order is that of `yd_origins`).
+-- The lists of what is held and not lost, with their ids in order (own; the order is that of `yd_origins`).
 use Rattle.std.specs.Prelude.{◌≡◌, List, [], ◌∷◌, map, if◌then◌else◌}
 use Rattle.std.specs.Global.{Vec}
 use Rattle.yd_ids.specs.declared.id.Id.{Id}
@@ -7,12 +7,12 @@ use Rattle.yd_ops.specs.Operation.{Operation}
 use Rattle.yd_meaning.specs.Names.{same_list}
 use Rattle.yd_meaning.specs.Order.{order_of}
 
--- each list, by its name, has the ids of its held units in the order that their origins give
+-- each list, by its name, has the ids of its units in the order that their origins give
 abbrev pub AreOrders : List Operation → List DocList → List (List Id) → Type 0
-AreOrders held [] [] = Unit {0}
-AreOrders held [] (order ∷ orders) = ⊥
-AreOrders held (name ∷ names) [] = ⊥
-AreOrders held (name ∷ names) (order ∷ orders) = (order ≡ order_of held name) × AreOrders held names orders
+AreOrders stands [] [] = Unit {0}
+AreOrders stands [] (order ∷ orders) = ⊥
+AreOrders stands (name ∷ names) [] = ⊥
+AreOrders stands (name ∷ names) (order ∷ orders) = (order ≡ order_of stands name) × AreOrders stands names orders
 
 -- vectors of ids as lists
 abbrev pub order_lists : List (Vec Id) → List (List Id)

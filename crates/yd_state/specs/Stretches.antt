@@ -1,5 +1,5 @@
 -- The units of a list as the order sees them: stretches of one client, in the order of writing (own).
-use Rattle.std.specs.Prelude.{◌≡◌, ◌≤◌, ℕ, zero, suc, false, true, Bool, List, [], ◌∷◌, ◌++◌, Some, filter, map, slice_get, length, if◌then◌else◌}
+use Rattle.std.specs.Prelude.{◌≡◌, ℕ, zero, suc, false, true, Bool, List, [], ◌∷◌, ◌++◌, Some, filter, map, slice_get, length, if◌then◌else◌}
 use Rattle.std.specs.Global.{Vec}
 use Rattle.yd_words.specs.Each.{Each}
 use Rattle.yd_ids.specs.declared.id.Id.{Id}
@@ -15,7 +15,7 @@ use Rattle.yd_held.specs.Numbered.{is_in_list}
 abbrev pub stretch_of : Entry → Stretch
 stretch_of t = record { id = t.id; len = t.len; left = t.left; right = t.right }
 
--- the stretches that are held in the list with a number
+-- the stretches in the list with a number
 abbrev pub stretches_in : ℕ → List Entry → List Stretch
 stretches_in n taken = map stretch_of (filter (is_in_list n) taken)
 
@@ -27,10 +27,9 @@ order_by_stretches n taken = origin_order (among_rows (rows_of_stretches (stretc
 abbrev pub AreUnmarked : List Bool → Type 0
 AreUnmarked = Each (λ mark. mark ≡ false)
 
--- there is a mark for each list, and no list more has an order; one without a mark has the order of its stretches already
+-- there is a mark for each list, and one without a mark has the order of its stretches already
 pub record AreSettled (stale : List Bool) (names : List DocList) (orders : List (List Id)) (taken : List Entry) : Type 0 where
   pub each : length stale ≡ length names
-  pub no_more : length orders ≤ length names
   pub settled : (n : ℕ) → slice_get stale n ≡ Some false → slice_get orders n ≡ Some (order_by_stretches n taken)
 
 -- ---- stretches, as they are gathered
@@ -45,7 +44,7 @@ with_last n x [] = []
 with_last zero x (list ∷ lists) = (list ++ x ∷ []) ∷ lists
 with_last (suc n) x (list ∷ lists) = list ∷ with_last n x lists
 
--- there are stretches for each mark, and where it is set they are those that are held in the list
+-- there are stretches for each mark, and where it is set they are those in the list
 pub record AreGathered (stale : List Bool) (taken : List Entry) (buckets : List (List Stretch)) : Type 0 where
   pub each : length buckets ≡ length stale
   pub gathered : (n : ℕ) → slice_get stale n ≡ Some true → slice_get buckets n ≡ Some (stretches_in n taken)

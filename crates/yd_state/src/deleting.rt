@@ -8,21 +8,23 @@ ghost use Rattle.yd_ids.specs.Set.{AreMaximal};
 ghost use Rattle.yd_meaning.specs.Held.{is_named};
 ghost use Rattle.yd_meaning.specs.Names.{item_of_list};
 ghost use Rattle.yd_meaning.specs.Deleted.{AreDeleteSet};
-ghost use Rattle.yd_received.specs.Received.{taken_of, held_of};
+ghost use Rattle.yd_received.specs.Received.{taken_of, listed_of};
 ghost use Rattle.yd_state.specs.Ordered.{AreOrders, order_lists};
 ghost use Rattle.yd_state.specs.Deleting.{HasHeld, AddsIds, span_of_id, span_below, all_but_last, dropped_ids};
 
 use crate::fault::NoMemory;
+use crate::lost::add_lost;
 use std::alloc::Global;
 use yd_held::Held;
 use yd_ids::{Client, Id, IdSet, Span, Vector};
 use yd_ops::{List, Parent};
 
-/// The ids of held units that are deleted: those that a received deletion names, those that do not
-/// stand last under their key, and those of a list whose item is deleted. Spans of deletions are
-/// cut at the clocks that are reached, and not walked. It takes a look-up for each span and for
-/// each list of an item, an insertion for each span and for each row of ids that a list deletes,
-/// and a step for each id of such a row.
+/// The ids of held units that are deleted: those that are lost, those that a received deletion
+/// names, those that do not stand last under their key, and those of a list whose item is deleted.
+/// Spans of deletions are cut at the clocks that are reached, and neither they nor lost units are
+/// walked. It takes a step for each entry, a look-up for each span and for each list of an item, an
+/// insertion for each span, for each lost entry and for each row of ids that a list deletes, and a
+/// step for each id of such a row.
 pub(crate) fn delete_set(
     alloc: Global,
     held: &Held,
@@ -30,14 +32,15 @@ pub(crate) fn delete_set(
     orders: &[Vec<Id>],
 ) -> Result<IdSet, NoMemory>
     requires named { AreMaximal named.now }
-    requires ordered { AreOrders (held_of held.now.received) held.now.names
+    requires ordered { AreOrders (listed_of held.now.received) held.now.names
         (order_lists orders.now) }
     ensures { IfOk result (λ deletes. AreDeleteSet deletes
         (record { operations = taken_of held.now.received; deletes = named.now })) }
 {
     let names = held.names();
-    // The item of a list is held in a list before it, so its own fate is decided by then.
     let mut deletes = named_below(alloc, held.vector(), named)?;
+    add_lost(&mut deletes, held.received().entries())?;
+    // The item of a list is held in a list before it, so its own fate is decided by then.
     for number in 0..names.len() {
         delete_in_list(&mut deletes, &names[number], &orders[number])?;
     }

@@ -14,6 +14,8 @@ mod deleting;
 mod fault;
 mod finding;
 mod listing;
+mod lost;
+mod naming;
 mod novelty;
 mod ordering;
 mod settling;

@@ -6,8 +6,9 @@ ghost use Rattle.yd_ids.specs.Id.{IsId, IsClient, IsClock};
 ghost use Rattle.yd_ops.specs.Value.{len_of};
 ghost use Rattle.yd_ops.specs.View.{content_value};
 ghost use Rattle.yd_meaning.specs.Held.{is_named};
-ghost use Rattle.yd_meaning.specs.Received.{has_operation};
-ghost use Rattle.yd_received.specs.Received.{held_of};
+ghost use Rattle.yd_updates.specs.Received.{has_operation};
+ghost use Rattle.yd_received.specs.Received.{listed_of};
+ghost use Rattle.yd_state.specs.Lending.{AreTold};
 ghost use Rattle.yd_state.specs.Lent.{units_left, units_of_view, lent_in, IsRow, IsWithin};
 
 use std::marker::Model;
@@ -24,7 +25,7 @@ pub struct RunView<'a> {
     pub len: u64,
     /// They are deleted.
     pub deleted: bool,
-    /// What holds them.
+    /// What holds them. Of units that an update spelled deleted this is `Content::Deleted`.
     pub content: &'a Content,
     /// Which unit of the content the first one is, from 0.
     pub offset: u64,
@@ -83,7 +84,8 @@ impl<'a> ListView<'a> {
 /// The units of the ids from the front on that are in a row in one entry, all deleted or all live.
 fn view_at<'a>(received: &'a Received, deletes: &IdSet, order: &[Id], id: Id) -> RunView<'a>
     requires first { slice_get order.now 0 ≡ Some id }
-    requires held { has_operation (held_of received.now) id ≡ true }
+    requires told { AreTold received.now.entries }
+    requires stands { has_operation (listed_of received.now) id ≡ true }
     ensures some { 0 < result.len }
     ensures bound { result.len ≤ length order.now }
     ensures within { IsWithin result }

@@ -14,10 +14,11 @@ use std::alloc::Global;
 use yd_held::Held;
 use yd_ids::Id;
 use yd_order::{Stretch, arrange_stretches};
-use yd_received::Entry;
+use yd_received::{Entry, Place};
 
 /// The ids of each list with a mark in the order that their origins give (`arrange_stretches`). The
-/// other lists have none: of them nothing is looked at.
+/// other lists have none: of them nothing is looked at. Each unit is put in order, those of deleted
+/// runs too: a list with a deleted run takes time and memory with the units that this says to have.
 pub(crate) fn arranged(alloc: Global, held: &Held, stale: &[bool]) -> Result<Vec<Vec<Id>>, NoMemory>
     requires { length stale.now ≡ length held.now.names }
     ensures { IfOk result (λ made.
@@ -29,7 +30,7 @@ pub(crate) fn arranged(alloc: Global, held: &Held, stale: &[bool]) -> Result<Vec
 }
 
 /// The stretches of each list with a mark, in the order of writing: one pass over the lists, and
-/// one over what was taken.
+/// one over what was taken. What waits or is lost is in no list.
 fn gathered(alloc: Global, taken: &[Entry], stale: &[bool]) -> Result<Vec<Vec<Stretch>>, NoMemory>
     ensures { IfOk result (λ buckets.
         AreGathered stale.now taken.now (stretch_lists buckets.items)) }
@@ -62,8 +63,8 @@ fn gather_one(
     ensures { OnOk result (Gathers stale.now entry.now
         (stretch_lists buckets.old.items) (stretch_lists buckets.new.items)) }
 {
-    match entry.list {
-        Some(n) if is_marked(stale, n) => put(buckets, n, stretch_of(entry))?,
+    match entry.place {
+        Place::In(n) if is_marked(stale, n) => put(buckets, n, stretch_of(entry))?,
         _ => {}
     }
     Ok(())

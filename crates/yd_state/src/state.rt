@@ -6,18 +6,19 @@ ghost use Rattle.yd_ids.specs.Vector.{clock_of};
 ghost use Rattle.yd_ops.specs.Valid.{IsValidUpdate};
 ghost use Rattle.yd_ops.specs.Operation.{Operation};
 ghost use Rattle.yd_ops.specs.View.{update_value};
-ghost use Rattle.yd_meaning.specs.Received.{nothing_received, received_after};
+ghost use Rattle.yd_updates.specs.Received.{nothing_received, received_after};
 ghost use Rattle.yd_meaning.specs.Held.{held_set, held_clock, waiting_counts};
 ghost use Rattle.yd_meaning.specs.Order.{order_of};
 ghost use Rattle.yd_meaning.specs.Document.{AreDeletedIn};
-ghost use Rattle.yd_meaning.specs.Law.{ArePaired};
-ghost use Rattle.yd_state.specs.State.{received_in, held_of, document_in, IsSound};
+ghost use Rattle.yd_updates.specs.Law.{ArePaired};
+ghost use Rattle.yd_state.specs.State.{received_in, listed_of, document_in, IsSound};
 ghost use Rattle.yd_state.specs.Brings.{BringsSomething};
 ghost use Rattle.yd_state.specs.Lent.{lent_units, units_left, last_unit};
 
 use crate::fault::NoMemory;
 use crate::finding::order_in;
 use crate::listing::ListView;
+use crate::naming::named_by;
 use crate::novelty::brings_deletion;
 use crate::settling::settle;
 use crate::waiting::{count_ids, count_units};
@@ -27,7 +28,7 @@ use yd_held::Held;
 use yd_ids::{Id, IdSet, Vector};
 use yd_ops::{List, Update};
 
-/// What was received and is held, the lists of it in order, and what is deleted.
+/// What was received and is held, the lists of what stands of it in order, and what is deleted.
 #[derive(Drop)]
 pub struct State {
     held: Held,
@@ -77,7 +78,8 @@ impl State {
     }
 
     /// Receives an update, and holds and deletes all that can be then. It answers whether the
-    /// update brought something. Where memory ends nothing has changed.
+    /// update brought something. Where it says less of something that was received, all lists are put
+    /// in order anew. Where memory ends nothing has changed.
     pub fn take(&mut self, update: &Update) -> Result<bool, NoMemory>
         requires { IsValidUpdate (update_value update.now) }
         ensures received { OnOk result (received_in self.new
@@ -87,9 +89,10 @@ impl State {
         ensures sound { IsSound self.new }
         ensures unchanged { OnErr result (self.new ≡ self.old) }
     {
-        let deletes = brings_deletion(&self.named, &self.deletes, &update.deletes);
         let mut named = self.named.copy()?;
-        named.union(&update.deletes)?;
+        let more = named_by(update)?;
+        let deletes = brings_deletion(&self.named, &self.deletes, &more);
+        named.union(&more)?;
         let taken = self.held.take(update)?;
         match settle(&self.held, &named, &mut self.orders, &taken.stale) {
             Ok(deleted) => {
@@ -119,8 +122,8 @@ impl State {
         &self.deletes
     }
 
-    /// The units of a list in order, deleted ones too. It takes time with the number of lists, since
-    /// it looks for the name from the front, and copies no unit.
+    /// The units of a list in order, deleted ones too; lost ones are in no list. It takes time with the
+    /// number of lists, since it looks for the name from the front, and copies no unit.
     pub fn list(&self, list: &List) -> ListView<'_>
         ensures units { units_left result ≡ lent_units (document_in self.now) list.now }
         ensures received { (o : Operation) → IsIn o ((document_in self.now).units list.now)
@@ -149,7 +152,7 @@ impl State {
         count_units(self.held.received().entries())
     }
 
-    /// How many ids a received deletion names that are not held. It takes a look-up for each span.
+    /// How many ids are deleted by name and not held. It takes a look-up for each span.
     pub fn waiting_ids(&self) -> u128
         ensures { result ≡ (waiting_counts (received_in self.now)).deletes }
     {
@@ -158,7 +161,7 @@ impl State {
 
     /// The ids of a list in the order that their origins give.
     fn order(&self, list: &List) -> &[Id]
-        ensures order { result.now ≡ order_of (held_of self.now) list.now }
+        ensures order { result.now ≡ order_of (listed_of self.now) list.now }
         ensures sound { IsSound self.now }
     {
         order_in(self.held.names(), &self.orders, list)

@@ -7,7 +7,7 @@ ghost use Rattle.yd_state.specs.Waiting.{waiting_units, waiting_ids};
 
 use crate::deleting::part_below;
 use yd_ids::{IdSet, Vector};
-use yd_received::Entry;
+use yd_received::{Entry, Place};
 
 /// How many units are not held.
 pub(crate) fn count_units(entries: &[Entry]) -> u128
@@ -15,7 +15,7 @@ pub(crate) fn count_units(entries: &[Entry]) -> u128
 {
     let mut count: u128 = 0;
     for units in entries {
-        if units.list.is_none() {
+        if let Place::Waits = units.place {
             count += units.len as u128;
         }
     }

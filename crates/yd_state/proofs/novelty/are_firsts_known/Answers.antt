@@ -6,7 +6,8 @@ use Rattle.yd_state.proofs.novelty.are_firsts_known.Goals as goal
 
 pub is_known-requires : goal.is_known-requires
 is_known-requires c = first_is c.in-Some.span
-    (span_next c.args.more.now c.loop-span.yielded c.loop-span.span-iterator c.next.new.self c.in-Some.span c.spans-span-items.ensures.maximal c.loop-span.invariant.all c.in-Some.ensures.steps)
+    (span_next c.args.more.now c.loop-span.yielded c.loop-span.span-iterator c.next.new.self c.in-Some.span c.spans-span-items.ensures.maximal
+    c.loop-span.invariant.all c.in-Some.ensures.steps)
 
 pub returns-then-not-is_known : goal.returns-then-not-is_known
 returns-then-not-is_known c = (

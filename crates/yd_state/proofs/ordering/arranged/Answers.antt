@@ -6,7 +6,6 @@ use Rattle.yd_order.specs.declared.stretch.Stretch.{Stretch}
 use Rattle.yd_received.specs.Received.{ReceivedValue}
 use Rattle.yd_state.specs.Ordered.{order_lists}
 use Rattle.yd_state.specs.Stretches.{AreTables, AreMadeOf, AreGathered, stretch_lists}
-use Rattle.yd_state.proofs.ListOrderLemmas.{are_held}
 use Rattle.yd_state.proofs.SettledLemmas.{gathered_tables, gathered_made}
 use Rattle.yd_state.proofs.ordering.arranged.Goals as goal
 
@@ -16,8 +15,7 @@ orders_of_lists-requires c =
     let gathered = subst (λ (r : ReceivedValue). AreGathered c.args.stale.now r.entries (stretch_lists c.in_ok-buckets.buckets.items)) c.received.ensures.received
     (subst (λ ts. AreGathered c.args.stale.now ts (stretch_lists c.in_ok-buckets.buckets.items)) c.entries.ensures.entries c.in_ok-buckets.ensures) in
     subst (λ (buckets : List (Vec Stretch)). AreTables c.args.stale.now (stretch_lists buckets)) (sym c.deref.ensures.value)
-    (gathered_tables held.received.runs held.received.entries held.names c.args.stale.now (stretch_lists c.in_ok-buckets.buckets.items)
-    (are_held held c.received.ensures.holds) c.requires gathered)
+    (gathered_tables held c.received.ensures.holds c.args.stale.now (stretch_lists c.in_ok-buckets.buckets.items) c.requires gathered)
 
 pub returns : goal.returns
 returns c =

@@ -6,7 +6,8 @@ use Rattle.yd_state.proofs.MadeOrderLemmas.{map_at, mark_at, bucket_there, order
 use Rattle.yd_state.proofs.ordering.order_of_list.Goals as goal
 
 pub returns-then-not-stale-n : goal.returns-then-not-stale-n
-returns-then-not-stale-n c = none_made c.args.stale.now (stretch_lists c.args.buckets.now) c.args.n _ (mark_at c.args.stale.now c.args.n false c.requires.number c.if-not-stale-n.true)
+returns-then-not-stale-n c = none_made c.args.stale.now (stretch_lists c.args.buckets.now) c.args.n _ (mark_at c.args.stale.now c.args.n false c.requires.number
+    c.if-not-stale-n.true)
 
 pub arranged_anew-requires : goal.arranged_anew-requires
 arranged_anew-requires c = c.requires.tables.tables c.args.n c.deref.result.now (mark_at c.args.stale.now c.args.n true c.requires.number c.if-not-stale-n.false)

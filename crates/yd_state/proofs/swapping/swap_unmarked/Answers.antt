@@ -25,8 +25,16 @@ loop-n-preserved c =
           }
       | else-not-stale-n w ↦
           let same : (get_or marks n false ≡ true) ⊎ ((length xs ≤ n) ⊎ (length ys ≤ n)) = elim w.else-not-stale-n.branch [
-            | else-not-stale-n-via-then-not-stale-n+then-n-len+else-n-len-2 x ↦ inr (inr (omega (arith, x.if-n-len-2.false, x.len-then-n-len.ensures, ap length orders, length-with_unmarked (take n marks) ys xs)))
-            | else-not-stale-n-via-then-not-stale-n+else-n-len x ↦ inr (inl (omega (arith, x.if-n-len.false, x.len.ensures, ap length made, length-with_unmarked (take n marks) xs ys)))
+            | else-not-stale-n-via-then-not-stale-n+then-n-len+else-n-len-2 x ↦ inr (inr (omega
+                (arith, x.if-n-len-2.false, x.len-then-n-len.ensures, ap length orders, length-with_unmarked (take n marks) ys xs)))
+            | else-not-stale-n-via-then-not-stale-n+else-n-len x ↦ inr (inl (omega (
+              arith,
+              x.if-n-len.false,
+              x.len.ensures,
+              ap length made,
+              length-with_unmarked
+                  (take n marks) xs ys,
+            )))
             | else-not-stale-n-via-else-not-stale-n x ↦ inl x.if-not-stale-n.false
           ] in
           let also : (get_or marks n false ≡ true) ⊎ ((length ys ≤ n) ⊎ (length xs ≤ n)) = elim same [ inl e ↦ inl e | inr (inl e) ↦ inr (inr e) | inr (inr e) ↦ inr (inl e) ] in

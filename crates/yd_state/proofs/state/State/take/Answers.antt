@@ -1,5 +1,7 @@
 use Rattle.std.proofs.Common.{◌≡◌, ◌||◌, sym, ap, ◌∙◌, subst}
-use Rattle.std.specs.Prelude.{◌↔◌, IsTrue}
+use Rattle.std.specs.Prelude.{◌↔◌, ◌⊎◌, IsTrue}
+use Rattle.yd_ids.specs.declared.id.Id.{Id}
+use Rattle.yd_ids.specs.Set.{HasId}
 use Rattle.yd_ops.specs.View.{update_value}
 use Rattle.yd_state.specs.Ordered.{order_lists}
 use Rattle.yd_state.specs.State.{received_in}
@@ -15,8 +17,8 @@ settle-requires-clause-settled c =
     let held = c.take.new.self in
     let orders = order_lists c.self.inside.orders.items in
     subst (λ stale. AreSettled stale held.names orders held.received.entries) (sym c.deref.ensures.value)
-    (settled_after c.self.inside.held held.received.entries held.names orders c.in_ok-taken.taken.stale.items
-    c.self.invariant.holds c.self.invariant.ordered c.in_ok-taken.ensures.grows c.in_ok-taken.ensures.marked)
+    (settled_after c.self.inside.held held orders c.in_ok-taken.taken.stale.items c.in_ok-taken.taken.anew
+    c.self.invariant.holds c.self.invariant.ordered c.in_ok-taken.ensures.told)
 
 pub returns-after-taken-clause-brings : goal.returns-after-taken-clause-brings
 returns-after-taken-clause-brings c =
@@ -31,4 +33,6 @@ returns-after-taken-clause-brings c =
     (subst (λ s. IsTrue (one || more) ↔ BringsSomething update (received_in s)) c.self.view_is
     (brings_either update
     (record { held = c.self.inside.held; named = c.self.inside.named; orders = order_lists c.self.inside.orders.items; deletes = c.self.inside.deletes })
-    c.self.invariant one more c.in_ok-taken.ensures.brings c.brings_deletion-deletes.ensures))
+    c.self.invariant one more c.in_ok-taken.ensures.brings
+    (subst (λ named. IsTrue more ↔ (((x : Id) → HasId named x → HasId c.self.inside.named x ⊎ HasId c.self.inside.deletes x) → ⊥)) c.in_ok-more.ensures
+    c.brings_deletion-deletes.ensures)))
