@@ -6,10 +6,10 @@ ghost use Rattle.yd_ids.specs.Id.{IsClient};
 ghost use Rattle.yd_ids.specs.Vector.{clock_of};
 ghost use Rattle.yd_ops.specs.Valid.{IsValidUpdate};
 ghost use Rattle.yd_ops.specs.View.{update_value};
-ghost use Rattle.yd_meaning.specs.Received.{nothing_received, received_after};
+ghost use Rattle.yd_updates.specs.Received.{nothing_received, received_after};
 ghost use Rattle.yd_meaning.specs.Held.{held_set, held_clock, waiting_counts};
 ghost use Rattle.yd_meaning.specs.Document.{AreDeletedIn};
-ghost use Rattle.yd_meaning.specs.Law.{ArePaired};
+ghost use Rattle.yd_updates.specs.Law.{ArePaired};
 ghost use Rattle.yd_ops.specs.Operation.{Operation};
 ghost use Rattle.yd_state.specs.Brings.{BringsSomething};
 ghost use Rattle.yd_state.specs.Lent.{lent_units, units_left, last_unit};
@@ -80,15 +80,22 @@ impl Replica {
     }
 
     /// Receives an update, and holds and deletes all that can be then. It answers whether the
-    /// update brought something: an operation whose id was not received, or a deletion that was
-    /// neither in the delete set nor waiting. Where memory ends it has received nothing of the
+    /// update brought something: an operation whose id was not received or that says less than the
+    /// received one, or a deleted id that was neither in the delete set nor waiting; an update also
+    /// deletes what it spells deleted or gone. Where memory ends it has received nothing of the
     /// update, tells what it told before, and is behind.
     ///
     /// What waits is not looked at again until what it lacks is held. The call takes time with the
-    /// update, with the clients, the lists and the spans of deletions that are known, with the ids in
-    /// lists of deleted items and under overwritten keys, and an insertion for each part of a run that
-    /// is new. Where something is held, it also looks once at what was received before, and puts each
-    /// list that got units in order as a whole.
+    /// update, with the clients, the lists, the parts of runs and the spans of deletions that are
+    /// known, with the ids in lists of deleted items and under overwritten keys, and an insertion for
+    /// each part of a run that is new. Where something is held, it also puts each list that got units
+    /// in order as a whole. Where the update says less of something that was received, all that is
+    /// received is held anew and all lists are put in order; what units held that are lowered stays in
+    /// memory.
+    ///
+    /// Gone units are not walked, and deleted ones only where their list is put in order. A few bytes
+    /// may spell a deleted run of as many units as there are clocks: such a list takes that much time
+    /// and memory, and where memory ends the update is not received.
     pub fn apply(&mut self, update: &Update) -> Result<bool, NoMemory>
         requires { IsValidUpdate (update_value update.now) }
         ensures received { OnOk result (received_of self.new
@@ -140,8 +147,8 @@ impl Replica {
         }
     }
 
-    /// The units of a list in order, deleted ones too. It takes time with the number of lists, since
-    /// it looks for the name from the front, and copies no unit.
+    /// The units of a list in order, deleted ones too; lost ones are in no list. It takes time with the
+    /// number of lists, since it looks for the name from the front, and copies no unit.
     pub fn list(&self, list: &List) -> ListView<'_>
         ensures units { units_left result ≡ lent_units (own_document self.now) list.now }
         ensures received { (o : Operation) → IsIn o ((own_document self.now).units list.now)

@@ -5,6 +5,6 @@
 pub struct Waiting {
     /// Units that are received and not held.
     pub structs: u128,
-    /// Ids that a received deletion names and that are not held.
+    /// Ids that are deleted by name and not held.
     pub deletes: u128,
 }

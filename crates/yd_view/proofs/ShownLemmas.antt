@@ -7,12 +7,12 @@ use Rattle.yd_ids.specs.declared.id.Id.{Id}
 use Rattle.yd_ids.specs.Ids.{is_same, is_same_neighbour}
 use Rattle.yd_ids.proofs.IdLemmas.{same_numbers, same_is, same_itself}
 use Rattle.yd_ops.specs.declared.lists.List.{List as DocList}
-use Rattle.yd_ops.specs.Operation.{UnitContent, text_unit, any_unit, json_unit, bytes, embedded, mark, nested_type, Operation, later_id}
-use Rattle.yd_meaning.specs.Pairs.{is_high, is_low, is_text_and, are_partners}
+use Rattle.yd_ops.specs.Operation.{UnitContent, text_unit, any_unit, json_unit, bytes, embedded, mark, nested_type, deleted_unit, gone_unit, Operation, later_id}
+use Rattle.yd_updates.specs.Pairs.{is_high, is_low, is_text_and, are_partners}
 use Rattle.yd_meaning.specs.Document.{Document}
 use Rattle.yd_meaning.specs.Text.{live_units, has_partner_before, has_partner_behind, shown_before, shown_units, shown_text}
-use Rattle.yd_meaning.specs.Law.{ArePaired}
-use Rattle.yd_meaning.proofs.PartnerLemmas.{partners_decide}
+use Rattle.yd_updates.specs.Law.{ArePaired}
+use Rattle.yd_updates.proofs.PartnerLemmas.{partners_decide}
 use Rattle.yd_state.specs.Lent.{lent, lent_units}
 use Rattle.yd_view.specs.declared.halves.Seen.{Seen}
 use Rattle.yd_view.specs.Halves.{is_unit_and, joins, joins_first, shown_seen, text_of_seen, text_unit_of, live_seen}
@@ -31,6 +31,8 @@ unit_test test (bytes blob) = refl
 unit_test test (embedded value) = refl
 unit_test test (mark key value) = refl
 unit_test test (nested_type kind) = refl
+unit_test test deleted_unit = refl
+unit_test test gone_unit = refl
 
 -- where pairs are whole, a low half with the next clock is a high half's partner
 partners_join : (received : List Operation) → ArePaired received → (o p : Operation) → IsIn p received → are_partners o p ≡ joins (seen o) (seen p)
@@ -65,6 +67,8 @@ one_shown (bytes blob) joined joins rest = refl
 one_shown (embedded value) joined joins rest = refl
 one_shown (mark key value) joined joins rest = refl
 one_shown (nested_type kind) joined joins rest = refl
+one_shown deleted_unit joined joins rest = refl
+one_shown gone_unit joined joins rest = refl
 
 -- whether the one before is the partner of the first
 abbrev JoinsFirst : Option Operation → Bool → List Operation → Type 0

@@ -8,12 +8,12 @@ use Rattle.yd_any.specs.Tree.{AnyTrees, no_trees, tree}
 use Rattle.yd_ids.specs.declared.id.Id.{Id}
 use Rattle.yd_ids.specs.Ids.{is_same}
 use Rattle.yd_ops.specs.declared.contents.Content.{Content}
-use Rattle.yd_ops.specs.declared.contents.Content.TheVariants.{Json, Binary, Str, Embed, Format, Nested, Any}
-use Rattle.yd_ops.specs.Operation.{UnitContent, text_unit, json_unit, units_of_trees, units_of_content, later_id}
+use Rattle.yd_ops.specs.declared.contents.Content.TheVariants.{Json, Binary, Str, Embed, Format, Nested, Any, Deleted}
+use Rattle.yd_ops.specs.Operation.{UnitContent, text_unit, json_unit, units_of_trees, deleted_units, units_of_content, later_id}
 use Rattle.yd_ops.specs.View.{unit_value, content_value}
 use Rattle.yd_ops.proofs.OperationLemmas.{length-units_of_content}
 use Rattle.yd_any.specs.AnyView.{any_trees}
-use Rattle.yd_meaning.specs.Pairs.{is_high}
+use Rattle.yd_updates.specs.Pairs.{is_high}
 use Rattle.yd_state.specs.declared.listing.RunView.{RunView}
 use Rattle.yd_state.specs.Lent.{Lent, lent_from, units_of_view, IsWithin}
 use Rattle.yd_view.specs.declared.halves.Seen.{Seen}
@@ -117,6 +117,10 @@ json_silent : {X : Type 0} (f : X → UnitContent) → ((x : X) → text_unit_of
 json_silent f silent [] = tt
 json_silent f silent (x ∷ xs) = (silent x, json_silent f silent xs)
 
+deleted_silent : (count : ℕ) → Each (λ u. text_unit_of u ≡ None) (deleted_units count)
+deleted_silent zero = tt
+deleted_silent (suc count) = (refl, deleted_silent count)
+
 no_text : (c : Content) → ((us : List ℕ) → c ≢ Str us) → Each (λ u. text_unit_of u ≡ None) (units_of_content (content_value c))
 no_text (Json units) other = json_silent json_unit (λ x. refl) (map unit_value units)
 no_text (Binary blob) other = (refl, tt)
@@ -125,6 +129,7 @@ no_text (Embed value) other = (refl, tt)
 no_text (Format key value) other = (refl, tt)
 no_text (Nested kind) other = (refl, tt)
 no_text (Any values) other = trees_silent (any_trees values)
+no_text (Deleted count) other = deleted_silent count
 
 some_of : {X : Type 0} (P : X → Type 0) (n : ℕ) (xs : List X) → Each P xs → Each P (take n xs)
 some_of P zero xs each = tt

@@ -2,8 +2,8 @@
 use Rattle.std.specs.Prelude.{◌≡◌, ℕ, Bool, false, ◌&&◌, ◌||◌, not, List, [], ◌∷◌, ◌++◌, Option, Some, None, if◌then◌else◌}
 use Rattle.yd_ids.specs.declared.id.Id.{Id}
 use Rattle.yd_ids.specs.Ids.{is_same}
-use Rattle.yd_ops.specs.Operation.{UnitContent, text_unit, any_unit, json_unit, bytes, embedded, mark, nested_type, later_id}
-use Rattle.yd_meaning.specs.Pairs.{is_high, is_low}
+use Rattle.yd_ops.specs.Operation.{UnitContent, text_unit, any_unit, json_unit, bytes, embedded, mark, nested_type, deleted_unit, gone_unit, later_id}
+use Rattle.yd_updates.specs.Pairs.{is_high, is_low}
 use Rattle.yd_state.specs.Lent.{Lent}
 use Rattle.yd_view.specs.declared.halves.Seen.{Seen}
 use Rattle.yd_view.specs.declared.halves.Halves.{Halves}
@@ -70,6 +70,8 @@ text_unit_of (bytes blob) = None
 text_unit_of (embedded value) = None
 text_unit_of (mark key value) = None
 text_unit_of (nested_type kind) = None
+text_unit_of deleted_unit = None
+text_unit_of gone_unit = None
 
 -- a lent unit as text sees it
 abbrev pub seen_of : Lent → Seen
