@@ -5,6 +5,8 @@
 #![tactic(auto)]
 
 #[cfg(test)]
+mod collected;
+#[cfg(test)]
 mod replicas;
 #[cfg(test)]
 mod samples;
