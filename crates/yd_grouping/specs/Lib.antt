@@ -1,0 +1,11 @@
+pub mod Building
+pub mod Cover
+pub mod Disagreement
+pub mod Example
+pub mod Groupable
+pub mod Grouped
+pub mod Groups
+pub mod Law
+pub mod Merged
+pub mod Reach
+pub mod Sameness
