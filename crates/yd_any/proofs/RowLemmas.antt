@@ -1,5 +1,5 @@
--- A list of any-values that is cut, and the rows that its parts are.
-use Rattle.std.proofs.Common.{◌≡◌, ℕ, zero, suc, List, [], ◌∷◌, take, drop, length, min, inl, inr, refl, ap, sym, ◌∙◌, arith}
+-- A list of any-values that is cut, or joined with another one, and the rows that these are.
+use Rattle.std.proofs.Common.{◌≡◌, ℕ, zero, suc, List, [], ◌∷◌, ◌++◌, take, drop, length, min, inl, inr, refl, ap, sym, ◌∙◌, arith}
 use Rattle.std.proofs.lemmas.Bool.{cases_lt}
 use Rattle.std.proofs.lemmas.List.{take_min, drop_all}
 use Rattle.yd_any.specs.Tree.{AnyTrees, no_trees, tree}
@@ -32,6 +32,14 @@ items_kept vs new n at cut place = ap items_trees (cut ∙ ap (λ k. take k vs) 
 -- and what it gives
 pub items_given : (vs new : List Any) (n at : ℕ) → new ≡ drop at vs → at ≡ min n (length vs) → items_trees new ≡ other_trees n (items_trees vs)
 items_given vs new n at cut place = ap items_trees (cut ∙ ap (λ k. drop k vs) place ∙ drop_min n vs) ∙ other_items vs n
+
+both_items : (vs ws : List Any) → items_trees (vs ++ ws) ≡ trees_and (items_trees vs) (items_trees ws)
+both_items [] ws = refl
+both_items (v ∷ vs) ws = ap (tree (any_tree v)) (both_items vs ws)
+
+-- what lists have that become one
+pub items_joined : (vs ws new : List Any) → new ≡ vs ++ ws → items_trees new ≡ trees_and (items_trees vs) (items_trees ws)
+items_joined vs ws new joined = ap items_trees joined ∙ both_items vs ws
 
 -- ---- rows
 

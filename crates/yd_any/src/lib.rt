@@ -18,6 +18,7 @@ mod carried;
 mod conversion;
 mod data;
 mod fault;
+mod joining;
 mod json_validity;
 mod json_value;
 pub mod law;
