@@ -1,0 +1,11 @@
+pub mod AlikeLemmas
+pub mod AloneLemmas
+pub mod AscendLemmas
+pub mod KeyLemmas
+pub mod LiveLemmas
+pub mod MapLemmas
+pub mod MarkLemmas
+pub mod PieceLemmas
+pub mod ReceivedLists
+pub mod SameLemmas
+pub mod SeenLemmas

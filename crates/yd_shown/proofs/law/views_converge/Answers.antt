@@ -1,0 +1,16 @@
+use Rattle.std.proofs.Common.{◌≡◌, ap, sym, ◌∙◌}
+use Rattle.yd_updates.specs.Received.{Received}
+use Rattle.yd_updates.proofs.AgreementLemmas.{received_one, received_merged}
+use Rattle.yd_meaning.specs.Document.{document_of}
+use Rattle.yd_shown.specs.Law.{ViewsAreAlike}
+use Rattle.yd_shown.specs.Shown.{shown}
+use Rattle.yd_shown.proofs.law.views_converge.Goals as goal
+
+views_alike : (one other : Received) → one ≡ other → ViewsAreAlike one other
+views_alike one other same document another of_one of_other parent mode = ap (λ d. shown d parent mode) (of_one ∙ ap document_of same ∙ sym of_other)
+
+pub returns : goal.returns
+returns c = record {
+  any_order = λ one other valid other_valid alike same. views_alike _ _ (received_one one other valid other_valid alike same);
+  merged = λ one other valid other_valid agree other_agree same. views_alike _ _ (received_merged one other valid other_valid agree other_agree same);
+}

@@ -1,0 +1,7 @@
+pub mod Cut
+pub mod Example
+pub mod Law
+pub mod Pieces
+pub mod Same
+pub mod Seen
+pub mod Shown
