@@ -1,2 +1,4 @@
 pub mod ListsLemmas
 pub mod UnitsLemmas
+pub mod ArenaLemmas
+pub mod GrowthLemmas

@@ -1,24 +1,25 @@
 -- Lists of runs stay so where one is added, and where one is cut.
-use Rattle.std.proofs.Common.{◌≡◌, ◌≢◌, ℕ, zero, suc, ◌+◌, ◌-◌, ◌<◌, ◌≤◌, ◌⊎◌, inl, inr, List, [], ◌∷◌, ◌++◌, Option, Some, None, length, get_or, set, refl, sym, ap, ◌∙◌, subst, arith, length-append}
+use Rattle.std.proofs.Common.{◌≡◌, ℕ, zero, suc, ◌-◌, ◌<◌, ◌≤◌, ◌⊎◌, inl, inr, List, [], ◌∷◌, ◌++◌, Option, Some, None, length, get_or, set, refl, sym, ap, ◌∙◌, subst, arith, length-append}
 use Rattle.std.specs.Prelude.{min, slice_get, IfSome}
 use Rattle.std.proofs.lemmas.List.{get_or_append_left, get_or_at, length-set, get_or-set_same, get_or-set_other}
-use Rattle.yd_chains.specs.Chain.{IsIn, up_to, behind, put_behind}
+use Rattle.yd_words.specs.Member.{IsIn}
+use Rattle.yd_words.proofs.MemberLemmas.{in_left_part, in_right_part, in_parts}
+use Rattle.yd_chains.specs.Chain.{up_to, behind, put_behind}
 use Rattle.yd_chains.specs.Link.{Chained, AreSound}
-use Rattle.yd_chains.proofs.ChainLemmas.{same_place, has_place, in_either, in_first, in_second, parts_are}
+use Rattle.yd_chains.proofs.ChainLemmas.{same_place, has_place, parts_are}
 use Rattle.yd_scan.specs.declared.stretch.Stretch.{Stretch}
-use Rattle.yd_scan.specs.Stretches.{no_stretch, stretch_at, later_units, IsIndex, EndsLeft}
+use Rattle.yd_scan.specs.Stretches.{no_stretch, stretch_at, IsNoLater, IsIndex, EndsLeft}
 use Rattle.yd_scan.specs.Scanning.{Stands}
 use Rattle.yd_ids.specs.declared.id.Id.{Id}
-use Rattle.yd_origins.specs.Growing.{IsNotAmong}
 use Rattle.yd_index.specs.Holding.{front_of, rest_of, cut_stretches}
-use Rattle.yd_arena.specs.Lists.{Linked, list_at, room_left, AreKept, AreLists, PutsBehind}
+use Rattle.yd_arena.specs.Lists.{AreKept, AreLists, PutsBehind}
 
 -- what a list with a place more has
 pub in_put : (i p : ℕ) (after : Option ℕ) (xs : List ℕ) → IsIn i (put_behind after p xs) → (i ≡ p) ⊎ IsIn i xs
-in_put i p after xs h = elim (in_either i (up_to after xs) (p ∷ behind after xs) h) [
-  | inl k ↦ inr (subst (IsIn i) (parts_are after xs) (in_first i (up_to after xs) (behind after xs) k))
+in_put i p after xs h = elim (in_parts i (up_to after xs) (p ∷ behind after xs) h) [
+  | inl k ↦ inr (subst (IsIn i) (parts_are after xs) (in_left_part i (up_to after xs) (behind after xs) k))
   | inr (inl e) ↦ inl e
-  | inr (inr k) ↦ inr (subst (IsIn i) (parts_are after xs) (in_second i (up_to after xs) (behind after xs) k))
+  | inr (inr k) ↦ inr (subst (IsIn i) (parts_are after xs) (in_right_part i (up_to after xs) (behind after xs) k))
 ]
 
 -- where there is room, there is each part of it
@@ -126,7 +127,7 @@ module _ (chains : Chained) (stretches : List Stretch) (marks : List ℕ) (count
 
   -- a scan of a list stands on what is kept
   pub stands : (places : Id → Option ℕ) (list : ℕ) (after : Option ℕ) (new : Stretch) → list < length chains.chains → IsIndex places stretches → IfSome after (λ p. IsIn p (get_or chains.chains list [])) →
-      EndsLeft stretches new.left after → ((i : ℕ) → IsIn i (get_or chains.chains list []) → IsNotAmong new.right (later_units (stretch_at stretches i))) →
+      EndsLeft stretches new.left after → IsNoLater stretches (get_or chains.chains list []) new.right →
       Stands places stretches (get_or chains.chains list []) after new
   stands places list after new ll index has ends right = record {
     index = index;

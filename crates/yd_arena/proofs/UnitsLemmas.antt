@@ -1,14 +1,16 @@
 -- The units of lists where a run is cut, and where one is added.
-use Rattle.std.proofs.Common.{◌≡◌, ℕ, ◌<◌, ◌≤◌, inl, inr, List, [], ◌∷◌, ◌++◌, Option, Some, length, refl, sym, ap, ap₂, ◌∙◌, subst}
+use Rattle.std.proofs.Common.{◌≡◌, ℕ, ◌<◌, inl, inr, List, [], ◌∷◌, ◌++◌, length, refl, sym, ap, ap₂, ◌∙◌, subst}
 use Rattle.std.proofs.lemmas.List.{get_or_append_left, get_or_at, append_assoc}
-use Rattle.yd_chains.specs.Chain.{IsIn, up_to, behind, put_behind}
-use Rattle.yd_chains.proofs.ChainLemmas.{has_place, in_first, in_second, parts_are}
+use Rattle.yd_words.specs.Member.{IsIn}
+use Rattle.yd_words.proofs.MemberLemmas.{in_left_part, in_right_part}
+use Rattle.yd_chains.specs.Chain.{up_to, behind}
+use Rattle.yd_chains.proofs.ChainLemmas.{has_place, parts_are}
 use Rattle.yd_scan.specs.declared.stretch.Stretch.{Stretch}
-use Rattle.yd_scan.specs.Stretches.{no_stretch, stretch_at, units_of, units_at}
+use Rattle.yd_scan.specs.Stretches.{no_stretch, units_of, units_at}
 use Rattle.yd_scan.proofs.UnitLemmas.{units_append}
 use Rattle.yd_index.specs.Holding.{cut_stretches}
 use Rattle.yd_index.proofs.CuttingLemmas.{cut_keeps_units, cut_keeps_others}
-use Rattle.yd_arena.specs.Lists.{Linked, list_at, AreLists, PutsBehind}
+use Rattle.yd_arena.specs.Lists.{list_at}
 use Rattle.yd_arena.specs.Law.{CutsKeepUnits, AddsPutUnits}
 
 pub cuts_keep_units : CutsKeepUnits
@@ -31,7 +33,7 @@ adds_put_units = λ stretches list after new within.
     let front = up_to after list in
     let back = behind after list in
     units_append (stretches ++ new ∷ []) front (length stretches ∷ back)
-    ∙ ap₂ (λ xs ys. xs ++ ys) (others_same stretches new front (λ i h. within i (subst (IsIn i) (parts_are after list) (in_first i front back h))))
+    ∙ ap₂ (λ xs ys. xs ++ ys) (others_same stretches new front (λ i h. within i (subst (IsIn i) (parts_are after list) (in_left_part i front back h))))
     (ap₂ (λ xs ys. xs ++ ys) (ap units_of (get_or_at stretches new [] no_stretch (length stretches) refl))
-    (others_same stretches new back (λ i h. within i (subst (IsIn i) (parts_are after list) (in_second i front back h)))))
+    (others_same stretches new back (λ i h. within i (subst (IsIn i) (parts_are after list) (in_right_part i front back h)))))
     ∙ sym (append_assoc (units_at stretches front) (units_of new) (units_at stretches back))

@@ -1,6 +1,7 @@
 -- What a cut and an addition do to the units of lists (own).
 use Rattle.std.specs.Prelude.{◌≡◌, ◌<◌, ◌≤◌, ◌++◌, ℕ, List, [], ◌∷◌, Option, length}
-use Rattle.yd_chains.specs.Chain.{IsIn, up_to, behind, put_behind}
+use Rattle.yd_words.specs.Member.{IsIn}
+use Rattle.yd_chains.specs.Chain.{up_to, behind, put_behind}
 use Rattle.yd_scan.specs.declared.stretch.Stretch.{Stretch}
 use Rattle.yd_scan.specs.Stretches.{stretch_at, units_of, units_at}
 use Rattle.yd_index.specs.Holding.{cut_stretches}

@@ -1,6 +1,7 @@
 -- Runs at places and the lists that link them, as contracts see them (own).
 use Rattle.std.specs.Prelude.{◌≡◌, ◌≢◌, ◌<◌, ◌≤◌, ◌-◌, ℕ, List, [], Some, min, length, get_or}
-use Rattle.yd_chains.specs.Chain.{IsIn, AreDistinct, put_behind}
+use Rattle.yd_words.specs.Member.{IsIn, AreDistinct}
+use Rattle.yd_chains.specs.Chain.{put_behind}
 use Rattle.yd_chains.specs.Link.{Chained}
 use Rattle.yd_scan.specs.declared.stretch.Stretch.{Stretch}
 use Rattle.yd_scan.specs.Stretches.{stretch_at}

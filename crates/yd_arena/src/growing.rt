@@ -1,14 +1,16 @@
 //! How the vectors of an arena grow.
 
-ghost use Rattle.std.specs.Prelude.{◌≡◌, ◌<◌, ◌≤◌, ◌+◌, ◌++◌, ◌∷◌, [], ℕ, length, OnOk, IsOk, slice_index, slice_set, vec_capacity};
-ghost use Rattle.yd_chains.specs.Link.{IsFree};
+ghost use Rattle.std.specs.Prelude.{◌≡◌, ◌<◌, ◌≤◌, ◌+◌, ◌^◌, ◌++◌, ◌∷◌, [], ℕ, length, OnOk, IsOk, slice_index, slice_set, vec_capacity};
+ghost use Rattle.yd_chains.specs.Link.{AreSound, IsFree};
 ghost use Rattle.yd_scan.specs.Stretches.{stretch_at};
+ghost use Rattle.yd_index.specs.Lines.{next_of, room_of, Adds};
 ghost use Rattle.yd_index.specs.Holding.{front_of, rest_of, cut_stretches};
 ghost use Rattle.yd_arena.specs.Lists.{PutsBehind};
 
 use std::alloc::AllocError;
 use yd_chains::Chains;
 use yd_ids::Id;
+use yd_index::Index;
 use yd_scan::Stretch;
 
 /// Puts a run at the end, where there is memory for it.
@@ -45,7 +47,8 @@ fn rest_of(stretch: Stretch, n: u64) -> Stretch
 /// Leaves so many units of a run, from its first on.
 fn shorten(stretches: &mut Vec<Stretch>, place: usize, n: u64)
     requires { place < length stretches.old.items }
-    ensures items { stretches.new.items ≡ slice_set stretches.old.items place (front_of (stretch_at stretches.old.items place) n) }
+    ensures items { stretches.new.items ≡
+        slice_set stretches.old.items place (front_of (stretch_at stretches.old.items place) n) }
     ensures memory { vec_capacity stretches.new ≡ vec_capacity stretches.old }
 {
     stretches[place].len = n;
@@ -73,6 +76,7 @@ pub fn put_part(chains: &mut Chains, place: usize, more: usize)
     requires more { more < chains.old.count }
     requires loose { IsFree chains.old more }
     ensures puts { PutsBehind chains.old.chains chains.new.chains place more }
+    ensures sound { AreSound chains.old }
     ensures count { chains.new.count ≡ chains.old.count }
 {
     let Some(list) = chains.chain_of(place) else {
@@ -86,7 +90,8 @@ pub fn grow_marks(marks: &mut Vec<u64>, most: usize) -> Result<(), AllocError>
     ensures grown { OnOk result (most ≤ length marks.new.items) }
     ensures kept { length marks.old.items ≤ length marks.new.items }
     ensures succeeds { most ≤ length marks.old.items → IsOk result }
-    ensures low { (bound : ℕ) → ((i : ℕ) → slice_index marks.old.items i ≤ bound) → (i : ℕ) → slice_index marks.new.items i ≤ bound }
+    ensures low { (bound : ℕ) → ((i : ℕ) → slice_index marks.old.items i ≤ bound) →
+        (i : ℕ) → slice_index marks.new.items i ≤ bound }
 {
     while marks.len() < most {
         marks.push(0)?;
@@ -133,4 +138,16 @@ fn clear_marks(marks: &mut Vec<u64>)
     for i in 0..marks.len() {
         marks[i] = 0;
     }
+}
+
+/// Gives the index the entry of the next run of its client, where there is room for it.
+pub fn add_entry(index: &mut Index, new: &Stretch, place: usize)
+    requires filled { 0 < new.now.len }
+    requires fits { next_of index.old new.now.id.client.0 + new.now.len < 2 ^ 64 }
+    requires room { 0 < room_of index.old new.now.id.client.0 }
+    ensures done { Adds index.old index.new new.now.id.client.0 place new.now.len }
+    ensures room { room_of index.old new.now.id.client.0 ≤
+        room_of index.new new.now.id.client.0 + 1 }
+{
+    let _ = index.add(new.id.client, place, new.len);
 }

@@ -1,19 +1,24 @@
-//! The lists of an arena: runs at places, linked in lists, with the integration scan over them.
+//! The arena: runs at places, linked in lists, and found by the ids of their units.
 //!
-//! Adding a run puts it directly behind a place, and a cut changes no unit and no order ([`law`]). Both
-//! take no memory: `reserve` takes it before. Where a new run goes, `scan` says, for every list.
+//! A client's runs fill its clocks from 0 to its next one, so an id is found by a bisection, and just
+//! where its clock is below that. A new run goes where the integration scan of its first unit puts it,
+//! and its list has then grown by the scans of all its units, whether the list keeps the edit rules or
+//! not. A cut changes no unit and no order ([`law`]). A call that finds no memory leaves all units
+//! as they were.
 //!
 //! ```rust
-//! let mut lists = Lists::new(alloc);
-//! let list = lists.add_list()?;
-//! lists.reserve(1)?;
-//! let place = lists.add(list, None, stretch);
-//! assert_eq!(rt; lists.first(list), Some(place));
+//! let mut arena = Arena::new(alloc);
+//! let list = arena.add_list()?;
+//! arena.reserve(Client(1), 1)?;
+//! let place = arena.add_run(list, None, stretch);
+//! assert_eq!(rt; arena.lists().first(list), Some(place));
 //! ```
 #![tactic(auto)]
 
+mod arena;
 mod growing;
 pub mod law;
 mod lists;
 
+pub use arena::{Arena, Found};
 pub use lists::Lists;

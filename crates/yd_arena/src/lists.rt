@@ -2,9 +2,9 @@
 
 ghost use Rattle.std.specs.Prelude.{◌≡◌, ◌<◌, ◌≤◌, ◌+◌, ◌-◌, ◌++◌, ◌∷◌, [], ℕ, None, Some, Option, length, IfSome, IfOk, OnOk, OnErr, IsOk, slice_set, vec_capacity};
 ghost use Rattle.yd_ids.specs.declared.id.Id.{Id as Ident};
-ghost use Rattle.yd_origins.specs.Growing.{IsNotAmong};
-ghost use Rattle.yd_chains.specs.Chain.{IsIn, first_of, last_of, behind, before, put_behind};
-ghost use Rattle.yd_scan.specs.Stretches.{stretch_at, later_units, IsIndex, EndsLeft, HasOrigins};
+ghost use Rattle.yd_words.specs.Member.{IsIn};
+ghost use Rattle.yd_chains.specs.Chain.{first_of, last_of, behind, before, put_behind};
+ghost use Rattle.yd_scan.specs.Stretches.{stretch_at, IsNoLater, IsIndex, EndsLeft, HasOrigins};
 ghost use Rattle.yd_scan.specs.Scanning.{IsScanPlace};
 ghost use Rattle.yd_index.specs.Holding.{cut_stretches};
 ghost use Rattle.yd_arena.specs.Lists.{list_at, AreLists, IsLoose, PutsBehind};
@@ -38,7 +38,12 @@ impl Model for Lists {
 
     ghost Value = { Linked };
 
-    ghost view = { λ it. record { stretches = it.stretches.items; lists = it.chains.chains; room = room_left (length it.stretches.items) it.chains.count (length it.marks.items) (vec_capacity it.stretches) MOST } };
+    ghost view = { λ it. record {
+      stretches = it.stretches.items;
+      lists = it.chains.chains;
+      room = room_left (length it.stretches.items) it.chains.count (length it.marks.items)
+          (vec_capacity it.stretches) MOST;
+    } };
 
     ghost invariant = { λ it. AreKept it.chains it.stretches.items it.marks.items it.counter MOST };
 }
@@ -93,7 +98,8 @@ impl Lists {
     pub fn next(&self, place: usize) -> Option<usize>
         requires { place < length self.now.stretches }
         ensures loose { IsLoose self.now place → result ≡ None }
-        ensures value { (k : ℕ) → k < length self.now.lists → IsIn place (list_at self.now k) → result ≡ first_of (behind (Some place) (list_at self.now k)) }
+        ensures value { (k : ℕ) → k < length self.now.lists → IsIn place (list_at self.now k) →
+            result ≡ first_of (behind (Some place) (list_at self.now k)) }
     {
         self.chains.next(place)
     }
@@ -102,7 +108,8 @@ impl Lists {
     pub fn prev(&self, place: usize) -> Option<usize>
         requires { place < length self.now.stretches }
         ensures loose { IsLoose self.now place → result ≡ None }
-        ensures value { (k : ℕ) → k < length self.now.lists → IsIn place (list_at self.now k) → result ≡ last_of (before place (list_at self.now k)) }
+        ensures value { (k : ℕ) → k < length self.now.lists → IsIn place (list_at self.now k) →
+            result ≡ last_of (before place (list_at self.now k)) }
     {
         self.chains.prev(place)
     }
@@ -110,8 +117,10 @@ impl Lists {
     /// The list that has a place, or None where none has it.
     pub fn list_of(&self, place: usize) -> Option<usize>
         requires { place < length self.now.stretches }
-        ensures member { (k : ℕ) → k < length self.now.lists → IsIn place (list_at self.now k) → result ≡ Some k }
-        ensures found { IfSome result (λ k. (k < length self.now.lists) × IsIn place (list_at self.now k)) }
+        ensures member { (k : ℕ) → k < length self.now.lists → IsIn place (list_at self.now k) →
+            result ≡ Some k }
+        ensures found { IfSome result (λ k.
+            (k < length self.now.lists) × IsIn place (list_at self.now k)) }
     {
         self.chains.chain_of(place)
     }
@@ -155,7 +164,8 @@ impl Lists {
         requires room { 0 < self.old.room }
         ensures place { result ≡ length self.old.stretches }
         ensures stretches { self.new.stretches ≡ self.old.stretches ++ new ∷ [] }
-        ensures lists { self.new.lists ≡ slice_set self.old.lists list (put_behind after result (list_at self.old list)) }
+        ensures lists { self.new.lists ≡
+            slice_set self.old.lists list (put_behind after result (list_at self.old list)) }
         ensures room { self.old.room ≤ self.new.room + 1 }
     {
         let place = self.stretches.len();
@@ -188,6 +198,7 @@ impl Lists {
         ensures place { result ≡ length self.old.stretches }
         ensures stretches { self.new.stretches ≡ cut_stretches self.old.stretches place n }
         ensures lists { PutsBehind self.old.lists self.new.lists place result }
+        ensures sound { AreLists self.old }
         ensures room { self.old.room ≤ self.new.room + 1 }
     {
         let more = self.stretches.len();
@@ -210,9 +221,12 @@ impl Lists {
         requires index { IsIndex (I.places index.now) self.old.stretches }
         requires after { IfSome after (λ p. IsIn p (list_at self.old list)) }
         requires left { EndsLeft self.old.stretches new.now.left after }
-        requires right { (i : ℕ) → IsIn i (list_at self.old list) → IsNotAmong new.now.right (later_units (stretch_at self.old.stretches i)) }
-        ensures place { (left right : Ident → Option Ident) → HasOrigins left right self.old.stretches (list_at self.old list) new.now → IsScanPlace self.old.stretches (list_at self.old list) new.now result left right }
+        requires right { IsNoLater self.old.stretches (list_at self.old list) new.now.right }
+        ensures place { (left right : Ident → Option Ident) →
+            HasOrigins left right self.old.stretches (list_at self.old list) new.now →
+            IsScanPlace self.old.stretches (list_at self.old list) new.now result left right }
         ensures within { IfSome result (λ p. IsIn p (list_at self.old list)) }
+        ensures lists { AreLists self.old }
         ensures unchanged { self.new ≡ self.old }
     {
         begin_scan(&mut self.marks, &mut self.counter);

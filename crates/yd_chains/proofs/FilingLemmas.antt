@@ -4,9 +4,11 @@ use Rattle.std.proofs.lemmas.List.{length-append}
 use Rattle.std.specs.Prelude.{IfSome}
 use Rattle.yd_chains.specs.declared.links.Link.{Link}
 use Rattle.yd_chains.specs.declared.links.Ends.{Ends}
-use Rattle.yd_chains.specs.Chain.{IsIn, AreDistinct, first_of, last_of, up_to, behind, before, put_behind, without, LinksIn, LinksOver}
+use Rattle.yd_words.specs.Member.{IsIn, AreDistinct}
+use Rattle.yd_words.proofs.MemberLemmas.{in_left_part, in_right_part, in_parts}
+use Rattle.yd_chains.specs.Chain.{first_of, last_of, up_to, behind, before, put_behind, without, LinksIn, LinksOver}
 use Rattle.yd_chains.specs.Link.{no_link, no_ends, prev_of, next_of, chain_of, places_of, ends_at, IsChain, AreChains, AreFiled, IsLoose, Changes, Clears}
-use Rattle.yd_chains.proofs.ChainLemmas.{same_place, in_second, in_either, in_first, in_middle, parts_are, around, distinct_out}
+use Rattle.yd_chains.proofs.ChainLemmas.{same_place, in_middle, parts_are, around, distinct_out}
 use Rattle.yd_chains.proofs.LinkLemmas.{places_are, still_chain, apart, some_in, behind_has, before_has, get_or_grown, grown_places}
 
 some_is : (j k : ℕ) → Some j ≡ Some k → j ≡ k
@@ -29,7 +31,7 @@ inserted_filed old new ends more k after place cs fl kl has ins here others ch =
         | inl q ↦
             let is = some_is k j (sym here ∙ sym (ap (chain_of new) q.1) ∙ e) in
             subst (λ m. (m < length more) × IsIn i (places_of new (ends_at more m))) is
-            (omega (arith, ch.ends_len, kl), subst (IsIn i) (sym ch.here) (subst (λ p. IsIn p (put_behind after place xs)) (sym q.1) (in_second place (up_to after xs) (place ∷ behind after xs) (inl refl))))
+            (omega (arith, ch.ends_len, kl), subst (IsIn i) (sym ch.here) (subst (λ p. IsIn p (put_behind after place xs)) (sym q.1) (in_right_part place (up_to after xs) (place ∷ behind after xs) (inl refl))))
         | inr q ↦
             let f = fl.filed i j (sym (others i q.1) ∙ e) in (
               omega (arith, ch.ends_len, f.0),
@@ -116,10 +118,10 @@ module _ (old mid new : List Link) (ends more : List Ends) (k place : ℕ) (cs :
       }
     where
       less_in : (i : ℕ) → i ≢ place → IsIn i xs → IsIn i (without place xs)
-      less_in i n m = elim (in_either i (before place xs) (place ∷ behind (Some place) xs) (subst (IsIn i) (sym (around place xs h)) m)) [
-        | inl z ↦ in_first i (before place xs) (behind (Some place) xs) z
+      less_in i n m = elim (in_parts i (before place xs) (place ∷ behind (Some place) xs) (subst (IsIn i) (sym (around place xs h)) m)) [
+        | inl z ↦ in_left_part i (before place xs) (behind (Some place) xs) z
         | inr (inl z) ↦ absurd (n z)
-        | inr (inr z) ↦ in_second i (before place xs) (behind (Some place) xs) z
+        | inr (inr z) ↦ in_right_part i (before place xs) (behind (Some place) xs) z
       ]
 
 -- ---- a place more, and a chain more

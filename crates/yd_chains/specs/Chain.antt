@@ -1,15 +1,5 @@
 -- Lists of places that are kept by links, the links being two functions (own).
-use Rattle.std.specs.Prelude.{◌≡◌, ◌≢◌, ◌⊎◌, ◌==◌, ℕ, zero, suc, List, [], ◌∷◌, Option, Some, None, IfSome, if◌then◌else◌, ◌++◌}
-
--- the place is one of the list
-abbrev pub IsIn : ℕ → List ℕ → Type 0
-IsIn p [] = ⊥
-IsIn p (x ∷ xs) = (p ≡ x) ⊎ IsIn p xs
-
--- no place stands in the list twice
-abbrev pub AreDistinct : List ℕ → Type 0
-AreDistinct [] = Unit {0}
-AreDistinct (x ∷ xs) = (IsIn x xs → ⊥) × AreDistinct xs
+use Rattle.std.specs.Prelude.{◌≡◌, ◌≢◌, ◌==◌, ℕ, zero, suc, List, [], ◌∷◌, Option, Some, None, IfSome, if◌then◌else◌, ◌++◌}
 
 -- the first place
 abbrev pub first_of : List ℕ → Option ℕ

@@ -2,7 +2,8 @@
 use Rattle.std.specs.Prelude.{◌≡◌, ◌≢◌, ◌<◌, ◌≤◌, ℕ, List, [], Option, Some, None, length, get_or}
 use Rattle.yd_chains.specs.declared.links.Link.{Link}
 use Rattle.yd_chains.specs.declared.links.Ends.{Ends}
-use Rattle.yd_chains.specs.Chain.{IsIn, AreDistinct, first_of, last_of, first_with, last_with, first_over, IsLinked, walked}
+use Rattle.yd_words.specs.Member.{IsIn, AreDistinct}
+use Rattle.yd_chains.specs.Chain.{first_of, last_of, first_with, last_with, first_over, IsLinked, walked}
 
 -- a place without links
 abbrev pub no_link : Link
@@ -31,6 +32,10 @@ ends_at ends k = get_or ends k no_ends
 -- the places of a chain
 abbrev pub places_of : List Link → Ends → List ℕ
 places_of links ends = walked (next_of links) (length links) ends.first
+
+-- the places of the chain with a number
+abbrev pub places_at : List Link → List Ends → ℕ → List ℕ
+places_at links ends k = places_of links (ends_at ends k)
 
 -- the places are a chain of this number
 pub record IsChain (links : List Link) (chain : ℕ) (ends : Ends) (places : List ℕ) : Type 0 where
@@ -100,6 +105,10 @@ pub record Changes (old_links new_links : List Link) (old_ends new_ends : List E
   pub here : places_of new_links (ends_at new_ends chain) ≡ places
   pub others : (k : ℕ) → k < length old_ends → k ≢ chain → places_of new_links (ends_at new_ends k) ≡ places_of old_links (ends_at old_ends k)
   pub are_chains : AreChains new_links new_ends
+
+-- the places of the chain with a number
+abbrev pub chain_at : Chained → ℕ → List ℕ
+chain_at it k = get_or it.chains k []
 
 -- the place is in no chain, as a contract sees it
 abbrev pub IsFree : Chained → ℕ → Type 0

@@ -1,8 +1,9 @@
 //! The chains in one arena.
 
 ghost use Rattle.std.specs.Prelude.{◌≡◌, ◌≢◌, ◌<◌, ◌+◌, ◌++◌, ◌∷◌, [], ℕ, None, Some, length, IfSome, IfOk, OnOk, OnErr, Contains, HoldsAt, slice_index_or, slice_set, All};
-ghost use Rattle.yd_chains.specs.Link.{AreSound, IsFree};
-ghost use Rattle.yd_chains.specs.Chain.{IsIn, first_of, last_of, behind, before, put_behind, without};
+ghost use Rattle.yd_chains.specs.Link.{chain_at, AreSound, IsFree};
+ghost use Rattle.yd_words.specs.Member.{IsIn};
+ghost use Rattle.yd_chains.specs.Chain.{first_of, last_of, behind, before, put_behind, without};
 
 use crate::linked::{chain_in, insert_in, next_in, prev_in, remove_in};
 use crate::links::{Ends, Link};
@@ -25,7 +26,10 @@ impl Model for Chains {
 
     ghost Value = { Chained };
 
-    ghost view = { λ it. record { count = length it.links.items; chains = map (places_of it.links.items) it.ends.items } };
+    ghost view = { λ it. record {
+      count = length it.links.items;
+      chains = map (places_of it.links.items) it.ends.items;
+    } };
 
     ghost invariant = { λ it. AreLinked it.links.items it.ends.items };
 }
@@ -53,8 +57,11 @@ impl Chains {
     /// The chain that a place is in, or None where it is in none.
     pub fn chain_of(&self, place: usize) -> Option<usize>
         requires { place < self.now.count }
-        ensures member { (k : ℕ) → k < length self.now.chains → IsIn place (slice_index_or self.now.chains k []) → result ≡ Some k }
-        ensures found { IfSome result (λ k. (k < length self.now.chains) × IsIn place (slice_index_or self.now.chains k [])) }
+        ensures sound { AreSound self.now }
+        ensures member { (k : ℕ) → k < length self.now.chains → IsIn place (chain_at self.now k) →
+            result ≡ Some k }
+        ensures found { IfSome result (λ k.
+            (k < length self.now.chains) × IsIn place (chain_at self.now k)) }
     {
         chain_in(&self.links, &self.ends, place)
     }
@@ -93,7 +100,7 @@ impl Chains {
     /// The first place of a chain, or None where it is empty.
     pub fn first(&self, chain: usize) -> Option<usize>
         requires { chain < length self.now.chains }
-        ensures value { result ≡ first_of (slice_index_or self.now.chains chain []) }
+        ensures value { result ≡ first_of (chain_at self.now chain) }
         ensures sound { AreSound self.now }
     {
         self.ends[chain].first
@@ -102,7 +109,7 @@ impl Chains {
     /// The last place of a chain, or None where it is empty.
     pub fn last(&self, chain: usize) -> Option<usize>
         requires { chain < length self.now.chains }
-        ensures { result ≡ last_of (slice_index_or self.now.chains chain []) }
+        ensures { result ≡ last_of (chain_at self.now chain) }
     {
         self.ends[chain].last
     }
@@ -112,7 +119,8 @@ impl Chains {
         requires { place < self.now.count }
         ensures sound { AreSound self.now }
         ensures loose { IsFree self.now place → result ≡ None }
-        ensures value { (k : ℕ) → k < length self.now.chains → IsIn place (slice_index_or self.now.chains k []) → result ≡ first_of (behind (Some place) (slice_index_or self.now.chains k [])) }
+        ensures value { (k : ℕ) → k < length self.now.chains → IsIn place (chain_at self.now k) →
+            result ≡ first_of (behind (Some place) (chain_at self.now k)) }
     {
         next_in(&self.links, &self.ends, place)
     }
@@ -121,7 +129,8 @@ impl Chains {
     pub fn prev(&self, place: usize) -> Option<usize>
         requires { place < self.now.count }
         ensures loose { IsFree self.now place → result ≡ None }
-        ensures value { (k : ℕ) → k < length self.now.chains → IsIn place (slice_index_or self.now.chains k []) → result ≡ last_of (before place (slice_index_or self.now.chains k [])) }
+        ensures value { (k : ℕ) → k < length self.now.chains → IsIn place (chain_at self.now k) →
+            result ≡ last_of (before place (chain_at self.now k)) }
     {
         prev_in(&self.links, &self.ends, place)
     }
@@ -130,11 +139,12 @@ impl Chains {
     /// memory, and a few steps.
     pub fn insert(&mut self, chain: usize, after: Option<usize>, place: usize)
         requires chain { chain < length self.old.chains }
-        requires after { IfSome after (λ p. IsIn p (slice_index_or self.old.chains chain [])) }
+        requires after { IfSome after (λ p. IsIn p (chain_at self.old chain)) }
         requires place { place < self.old.count }
         requires loose { IsFree self.old place }
         ensures count { self.new.count ≡ self.old.count }
-        ensures chains { self.new.chains ≡ slice_set self.old.chains chain (put_behind after place (slice_index_or self.old.chains chain [])) }
+        ensures chains { self.new.chains ≡
+            slice_set self.old.chains chain (put_behind after place (chain_at self.old chain)) }
     {
         insert_in(&mut self.links, &mut self.ends, chain, after, place);
     }
@@ -142,9 +152,10 @@ impl Chains {
     /// Takes a place out of its chain. It takes no memory, and a few steps.
     pub fn remove(&mut self, chain: usize, place: usize)
         requires chain { chain < length self.old.chains }
-        requires place { IsIn place (slice_index_or self.old.chains chain []) }
+        requires place { IsIn place (chain_at self.old chain) }
         ensures count { self.new.count ≡ self.old.count }
-        ensures chains { self.new.chains ≡ slice_set self.old.chains chain (without place (slice_index_or self.old.chains chain [])) }
+        ensures chains { self.new.chains ≡
+            slice_set self.old.chains chain (without place (chain_at self.old chain)) }
     {
         remove_in(&mut self.links, &mut self.ends, chain, place);
     }

@@ -1,8 +1,9 @@
 //! Chains over links: their neighbours, and their changes.
 
 ghost use Rattle.std.specs.Prelude.{◌≡◌, ◌≢◌, ◌<◌, ℕ, None, Some, length, IfSome};
-ghost use Rattle.yd_chains.specs.Chain.{IsIn, first_of, last_of, behind, before, put_behind, without};
-ghost use Rattle.yd_chains.specs.Link.{next_of, prev_of, chain_of, places_of, ends_at, widened, narrowed, IsChain, AreChains, AreFiled, IsLoose, Changes};
+ghost use Rattle.yd_words.specs.Member.{IsIn};
+ghost use Rattle.yd_chains.specs.Chain.{first_of, last_of, behind, before, put_behind, without};
+ghost use Rattle.yd_chains.specs.Link.{next_of, prev_of, chain_of, places_at, widened, narrowed, IsChain, AreChains, AreFiled, IsLoose, Changes};
 
 use crate::linking::{clear, link_in, link_over};
 use crate::links::{Ends, Link};
@@ -39,8 +40,8 @@ fn narrow(ends: Ends, before: Option<usize>, behind: Option<usize>) -> Ends
 fn next_after(links: &[Link], ends: &[Ends], chain: usize, after: Option<usize>) -> Option<usize>
     requires chains { AreChains links.now ends.now }
     requires chain { chain < length ends.now }
-    requires after { IfSome after (λ p. IsIn p (places_of links.now (ends_at ends.now chain))) }
-    ensures { result ≡ first_of (behind after (places_of links.now (ends_at ends.now chain))) }
+    requires after { IfSome after (λ p. IsIn p (places_at links.now ends.now chain)) }
+    ensures { result ≡ first_of (behind after (places_at links.now ends.now chain)) }
 {
     match after {
         None => ends[chain].first,
@@ -66,11 +67,12 @@ pub fn insert_in(
 )
     requires chains { AreChains links.old.items ends.old.items }
     requires chain { chain < length ends.old.items }
-    requires after { IfSome after (λ p. IsIn p (places_of links.old.items (ends_at ends.old.items chain))) }
+    requires after { IfSome after (λ p. IsIn p (places_at links.old.items ends.old.items chain)) }
     requires place { place < length links.old.items }
     requires loose { IsLoose links.old.items ends.old.items place }
     requires filed { AreFiled links.old.items ends.old.items }
-    ensures changes { Changes links.old.items links.new.items ends.old.items ends.new.items chain (put_behind after place (places_of links.old.items (ends_at ends.old.items chain))) }
+    ensures changes { Changes links.old.items links.new.items ends.old.items ends.new.items chain
+        (put_behind after place (places_at links.old.items ends.old.items chain)) }
     ensures filed { AreFiled links.new.items ends.new.items }
 {
     let next = next_after(links, ends, chain, after);
@@ -82,9 +84,10 @@ pub fn insert_in(
 pub fn remove_in(links: &mut Vec<Link>, ends: &mut Vec<Ends>, chain: usize, place: usize)
     requires chains { AreChains links.old.items ends.old.items }
     requires chain { chain < length ends.old.items }
-    requires place { IsIn place (places_of links.old.items (ends_at ends.old.items chain)) }
+    requires place { IsIn place (places_at links.old.items ends.old.items chain) }
     requires filed { AreFiled links.old.items ends.old.items }
-    ensures changes { Changes links.old.items links.new.items ends.old.items ends.new.items chain (without place (places_of links.old.items (ends_at ends.old.items chain))) }
+    ensures changes { Changes links.old.items links.new.items ends.old.items ends.new.items chain
+        (without place (places_at links.old.items ends.old.items chain)) }
     ensures filed { AreFiled links.new.items ends.new.items }
 {
     let link = links[place];
@@ -99,7 +102,8 @@ pub fn next_in(links: &[Link], ends: &[Ends], place: usize) -> Option<usize>
     requires place { place < length links.now }
     requires filed { AreFiled links.now ends.now }
     ensures loose { IsLoose links.now ends.now place → result ≡ None }
-    ensures value { (k : ℕ) → k < length ends.now → IsIn place (places_of links.now (ends_at ends.now k)) → result ≡ first_of (behind (Some place) (places_of links.now (ends_at ends.now k))) }
+    ensures value { (k : ℕ) → k < length ends.now → IsIn place (places_at links.now ends.now k) →
+        result ≡ first_of (behind (Some place) (places_at links.now ends.now k)) }
 {
     next_of_link(links, place)
 }
@@ -110,7 +114,8 @@ pub fn prev_in(links: &[Link], ends: &[Ends], place: usize) -> Option<usize>
     requires place { place < length links.now }
     requires filed { AreFiled links.now ends.now }
     ensures loose { IsLoose links.now ends.now place → result ≡ None }
-    ensures value { (k : ℕ) → k < length ends.now → IsIn place (places_of links.now (ends_at ends.now k)) → result ≡ last_of (before place (places_of links.now (ends_at ends.now k))) }
+    ensures value { (k : ℕ) → k < length ends.now → IsIn place (places_at links.now ends.now k) →
+        result ≡ last_of (before place (places_at links.now ends.now k)) }
 {
     prev_of_link(links, place)
 }
@@ -128,8 +133,10 @@ pub fn chain_in(links: &[Link], ends: &[Ends], place: usize) -> Option<usize>
     requires chains { AreChains links.now ends.now }
     requires filed { AreFiled links.now ends.now }
     requires place { place < length links.now }
-    ensures member { (k : ℕ) → k < length ends.now → IsIn place (places_of links.now (ends_at ends.now k)) → result ≡ Some k }
-    ensures found { IfSome result (λ k. (k < length ends.now) × IsIn place (places_of links.now (ends_at ends.now k))) }
+    ensures member { (k : ℕ) → k < length ends.now → IsIn place (places_at links.now ends.now k) →
+        result ≡ Some k }
+    ensures found { IfSome result (λ k.
+        (k < length ends.now) × IsIn place (places_at links.now ends.now k)) }
 {
     chain_of_link(links, place)
 }

@@ -34,7 +34,8 @@ pub fn link_in(
     requires before { IfSome before (λ p. (p < length links.old.items) × (p ≢ place)) }
     requires behind { IfSome behind (λ p. (p < length links.old.items) × (p ≢ place)) }
     ensures len { length links.new.items ≡ length links.old.items }
-    ensures linked { LinksIn (prev_of links.old.items) (next_of links.old.items) (prev_of links.new.items) (next_of links.new.items) before behind place }
+    ensures linked { LinksIn (prev_of links.old.items) (next_of links.old.items)
+        (prev_of links.new.items) (next_of links.new.items) before behind place }
     ensures chain { chain_of links.new.items place ≡ Some chain }
     ensures others { (i : ℕ) → i ≢ place → chain_of links.new.items i ≡ chain_of links.old.items i }
 {
@@ -56,7 +57,8 @@ pub fn link_over(links: &mut Vec<Link>, before: Option<usize>, behind: Option<us
     requires before { IfSome before (λ p. p < length links.old.items) }
     requires behind { IfSome behind (λ p. p < length links.old.items) }
     ensures len { length links.new.items ≡ length links.old.items }
-    ensures linked { LinksOver (prev_of links.old.items) (next_of links.old.items) (prev_of links.new.items) (next_of links.new.items) before behind }
+    ensures linked { LinksOver (prev_of links.old.items) (next_of links.old.items)
+        (prev_of links.new.items) (next_of links.new.items) before behind }
     ensures chains { (i : ℕ) → chain_of links.new.items i ≡ chain_of links.old.items i }
 {
     if let Some(p) = before {

@@ -3,14 +3,15 @@ use Rattle.std.proofs.Common.{◌≡◌, ◌≢◌, ℕ, zero, suc, ◌+◌, ◌
 use Rattle.std.proofs.lemmas.List.{get_or_append_left, get_or_at, length-append, length-set, get_or-set_same, get_or-set_other, append_assoc}
 use Rattle.yd_ids.specs.declared.id.Id.{Id}
 use Rattle.yd_ids.specs.declared.id.Client.{Client}
-use Rattle.yd_chains.specs.Chain.{IsIn, AreDistinct, put_behind}
+use Rattle.yd_words.specs.Member.{IsIn, AreDistinct}
+use Rattle.yd_chains.specs.Chain.{put_behind}
 use Rattle.yd_chains.proofs.ChainLemmas as chain
 use Rattle.yd_scan.specs.declared.stretch.Stretch.{Stretch}
 use Rattle.yd_scan.specs.Stretches.{units_from, units_of, units_at, no_stretch, stretch_at}
 use Rattle.yd_index.specs.declared.line.Entry.{Entry}
 use Rattle.yd_index.specs.Line.{Lined, begin, entry_in, with_cut}
 use Rattle.yd_index.specs.Lines.{entries_of, next_of, entry_at, Changes}
-use Rattle.yd_index.specs.Holding.{IsEntry, IsStretchOf, StretchesFill, entry_for, Holds, front_of, rest_of, cut_stretches}
+use Rattle.yd_index.specs.Holding.{IsStretchOf, StretchesFill, entry_for, Holds, front_of, rest_of, cut_stretches}
 use Rattle.yd_index.specs.Law.{CutIsHeld, CutKeepsUnits, CutKeepsOthers}
 use Rattle.yd_index.proofs.LineLemmas.{lt_says}
 use Rattle.yd_index.proofs.LinesLemmas.{eq_says}
@@ -89,14 +90,14 @@ cut_keeps_others = λ stretches list i n lt within out. others_kept stretches i 
 
 -- ---- entries
 
-cut_has_old : (es : List Entry) (next clock place : ℕ) (x : Entry) → IsEntry x es → IsEntry x (with_cut es next clock place)
+cut_has_old : (es : List Entry) (next clock place : ℕ) (x : Entry) → IsIn x es → IsIn x (with_cut es next clock place)
 cut_has_old [] next clock place x h = absurd h
 cut_has_old (e ∷ es) next clock place x h = elim (lt_says clock (begin es next)) [
   | inl y ↦ rw y.0 (elim h [ inl s ↦ inl s | inr m ↦ inr (inr m) ])
   | inr y ↦ rw y.0 (elim h [ inl s ↦ inl s | inr m ↦ inr (cut_has_old es next clock place x m) ])
 ]
 
-cut_has_new : (es : List Entry) (next clock place : ℕ) (e : Entry) → entry_in es next clock ≡ Some e → IsEntry (record { clock = clock; place = place }) (with_cut es next clock place)
+cut_has_new : (es : List Entry) (next clock place : ℕ) (e : Entry) → entry_in es next clock ≡ Some e → IsIn (record { clock = clock; place = place }) (with_cut es next clock place)
 cut_has_new [] next clock place e f = (let no : None ≡ Some e = f in absurd cc)
 cut_has_new (g ∷ gs) next clock place e f = elim (lt_says clock (begin gs next)) [
   | inl y ↦ rw y.0 (inr (inl refl))
@@ -181,7 +182,7 @@ module _ (old new : List Lined) (stretches : List Stretch) (id : Id) (e : Entry)
   abbrev cut_now : List Stretch
   cut_now = cut_stretches stretches e.place (id.clock - e.clock)
 
-  only : IsEntry e (entries_of old k) × (e.clock ≤ id.clock) × (id.clock < e.clock + (stretch_at stretches e.place).len)
+  only : IsIn e (entries_of old k) × (e.clock ≤ id.clock) × (id.clock < e.clock + (stretch_at stretches e.place).len)
   only = only_run stretches k (entries_of old k) 0 (next_of old k) id.clock e (h.fills k) (omega arith) found
 
   of_run : IsStretchOf stretches k e.clock e
@@ -202,21 +203,21 @@ module _ (old new : List Lined) (stretches : List Stretch) (id : Id) (e : Entry)
       cut_other stretches e.place (id.clock - e.clock) of_run.within x.place p.within (λ s. ne (sym p.client_is ∙ ap (λ i. (stretch_at stretches i).id.client.0) s ∙ of_run.client_is))) in
       subst (λ n. StretchesFill cut_now j 0 (entries_of new j) n) (sym (ch.other_nexts j ne)) (subst (λ es. StretchesFill cut_now j 0 es (next_of old j)) (sym (ch.other_entries j ne)) f)
 
-  new_has : (j : ℕ) (x : Entry) → IsEntry x (entries_of old j) → IsEntry x (entries_of new j)
+  new_has : (j : ℕ) (x : Entry) → IsIn x (entries_of old j) → IsIn x (entries_of new j)
   new_has j x m = elim (eq_says j k) [
-    | inl y ↦ subst (λ i. IsEntry x (entries_of new i)) (sym y.1) (subst (IsEntry x) (sym ch.entries_are) (cut_has_old (entries_of old k) (next_of old k) id.clock (length stretches) x (subst (λ i. IsEntry x (entries_of old i)) y.1 m)))
-    | inr y ↦ subst (IsEntry x) (sym (ch.other_entries j y.1)) m
+    | inl y ↦ subst (λ i. IsIn x (entries_of new i)) (sym y.1) (subst (IsIn x) (sym ch.entries_are) (cut_has_old (entries_of old k) (next_of old k) id.clock (length stretches) x (subst (λ i. IsIn x (entries_of old i)) y.1 m)))
+    | inr y ↦ subst (IsIn x) (sym (ch.other_entries j y.1)) m
   ]
 
   abbrev HasId : ℕ → Id → Type 0
-  HasId i z = IsEntry (record { clock = z.clock; place = i }) (entries_of new z.client.0)
+  HasId i z = IsIn (record { clock = z.clock; place = i }) (entries_of new z.client.0)
 
   rest_at : HasId (length stretches) (stretch_at cut_now (length stretches)).id
   rest_at =
       let s : id.clock ≡ (stretch_at stretches e.place).id.clock + (id.clock - e.clock) = omega (arith, of_run.clock_is, low) in
-      let a : IsEntry (record { clock = id.clock; place = length stretches }) (entries_of new k) = subst (IsEntry (record { clock = id.clock; place = length stretches })) (sym ch.entries_are) (cut_has_new (entries_of old k) (next_of old k) id.clock (length stretches) e found) in
-      let b = subst (λ c. IsEntry (record { clock = c; place = length stretches }) (entries_of new k)) s a in
-      let d = subst (λ j. IsEntry (record { clock = (stretch_at stretches e.place).id.clock + (id.clock - e.clock); place = length stretches }) (entries_of new j)) (sym of_run.client_is) b in
+      let a : IsIn (record { clock = id.clock; place = length stretches }) (entries_of new k) = subst (IsIn (record { clock = id.clock; place = length stretches })) (sym ch.entries_are) (cut_has_new (entries_of old k) (next_of old k) id.clock (length stretches) e found) in
+      let b = subst (λ c. IsIn (record { clock = c; place = length stretches }) (entries_of new k)) s a in
+      let d = subst (λ j. IsIn (record { clock = (stretch_at stretches e.place).id.clock + (id.clock - e.clock); place = length stretches }) (entries_of new j)) (sym of_run.client_is) b in
       subst (λ (r : Stretch). HasId (length stretches) r.id) (sym (cut_rest stretches e.place (id.clock - e.clock) of_run.within)) d
 
   was_filled : (i : ℕ) → i < length stretches → 0 < (stretch_at cut_now i).len → 0 < (stretch_at stretches i).len
@@ -225,7 +226,7 @@ module _ (old new : List Lined) (stretches : List Stretch) (id : Id) (e : Entry)
     | inr s ↦ subst (λ (r : Stretch). 0 < r.len) (cut_other stretches e.place (id.clock - e.clock) of_run.within i y s.1) pos
   ]
 
-  new_each : (i : ℕ) → i < length cut_now → 0 < (stretch_at cut_now i).len → IsEntry (entry_for cut_now i) (entries_of new (stretch_at cut_now i).id.client.0)
+  new_each : (i : ℕ) → i < length cut_now → 0 < (stretch_at cut_now i).len → IsIn (entry_for cut_now i) (entries_of new (stretch_at cut_now i).id.client.0)
   new_each i lt pos = elim (below_or_last i (length stretches) (omega (arith, lt, now_len))) [
     | inl y ↦ subst (HasId i) (sym (cut_id stretches e.place (id.clock - e.clock) of_run.within i y)) (new_has (stretch_at stretches i).id.client.0 (entry_for stretches i) (h.each i y (was_filled i y pos)))
     | inr y ↦ subst (λ j. HasId j (stretch_at cut_now j).id) (sym y) rest_at

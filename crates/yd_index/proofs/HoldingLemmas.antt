@@ -1,25 +1,18 @@
 -- The entries stay the runs at their places: with a run more, and with one cut.
 use Rattle.std.proofs.Common.{◌≡◌, ◌≢◌, ℕ, ◌+◌, ◌<◌, ◌≤◌, ◌⊎◌, inl, inr, List, [], ◌∷◌, ◌++◌, length, refl, sym, ap, ◌∙◌, subst, arith}
 use Rattle.std.proofs.lemmas.List.{get_or_append_left, get_or_at, length-append}
+use Rattle.yd_words.specs.Member.{IsIn}
+use Rattle.yd_words.proofs.MemberLemmas.{in_left_part, in_right_part}
 use Rattle.yd_scan.specs.declared.stretch.Stretch.{Stretch}
 use Rattle.yd_scan.specs.Stretches.{no_stretch, stretch_at}
 use Rattle.yd_index.specs.declared.line.Entry.{Entry}
 use Rattle.yd_index.specs.Line.{Lined}
 use Rattle.yd_index.specs.Lines.{entries_of, next_of, Changes}
-use Rattle.yd_index.specs.Holding.{IsEntry, IsStretchOf, StretchesFill, entry_for, Holds}
+use Rattle.yd_index.specs.Holding.{IsStretchOf, StretchesFill, entry_for, Holds}
 use Rattle.yd_index.specs.Law.{AddedIsHeld}
 use Rattle.yd_index.proofs.LineLemmas.{lt_says}
 use Rattle.yd_index.proofs.LinesLemmas.{eq_says}
 use Rattle.yd_index.proofs.RowLemmas.{entry_run}
-
-pub entry_left : (x : Entry) (es fs : List Entry) → IsEntry x es → IsEntry x (es ++ fs)
-entry_left x [] fs h = absurd h
-entry_left x (e ∷ es) fs (inl s) = inl s
-entry_left x (e ∷ es) fs (inr h) = inr (entry_left x es fs h)
-
-pub entry_right : (x : Entry) (es fs : List Entry) → IsEntry x fs → IsEntry x (es ++ fs)
-entry_right x [] fs h = h
-entry_right x (e ∷ es) fs h = inr (entry_right x es fs h)
 
 pub run_kept : (stretches more : List Stretch) (k clock : ℕ) (e : Entry) → IsStretchOf stretches k clock e → length stretches ≤ length more → stretch_at more e.place ≡ stretch_at stretches e.place → IsStretchOf more k clock e
 run_kept stretches more k clock e o le same = record {
@@ -31,7 +24,7 @@ run_kept stretches more k clock e o le same = record {
 }
 
 -- other runs, the same at the places of the entries
-pub fills_kept : (stretches more : List Stretch) (k : ℕ) (es : List Entry) (from next : ℕ) → StretchesFill stretches k from es next → length stretches ≤ length more → ((x : Entry) → IsEntry x es → stretch_at more x.place ≡ stretch_at stretches x.place) →
+pub fills_kept : (stretches more : List Stretch) (k : ℕ) (es : List Entry) (from next : ℕ) → StretchesFill stretches k from es next → length stretches ≤ length more → ((x : Entry) → IsIn x es → stretch_at more x.place ≡ stretch_at stretches x.place) →
     StretchesFill more k from es next
 fills_kept stretches more k [] from next f le same = f
 fills_kept stretches more k (e ∷ es) from next f le same =
@@ -85,21 +78,21 @@ module _ (old new : List Lined) (stretches : List Stretch) (stretch : Stretch) (
   other_fill : (k : ℕ) → k ≢ stretch.id.client.0 → StretchesFill more k 0 (entries_of new k) (next_of new k)
   other_fill k ne = subst (λ n. StretchesFill more k 0 (entries_of new k) n) (sym (ch.other_nexts k ne)) (subst (λ es. StretchesFill more k 0 es (next_of old k)) (sym (ch.other_entries k ne)) (old_fill k))
 
-  new_has : (k : ℕ) (x : Entry) → IsEntry x (entries_of old k) → IsEntry x (entries_of new k)
+  new_has : (k : ℕ) (x : Entry) → IsIn x (entries_of old k) → IsIn x (entries_of new k)
   new_has k x m = elim (eq_says k stretch.id.client.0) [
-    | inl y ↦ subst (λ j. IsEntry x (entries_of new j)) (sym y.1) (subst (IsEntry x) (sym ch.entries_are) (entry_left x (entries_of old stretch.id.client.0) (added ∷ []) (subst (λ j. IsEntry x (entries_of old j)) y.1 m)))
-    | inr y ↦ subst (IsEntry x) (sym (ch.other_entries k y.1)) m
+    | inl y ↦ subst (λ j. IsIn x (entries_of new j)) (sym y.1) (subst (IsIn x) (sym ch.entries_are) (in_left_part x (entries_of old stretch.id.client.0) (added ∷ []) (subst (λ j. IsIn x (entries_of old j)) y.1 m)))
+    | inr y ↦ subst (IsIn x) (sym (ch.other_entries k y.1)) m
   ]
 
   abbrev Has : ℕ → Stretch → Type 0
-  Has i r = IsEntry (record { clock = r.id.clock; place = i }) (entries_of new r.id.client.0)
+  Has i r = IsIn (record { clock = r.id.clock; place = i }) (entries_of new r.id.client.0)
 
-  new_each : (i : ℕ) → i < length more → 0 < (stretch_at more i).len → IsEntry (entry_for more i) (entries_of new (stretch_at more i).id.client.0)
+  new_each : (i : ℕ) → i < length more → 0 < (stretch_at more i).len → IsIn (entry_for more i) (entries_of new (stretch_at more i).id.client.0)
   new_each i lt pos = elim (below_or_last i (length stretches) (omega (arith, lt, more_len))) [
     | inl y ↦ subst (Has i) (sym (old_run i y)) (new_has (stretch_at stretches i).id.client.0 (entry_for stretches i) (h.each i y (subst (λ (r : Stretch). 0 < r.len) (old_run i y) pos)))
     | inr y ↦ subst (λ j. Has j (stretch_at more j)) (sym y) (subst (Has (length stretches)) (sym new_run)
-        (subst (λ c. IsEntry (record { clock = c; place = length stretches }) (entries_of new stretch.id.client.0)) (sym at_next)
-        (subst (IsEntry added) (sym ch.entries_are) (entry_right added (entries_of old stretch.id.client.0) (added ∷ []) (inl refl)))))
+        (subst (λ c. IsIn (record { clock = c; place = length stretches }) (entries_of new stretch.id.client.0)) (sym at_next)
+        (subst (IsIn added) (sym ch.entries_are) (in_right_part added (entries_of old stretch.id.client.0) (added ∷ []) (inl refl)))))
   ]
 
   pub added_holds : Holds new more

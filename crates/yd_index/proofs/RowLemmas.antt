@@ -8,7 +8,7 @@ use Rattle.yd_scan.specs.Stretches.{units_from, units_of, stretch_at}
 use Rattle.yd_index.specs.declared.line.Entry.{Entry}
 use Rattle.yd_index.specs.Line.{Lined, begin, Fills, entry_in}
 use Rattle.yd_index.specs.Lines.{entries_of, next_of, entry_at}
-use Rattle.yd_index.specs.Holding.{place_in, places_of, IsEntry, IsStretchOf, StretchesFill, entry_for, Holds}
+use Rattle.yd_index.specs.Holding.{place_in, places_of, IsStretchOf, StretchesFill, entry_for, Holds}
 use Rattle.yd_index.specs.Law.{IndexFinds, IndexIsExact}
 use Rattle.yd_index.proofs.LineLemmas.{lt_says, begins, none_from}
 use Rattle.yd_index.proofs.LinesLemmas.{eq_says}
@@ -49,17 +49,17 @@ module _ (stretches : List Stretch) (k : ℕ) where
   pub begin_is : (e : Entry) (es : List Entry) (from next : ℕ) → StretchesFill stretches k from (e ∷ es) next → begin es next ≡ from + (stretch_at stretches e.place).len
   begin_is e es from next f = begins es (from + (stretch_at stretches e.place).len) next (fills_of es (from + (stretch_at stretches e.place).len) next f.1)
 
-  pub entry_above : (es : List Entry) (from next : ℕ) (x : Entry) → StretchesFill stretches k from es next → IsEntry x es → from ≤ x.clock
+  pub entry_above : (es : List Entry) (from next : ℕ) (x : Entry) → StretchesFill stretches k from es next → IsIn x es → from ≤ x.clock
   entry_above [] from next x f h = absurd h
   entry_above (e ∷ es) from next x f (inl s) = omega (arith, f.0.begins, ap (λ (y : Entry). y.clock) s)
   entry_above (e ∷ es) from next x f (inr h) = omega (arith, entry_above es (from + (stretch_at stretches e.place).len) next x f.1 h)
 
-  pub entry_run : (es : List Entry) (from next : ℕ) (x : Entry) → StretchesFill stretches k from es next → IsEntry x es → IsStretchOf stretches k x.clock x
+  pub entry_run : (es : List Entry) (from next : ℕ) (x : Entry) → StretchesFill stretches k from es next → IsIn x es → IsStretchOf stretches k x.clock x
   entry_run [] from next x f h = absurd h
   entry_run (e ∷ es) from next x f (inl s) = subst (λ (y : Entry). IsStretchOf stretches k y.clock y) (sym s) (subst (λ m. IsStretchOf stretches k m e) (sym f.0.begins) f.0)
   entry_run (e ∷ es) from next x f (inr h) = entry_run es (from + (stretch_at stretches e.place).len) next x f.1 h
 
-  pub found_run : (es : List Entry) (from next clock : ℕ) (x : Entry) → StretchesFill stretches k from es next → IsEntry x es → x.clock ≤ clock → clock < x.clock + (stretch_at stretches x.place).len → entry_in es next clock ≡ Some x
+  pub found_run : (es : List Entry) (from next clock : ℕ) (x : Entry) → StretchesFill stretches k from es next → IsIn x es → x.clock ≤ clock → clock < x.clock + (stretch_at stretches x.place).len → entry_in es next clock ≡ Some x
   found_run [] from next clock x f h low high = absurd h
   found_run (e ∷ es) from next clock x f (inl s) low high = elim (lt_says clock (begin es next)) [
     | inl y ↦ rw y.0 (ap Some (sym s))
@@ -71,7 +71,7 @@ module _ (stretches : List Stretch) (k : ℕ) where
   ]
 
   pub only_run : (es : List Entry) (from next clock : ℕ) (x : Entry) → StretchesFill stretches k from es next → from ≤ clock → entry_in es next clock ≡ Some x →
-      IsEntry x es × (x.clock ≤ clock) × (clock < x.clock + (stretch_at stretches x.place).len)
+      IsIn x es × (x.clock ≤ clock) × (clock < x.clock + (stretch_at stretches x.place).len)
   only_run [] from next clock x f low e = (let no : None ≡ Some x = e in absurd cc)
   only_run (g ∷ gs) from next clock x f low e = elim (lt_says clock (begin gs next)) [
     | inl y ↦ (let same : Some g ≡ Some x = rw y.0 at e in let is : x ≡ g = cc in

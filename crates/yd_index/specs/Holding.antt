@@ -1,6 +1,7 @@
 -- The index and the runs at the places of its entries (own).
-use Rattle.std.specs.Prelude.{◌≡◌, ◌<◌, ◌⊎◌, ◌+◌, ◌-◌, ℕ, List, [], ◌∷◌, ◌++◌, Option, Some, None, length, set}
+use Rattle.std.specs.Prelude.{◌≡◌, ◌<◌, ◌+◌, ◌-◌, ℕ, List, [], ◌∷◌, ◌++◌, Option, Some, None, length, set}
 use Rattle.yd_ids.specs.declared.id.Id.{Id}
+use Rattle.yd_words.specs.Member.{IsIn}
 use Rattle.yd_scan.specs.declared.stretch.Stretch.{Stretch}
 use Rattle.yd_scan.specs.Stretches.{stretch_at}
 use Rattle.yd_index.specs.declared.line.Entry.{Entry}
@@ -15,11 +16,6 @@ place_in (Some e) = Some e.place
 -- the place of the run that has a unit
 abbrev pub places_of : List Lined → Id → Option ℕ
 places_of lines id = place_in (entry_at lines id)
-
--- the entry is one of the list
-abbrev pub IsEntry : Entry → List Entry → Type 0
-IsEntry x [] = ⊥
-IsEntry x (e ∷ es) = (x ≡ e) ⊎ IsEntry x es
 
 -- the entry is that of a run of the client with this first clock
 pub record IsStretchOf (stretches : List Stretch) (client clock : ℕ) (e : Entry) : Type 0 where
@@ -41,7 +37,7 @@ entry_for stretches i = record { clock = (stretch_at stretches i).id.clock; plac
 -- the entries of each client are runs that fill its clocks from 0, and each run that is not empty has its entry
 pub record Holds (lines : List Lined) (stretches : List Stretch) : Type 0 where
   pub fills : (k : ℕ) → StretchesFill stretches k 0 (entries_of lines k) (next_of lines k)
-  pub each : (i : ℕ) → i < length stretches → 0 < (stretch_at stretches i).len → IsEntry (entry_for stretches i) (entries_of lines (stretch_at stretches i).id.client.0)
+  pub each : (i : ℕ) → i < length stretches → 0 < (stretch_at stretches i).len → IsIn (entry_for stretches i) (entries_of lines (stretch_at stretches i).id.client.0)
 
 -- so many units of a run, from its first on
 abbrev pub front_of : Stretch → ℕ → Stretch

@@ -1,12 +1,13 @@
 -- What the index is worth, where its entries are those of the runs at their places (own).
-use Rattle.std.specs.Prelude.{◌≡◌, ◌↔◌, ◌<◌, ◌≤◌, ◌+◌, ◌-◌, ◌++◌, ℕ, List, [], ◌∷◌, Some, None, length}
+use Rattle.std.specs.Prelude.{◌≡◌, ◌↔◌, ◌<◌, ◌≤◌, ◌-◌, ◌++◌, ℕ, List, [], ◌∷◌, Some, None, length}
 use Rattle.yd_ids.specs.declared.id.Id.{Id}
-use Rattle.yd_chains.specs.Chain.{IsIn, AreDistinct, put_behind}
+use Rattle.yd_words.specs.Member.{IsIn, AreDistinct}
+use Rattle.yd_chains.specs.Chain.{put_behind}
 use Rattle.yd_scan.specs.declared.stretch.Stretch.{Stretch}
 use Rattle.yd_scan.specs.Stretches.{stretch_at, units_at, IsIndex}
 use Rattle.yd_index.specs.declared.line.Entry.{Entry}
-use Rattle.yd_index.specs.Line.{Lined, with_cut}
-use Rattle.yd_index.specs.Lines.{entries_of, next_of, entry_at, Changes}
+use Rattle.yd_index.specs.Line.{Lined}
+use Rattle.yd_index.specs.Lines.{next_of, entry_at, Adds, Cuts}
 use Rattle.yd_index.specs.Holding.{Holds, places_of, cut_stretches}
 
 -- each unit of a run has the run's place, and no other id has one
@@ -20,13 +21,13 @@ IndexIsExact = (lines : List Lined) (stretches : List Stretch) (id : Id) → Hol
 -- with a run more and its entry, the entries are still the runs at their places
 abbrev pub AddedIsHeld : Type 0
 AddedIsHeld = (old new : List Lined) (stretches : List Stretch) (stretch : Stretch) → Holds old stretches → 0 < stretch.len → stretch.id.clock ≡ next_of old stretch.id.client.0 →
-    Changes old new stretch.id.client.0 (entries_of old stretch.id.client.0 ++ record { clock = next_of old stretch.id.client.0; place = length stretches } ∷ []) (next_of old stretch.id.client.0 + stretch.len) →
+    Adds old new stretch.id.client.0 (length stretches) stretch.len →
     Holds new (stretches ++ stretch ∷ [])
 
 -- with a run cut and its entry too, likewise
 abbrev pub CutIsHeld : Type 0
 CutIsHeld = (old new : List Lined) (stretches : List Stretch) (id : Id) (e : Entry) → Holds old stretches → entry_at old id ≡ Some e → e.clock < id.clock →
-    Changes old new id.client.0 (with_cut (entries_of old id.client.0) (next_of old id.client.0) id.clock (length stretches)) (next_of old id.client.0) →
+    Cuts old new id (length stretches) →
     Holds new (cut_stretches stretches e.place (id.clock - e.clock))
 
 -- a list with the second part behind the first has the units that it had

@@ -1,8 +1,8 @@
 -- The lines of several clients (own).
-use Rattle.std.specs.Prelude.{◌≡◌, ◌≢◌, ◌<◌, ◌≤◌, ℕ, suc, nat_eq, List, [], ◌∷◌, Option, Some, None, if◌then◌else◌, length, HoldsAt}
+use Rattle.std.specs.Prelude.{◌≡◌, ◌≢◌, ◌<◌, ◌≤◌, ◌+◌, ◌++◌, ℕ, suc, nat_eq, List, [], ◌∷◌, Option, Some, None, if◌then◌else◌, length, HoldsAt}
 use Rattle.yd_ids.specs.declared.id.Id.{Id}
 use Rattle.yd_index.specs.declared.line.Entry.{Entry}
-use Rattle.yd_index.specs.Line.{Lined, entry_in}
+use Rattle.yd_index.specs.Line.{Lined, entry_in, with_cut}
 
 -- the clients ascend from a number on
 abbrev pub AreLines : ℕ → List Lined → Type 0
@@ -59,6 +59,20 @@ pub record Changes (old new : List Lined) (client : ℕ) (entries : List Entry) 
   pub next_is : next_of new client ≡ next
   pub other_entries : (k : ℕ) → k ≢ client → entries_of new k ≡ entries_of old k
   pub other_nexts : (k : ℕ) → k ≢ client → next_of new k ≡ next_of old k
+
+-- a client's entries and next clock, and all others, are the old ones
+abbrev pub Stays : List Lined → List Lined → ℕ → Type 0
+Stays old new client = Changes old new client (entries_of old client) (next_of old client)
+
+-- a client has a run more, at a place and of so many units
+abbrev pub Adds : List Lined → List Lined → ℕ → ℕ → ℕ → Type 0
+Adds old new client place len =
+    Changes old new client (entries_of old client ++ record { clock = next_of old client; place = place } ∷ []) (next_of old client + len)
+
+-- the run with an id is cut in front of it, and the second part has a place
+abbrev pub Cuts : List Lined → List Lined → Id → ℕ → Type 0
+Cuts old new id place =
+    Changes old new id.client.0 (with_cut (entries_of old id.client.0) (next_of old id.client.0) id.clock place) (next_of old id.client.0)
 
 -- all entries and next clocks are the old ones, and there is no less room
 pub record KeepsLines (old new : List Lined) : Type 0 where

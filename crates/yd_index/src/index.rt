@@ -1,8 +1,8 @@
 //! The index of all clients, a line for each.
 
-ghost use Rattle.std.specs.Prelude.{◌≡◌, ◌≢◌, ◌<◌, ◌≤◌, ◌+◌, ◌^◌, ◌++◌, ◌∷◌, [], ℕ, OnOk, OnErr, IsOk};
-ghost use Rattle.yd_index.specs.Line.{IsInside, with_cut};
-ghost use Rattle.yd_index.specs.Lines.{entries_of, next_of, room_of, entry_at, Changes, KeepsLines};
+ghost use Rattle.std.specs.Prelude.{◌≡◌, ◌≢◌, ◌<◌, ◌≤◌, ◌+◌, ◌^◌, [], ℕ, OnOk, OnErr, IsOk};
+ghost use Rattle.yd_index.specs.Line.{IsInside};
+ghost use Rattle.yd_index.specs.Lines.{entries_of, next_of, room_of, entry_at, Adds, Cuts, Stays, KeepsLines};
 
 use crate::line::{Entry, Line};
 use crate::lines::{seat, seat_made};
@@ -73,8 +73,8 @@ impl Index {
     pub fn add(&mut self, client: Client, place: usize, len: u64) -> Result<(), AllocError>
         requires filled { 0 < len }
         requires fits { next_of self.old client.0 + len < 2 ^ 64 }
-        ensures done { OnOk result (Changes self.old self.new client.0 (entries_of self.old client.0 ++ record { clock = next_of self.old client.0; place = place } ∷ []) (next_of self.old client.0 + len)) }
-        ensures unchanged { OnErr result (Changes self.old self.new client.0 (entries_of self.old client.0) (next_of self.old client.0)) }
+        ensures done { OnOk result (Adds self.old self.new client.0 place len) }
+        ensures unchanged { OnErr result (Stays self.old self.new client.0) }
         ensures room { room_of self.old client.0 ≤ room_of self.new client.0 + 1 }
         ensures other_rooms { (k : ℕ) → k ≢ client.0 → room_of self.old k ≤ room_of self.new k }
         ensures succeeds { 0 < room_of self.old client.0 → IsOk result }
@@ -88,8 +88,8 @@ impl Index {
     /// are a run of their own, at this place.
     pub fn cut(&mut self, id: Id, place: usize) -> Result<(), AllocError>
         requires { IsInside (entries_of self.old id.client.0) (next_of self.old id.client.0) id.clock }
-        ensures done { OnOk result (Changes self.old self.new id.client.0 (with_cut (entries_of self.old id.client.0) (next_of self.old id.client.0) id.clock place) (next_of self.old id.client.0)) }
-        ensures unchanged { OnErr result (Changes self.old self.new id.client.0 (entries_of self.old id.client.0) (next_of self.old id.client.0)) }
+        ensures done { OnOk result (Cuts self.old self.new id place) }
+        ensures unchanged { OnErr result (Stays self.old self.new id.client.0) }
     {
         let Some(i) = seat(&self.lines, id.client) else {
             return Err(AllocError);

@@ -18,4 +18,4 @@ mod line;
 mod lines;
 
 pub use index::Index;
-pub use line::{Entry, Line};
+pub use line::Entry;

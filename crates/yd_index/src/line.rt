@@ -52,7 +52,12 @@ impl Model for Line {
 
     ghost Value = { Lined };
 
-    ghost view = { λ it. record { client = it.client.0; entries = it.entries.items; next = it.next; room = it.entries.room } };
+    ghost view = { λ it. record {
+      client = it.client.0;
+      entries = it.entries.items;
+      next = it.next;
+      room = it.entries.room;
+    } };
 
     ghost invariant = { λ it. Fills 0 it.entries.items it.next };
 }
@@ -113,7 +118,8 @@ impl Line {
         requires filled { 0 < len }
         requires fits { self.old.next + len < 2 ^ 64 }
         ensures client { self.new.client ≡ self.old.client }
-        ensures entries { OnOk result (self.new.entries ≡ self.old.entries ++ record { clock = self.old.next; place = place } ∷ []) }
+        ensures entries { OnOk result (self.new.entries ≡
+            self.old.entries ++ record { clock = self.old.next; place = place } ∷ []) }
         ensures next { OnOk result (self.new.next ≡ self.old.next + len) }
         ensures unchanged { OnErr result (IsSame self.old self.new) }
         ensures room { self.old.room ≤ self.new.room + 1 }
@@ -133,7 +139,8 @@ impl Line {
         requires { IsInside self.old.entries self.old.next clock }
         ensures client { self.new.client ≡ self.old.client }
         ensures next { self.new.next ≡ self.old.next }
-        ensures done { OnOk result (self.new.entries ≡ with_cut self.old.entries self.old.next clock place) }
+        ensures done { OnOk result (self.new.entries ≡
+            with_cut self.old.entries self.old.next clock place) }
         ensures unchanged { OnErr result (self.new.entries ≡ self.old.entries) }
     {
         let n = begun(&self.entries, clock);

@@ -13,7 +13,8 @@ pub const FULL: usize = 512;
 /// The elements from a place on, in memory of their own; the others stay.
 fn tail_of<T: Drop>(piece: &mut Vec<T>, at: usize) -> Result<Vec<T>, AllocError>
     requires { at ≤ length piece.old.items }
-    ensures done { IfOk result (λ tail. (tail.items ≡ drop at piece.old.items) × (piece.new.items ≡ take at piece.old.items)) }
+    ensures done { IfOk result (λ tail.
+        (tail.items ≡ drop at piece.old.items) × (piece.new.items ≡ take at piece.old.items)) }
     ensures unchanged { OnErr result (piece.new.items ≡ piece.old.items) }
 {
     let mut tail = Vec::with_capacity(*piece.allocator(), piece.len() - at)?;
@@ -53,7 +54,8 @@ fn insert_at<T>(
     requires filled { All IsFilled pieces.old.items }
     requires bound { i < length pieces.old.items }
     requires inside { HoldsAt (λ piece. at < length piece.items) pieces.old.items i }
-    ensures done { OnOk result (joined pieces.new.items ≡ insert (joined pieces.old.items) (length (joined (take i pieces.old.items)) + at) item) }
+    ensures done { OnOk result (joined pieces.new.items ≡
+        insert (joined pieces.old.items) (length (joined (take i pieces.old.items)) + at) item) }
     ensures unchanged { OnErr result (joined pieces.new.items ≡ joined pieces.old.items) }
     ensures kept { All IsFilled pieces.new.items }
     ensures value_returned { IfErr result (λ failed. failed.value ≡ item) }
@@ -69,7 +71,8 @@ pub fn insert_within<T: Drop>(
 ) -> Result<(), AllocFailed<T>>
     requires filled { All IsFilled pieces.old.items }
     requires inside { at < length (joined pieces.old.items) }
-    ensures done { OnOk result (joined pieces.new.items ≡ insert (joined pieces.old.items) at item) }
+    ensures done { OnOk result (joined pieces.new.items ≡
+        insert (joined pieces.old.items) at item) }
     ensures unchanged { OnErr result (joined pieces.new.items ≡ joined pieces.old.items) }
     ensures kept { All IsFilled pieces.new.items }
     ensures value_returned { IfErr result (λ failed. failed.value ≡ item) }
@@ -90,8 +93,10 @@ fn remove_at<T: Drop>(pieces: &mut Vec<Vec<T>>, i: usize, at: usize) -> T
     requires filled { All IsFilled pieces.old.items }
     requires bound { i < length pieces.old.items }
     requires inside { HoldsAt (λ piece. at < length piece.items) pieces.old.items i }
-    ensures value { result ≡ slice_index_or (joined pieces.old.items) (length (joined (take i pieces.old.items)) + at) result }
-    ensures done { joined pieces.new.items ≡ remove (joined pieces.old.items) (length (joined (take i pieces.old.items)) + at) }
+    ensures value { result ≡
+        slice_index_or (joined pieces.old.items) (length (joined (take i pieces.old.items)) + at) result }
+    ensures done { joined pieces.new.items ≡
+        remove (joined pieces.old.items) (length (joined (take i pieces.old.items)) + at) }
     ensures kept { All IsFilled pieces.new.items }
 {
     let item = pieces[i].remove(at);
@@ -121,10 +126,13 @@ pub fn close<T: Drop>(
 ) -> Result<(), AllocError>
     requires filled { All IsFilled pieces.old.items }
     requires last { 0 < length last.old.items }
-    ensures done { OnOk result ((joined pieces.new.items ≡ joined pieces.old.items ++ last.old.items) × (last.new.items ≡ [])) }
+    ensures done { OnOk result (
+        (joined pieces.new.items ≡ joined pieces.old.items ++ last.old.items)
+        × (last.new.items ≡ [])) }
     ensures room { OnOk result (room ≤ vec_capacity last.new) }
     ensures kept { All IsFilled pieces.new.items }
-    ensures unchanged { OnErr result ((joined pieces.new.items ≡ joined pieces.old.items) × (last.new ≡ last.old)) }
+    ensures unchanged { OnErr result (
+        (joined pieces.new.items ≡ joined pieces.old.items) × (last.new ≡ last.old)) }
 {
     let fresh = Vec::with_capacity(*pieces.allocator(), room)?;
     pieces.reserve(1)?;
@@ -143,9 +151,12 @@ pub fn insert_into<T: Drop>(
     requires filled { All IsFilled pieces.old.items }
     requires start { start ≡ length (joined pieces.old.items) }
     requires inside { at ≤ start + length last.old.items }
-    ensures done { OnOk result (joined pieces.new.items ++ last.new.items ≡ insert (joined pieces.old.items ++ last.old.items) at item) }
-    ensures count { OnOk result (length (joined pieces.new.items ++ last.new.items) ≡ length (joined pieces.old.items ++ last.old.items) + 1) }
-    ensures unchanged { OnErr result (joined pieces.new.items ++ last.new.items ≡ joined pieces.old.items ++ last.old.items) }
+    ensures done { OnOk result (joined pieces.new.items ++ last.new.items ≡
+        insert (joined pieces.old.items ++ last.old.items) at item) }
+    ensures count { OnOk result (length (joined pieces.new.items ++ last.new.items) ≡
+        length (joined pieces.old.items ++ last.old.items) + 1) }
+    ensures unchanged { OnErr result (joined pieces.new.items ++ last.new.items ≡
+        joined pieces.old.items ++ last.old.items) }
     ensures kept { All IsFilled pieces.new.items }
     ensures value_returned { IfErr result (λ failed. failed.value ≡ item) }
 {
@@ -168,10 +179,13 @@ pub fn remove_from<T: Drop>(
     requires start { start ≡ length (joined pieces.old.items) }
     requires inside { at < start + length last.old.items }
     ensures value { result ≡ slice_index_or (joined pieces.old.items ++ last.old.items) at result }
-    ensures done { joined pieces.new.items ++ last.new.items ≡ remove (joined pieces.old.items ++ last.old.items) at }
-    ensures count { length (joined pieces.new.items ++ last.new.items) + 1 ≡ length (joined pieces.old.items ++ last.old.items) }
+    ensures done { joined pieces.new.items ++ last.new.items ≡
+        remove (joined pieces.old.items ++ last.old.items) at }
+    ensures count { length (joined pieces.new.items ++ last.new.items) + 1 ≡
+        length (joined pieces.old.items ++ last.old.items) }
     ensures kept { All IsFilled pieces.new.items }
-    ensures room { vec_capacity last.old - length last.old.items ≤ vec_capacity last.new - length last.new.items }
+    ensures room { vec_capacity last.old - length last.old.items ≤
+        vec_capacity last.new - length last.new.items }
 {
     if at < start {
         return remove_within(pieces, at);

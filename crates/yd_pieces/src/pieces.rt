@@ -34,7 +34,10 @@ impl<T: Drop> Model for Pieces<T> {
 
     ghost coded = { listed_code T.code };
 
-    ghost view = { λ it. record { items = joined it.pieces.items ++ it.last.items; room = min (vec_capacity it.last - vec_len it.last) (MOST - it.len) } };
+    ghost view = { λ it. record {
+      items = joined it.pieces.items ++ it.last.items;
+      room = min (vec_capacity it.last - vec_len it.last) (MOST - it.len);
+    } };
 
     ghost invariant = { λ it. ArePieces it.pieces.items it.last.items it.len MOST };
 }
@@ -74,7 +77,9 @@ impl<T: Drop> Pieces<T> {
     pub fn partition_point<P: Test<T>>(&self, test: &P) -> usize
         ensures bound { result ≤ length self.now.items }
         ensures boundary { IsBoundary (P.passes test.now) self.now.items result }
-        ensures partitioned { IsPartitionedBy (P.passes test.now) self.now.items → IsPartitionPoint (λ y. P.passes test.now y ≡ true) (λ y. P.passes test.now y ≡ false) self.now.items result }
+        ensures partitioned { IsPartitionedBy (P.passes test.now) self.now.items →
+            IsPartitionPoint (λ y. P.passes test.now y ≡ true)
+            (λ y. P.passes test.now y ≡ false) self.now.items result }
     {
         point(&self.pieces, &self.last, test)
     }

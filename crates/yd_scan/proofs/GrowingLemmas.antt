@@ -5,10 +5,11 @@ use Rattle.std.proofs.lemmas.List.{get_or_append_left, get_or_at}
 use Rattle.yd_ids.specs.declared.id.Id.{Id}
 use Rattle.yd_ids.specs.declared.id.Client.{Client}
 use Rattle.yd_words.specs.Member.{IsIn, AreDistinct}
+use Rattle.yd_words.proofs.MemberLemmas.{in_left_part, in_right_part}
 use Rattle.yd_origins.specs.Growing.{IsRun, IsNotAmong}
 use Rattle.yd_origins.specs.Scan.{after_scans}
 use Rattle.yd_origins.proofs.RunLemmas.{run_together}
-use Rattle.yd_chains.specs.Chain.{IsIn as Has, up_to as places_to, behind as places_behind, put_behind}
+use Rattle.yd_chains.specs.Chain.{up_to as places_to, behind as places_behind, put_behind}
 use Rattle.yd_chains.proofs.ChainLemmas as chain
 use Rattle.yd_scan.specs.declared.stretch.Stretch.{Stretch}
 use Rattle.yd_scan.specs.Stretches.{units_from, units_of, later_units, no_stretch, stretch_at, units_at, HasOrigins, EndsLeft}
@@ -40,7 +41,7 @@ left_within left first (u ∷ us) x r (inl e) = (first, ap left e ∙ r.0, inl r
 left_within left first (u ∷ us) x r (inr h) = let d = left_within left u us x r.1 h in (d.0, d.1, inr d.2)
 
 -- a run more changes none of the others
-units_grown : (stretches : List Stretch) (new : Stretch) (ps : List ℕ) → ((i : ℕ) → Has i ps → i < length stretches) → units_at (stretches ++ new ∷ []) ps ≡ units_at stretches ps
+units_grown : (stretches : List Stretch) (new : Stretch) (ps : List ℕ) → ((i : ℕ) → IsIn i ps → i < length stretches) → units_at (stretches ++ new ∷ []) ps ≡ units_at stretches ps
 units_grown stretches new [] w = refl
 units_grown stretches new (p ∷ ps) w = ap₂ (λ xs ys. xs ++ ys) (ap units_of (get_or_append_left stretches (new ∷ []) no_stretch p (w p (inl refl)))) (units_grown stretches new ps (λ i h. w i (inr h)))
 
@@ -62,7 +63,7 @@ module _ (left right : Id → Option Id) (places : Id → Option ℕ) (stretches
   new_left_out : IsNotAmong (left new.id) own
   new_left_out = subst (λ z. IsNotAmong z own) (sym o.new_left) (go new.left after ready.ends_left ready.has_after)
     where
-      go : (z : Option Id) (p : Option ℕ) → EndsLeft stretches z p → IfSome p (λ q. Has q list) → IsNotAmong z own
+      go : (z : Option Id) (p : Option ℕ) → EndsLeft stretches z p → IfSome p (λ q. IsIn q list) → IsNotAmong z own
       go None None e m = absent own
       go None (Some p) e m = absurd e
       go (Some l) None e m = absurd e
@@ -79,7 +80,7 @@ module _ (left right : Id → Option Id) (places : Id → Option ℕ) (stretches
       given None m = absent own
       given (Some l) m = none_among l own (held_out l m)
 
-      go : (i : ℕ) → Has i list → IsIn x ((stretch_at stretches i).id ∷ later_units (stretch_at stretches i)) → IsNotAmong (left x) own
+      go : (i : ℕ) → IsIn i list → IsIn x ((stretch_at stretches i).id ∷ later_units (stretch_at stretches i)) → IsNotAmong (left x) own
       go i m (inl e) = subst (λ z. IsNotAmong z own) (sym (ap left e ∙ o.first_left i m)) (given (stretch_at stretches i).left (u.held_lefts i m))
       go i m (inr k) =
           let w = left_within left (stretch_at stretches i).id (later_units (stretch_at stretches i)) x (o.later_left i m) k in
@@ -89,10 +90,10 @@ module _ (left right : Id → Option Id) (places : Id → Option ℕ) (stretches
   others x (inl e) = subst (λ y. IsNotAmong (left y) own) (sym e) new_left_out
   others x (inr h) = held_left_out x h
 
-  part_within : (i : ℕ) → (Has i (places_to place list) ⊎ Has i (places_behind place list)) → i < length stretches
-  part_within i h = ready.within i (subst (Has i) (chain.parts_are place list) (elim h [
-    | inl k ↦ chain.in_first i (places_to place list) (places_behind place list) k
-    | inr k ↦ chain.in_second i (places_to place list) (places_behind place list) k
+  part_within : (i : ℕ) → (IsIn i (places_to place list) ⊎ IsIn i (places_behind place list)) → i < length stretches
+  part_within i h = ready.within i (subst (IsIn i) (chain.parts_are place list) (elim h [
+    | inl k ↦ in_left_part i (places_to place list) (places_behind place list) k
+    | inr k ↦ in_right_part i (places_to place list) (places_behind place list) k
   ]))
 
   pub grown : units_at (stretches ++ new ∷ []) (put_behind place (length stretches) list) ≡ after_scans left right (units_at stretches list) (units_of new)

@@ -3,14 +3,14 @@ use Rattle.std.proofs.Common.{◌≡◌, ℕ, zero, suc, ◌+◌, ◌-◌, ◌<�
 use Rattle.std.proofs.lemmas.List.Concat.{flat_map-append}
 use Rattle.yd_ids.specs.declared.id.Id.{Id}
 use Rattle.yd_ids.specs.declared.id.Client.{Client}
-use Rattle.yd_words.specs.Member.{IsIn}
+use Rattle.yd_words.specs.Member.{IsIn, AreDistinct}
 use Rattle.yd_words.specs.Test.{is_some_and}
 use Rattle.yd_words.proofs.MemberLemmas.{in_left_part, in_right_part, in_parts}
 use Rattle.yd_words.proofs.TestLemmas.{nat_lt_says}
 use Rattle.yd_ids.specs.Ids.{is_same, has_id}
 use Rattle.yd_ids.proofs.IdLemmas.{same_says, same_itself, has_says}
 use Rattle.yd_origins.specs.Parts.{up_to, behind}
-use Rattle.yd_chains.specs.Chain.{IsIn as Has, AreDistinct, last_from, last_of, up_to as places_to, behind as places_behind, before}
+use Rattle.yd_chains.specs.Chain.{last_from, last_of, up_to as places_to, behind as places_behind, before}
 use Rattle.yd_chains.proofs.ChainLemmas as chain
 use Rattle.yd_scan.specs.declared.stretch.Stretch.{Stretch}
 use Rattle.yd_scan.specs.Stretches.{units_from, units_of, later_units, last_unit, stretch_at, units_at, IsIndex}
@@ -46,31 +46,31 @@ from_below client (suc n) clock u (inr h) = omega (arith, from_below client n (s
 pub units_append : (stretches : List Stretch) (xs ys : List ℕ) → units_at stretches (xs ++ ys) ≡ units_at stretches xs ++ units_at stretches ys
 units_append stretches xs ys = flat_map-append (λ i. units_of (stretch_at stretches i)) xs ys
 
-pub in_units : (stretches : List Stretch) (ps : List ℕ) (u : Id) → IsIn u (units_at stretches ps) → (i : ℕ) × Has i ps × IsIn u (units_of (stretch_at stretches i))
+pub in_units : (stretches : List Stretch) (ps : List ℕ) (u : Id) → IsIn u (units_at stretches ps) → (i : ℕ) × IsIn i ps × IsIn u (units_of (stretch_at stretches i))
 in_units stretches [] u h = absurd h
 in_units stretches (p ∷ ps) u h = elim (in_parts u (units_of (stretch_at stretches p)) (units_at stretches ps) h) [
   | inl k ↦ (p, inl refl, k)
   | inr k ↦ let d = in_units stretches ps u k in (d.0, inr d.1, d.2)
 ]
 
-pub units_in : (stretches : List Stretch) (ps : List ℕ) (u : Id) (i : ℕ) → Has i ps → IsIn u (units_of (stretch_at stretches i)) → IsIn u (units_at stretches ps)
+pub units_in : (stretches : List Stretch) (ps : List ℕ) (u : Id) (i : ℕ) → IsIn i ps → IsIn u (units_of (stretch_at stretches i)) → IsIn u (units_at stretches ps)
 units_in stretches [] u i h k = absurd h
 units_in stretches (p ∷ ps) u i (inl e) k = in_left_part u (units_of (stretch_at stretches p)) (units_at stretches ps) (subst (λ j. IsIn u (units_of (stretch_at stretches j))) e k)
 units_in stretches (p ∷ ps) u i (inr h) k = in_right_part u (units_of (stretch_at stretches p)) (units_at stretches ps) (units_in stretches ps u i h k)
 
 -- an id whose place is not among the places is no unit there
-pub not_in_units : (places : Id → Option ℕ) (stretches : List Stretch) (ps : List ℕ) (u : Id) (q : ℕ) → IsIndex places stretches → ((i : ℕ) → Has i ps → i < length stretches) → places u ≡ Some q → (Has q ps → ⊥) →
+pub not_in_units : (places : Id → Option ℕ) (stretches : List Stretch) (ps : List ℕ) (u : Id) (q : ℕ) → IsIndex places stretches → ((i : ℕ) → IsIn i ps → i < length stretches) → places u ≡ Some q → (IsIn q ps → ⊥) →
     IsIn u (units_at stretches ps) → ⊥
 not_in_units places stretches ps u q x within e out h =
     let d = in_units stretches ps u h in
     let same : Some q ≡ Some d.0 = sym e ∙ x.found d.0 u (within d.0 d.1) d.2 in
     let is : q ≡ d.0 = cc in
-    out (subst (λ j. Has j ps) (sym is) d.1)
+    out (subst (λ j. IsIn j ps) (sym is) d.1)
 
 -- ---- the marks tell what the places have
 
-above_some : (places : Id → Option ℕ) (stretches : List Stretch) (ps : List ℕ) (marks : List ℕ) (bound : ℕ) (id : Id) (z : Option ℕ) → places id ≡ z → IsIndex places stretches → ((i : ℕ) → Has i ps → i < length stretches) →
-    ((i : ℕ) → Has i ps → bound < get_or marks i 0) → ((i : ℕ) → (Has i ps → ⊥) → get_or marks i 0 ≤ bound) →
+above_some : (places : Id → Option ℕ) (stretches : List Stretch) (ps : List ℕ) (marks : List ℕ) (bound : ℕ) (id : Id) (z : Option ℕ) → places id ≡ z → IsIndex places stretches → ((i : ℕ) → IsIn i ps → i < length stretches) →
+    ((i : ℕ) → IsIn i ps → bound < get_or marks i 0) → ((i : ℕ) → (IsIn i ps → ⊥) → get_or marks i 0 ≤ bound) →
     is_above_at marks bound z ≡ has_id (units_at stretches ps) id
 above_some places stretches ps marks bound id None e x within high low = elim (has_says (units_at stretches ps) id) [
   | inl h ↦ let d = in_units stretches ps id h.1 in let no : None ≡ Some d.0 = sym e ∙ x.found d.0 id (within d.0 d.1) d.2 in absurd cc
@@ -93,8 +93,8 @@ above_some places stretches ps marks bound id (Some q) e x within high low = eli
   ]
 ]
 
-pub above_is : (places : Id → Option ℕ) (stretches : List Stretch) (ps : List ℕ) (marks : List ℕ) (bound : ℕ) (left : Option Id) → IsIndex places stretches → ((i : ℕ) → Has i ps → i < length stretches) →
-    ((i : ℕ) → Has i ps → bound < get_or marks i 0) → ((i : ℕ) → (Has i ps → ⊥) → get_or marks i 0 ≤ bound) →
+pub above_is : (places : Id → Option ℕ) (stretches : List Stretch) (ps : List ℕ) (marks : List ℕ) (bound : ℕ) (left : Option Id) → IsIndex places stretches → ((i : ℕ) → IsIn i ps → i < length stretches) →
+    ((i : ℕ) → IsIn i ps → bound < get_or marks i 0) → ((i : ℕ) → (IsIn i ps → ⊥) → get_or marks i 0 ≤ bound) →
     is_above places marks bound left ≡ is_some_and (has_id (units_at stretches ps)) left
 above_is places stretches ps marks bound None x within high low = refl
 above_is places stretches ps marks bound (Some id) x within high low = above_some places stretches ps marks bound id (places id) refl x within high low
@@ -116,7 +116,7 @@ cut_at x [] ys p e d = elim (chain.same_place x p) [
   | inr t ↦ let no : x ≡ p = cc in absurd (t.1 no)
 ]
 cut_at x (y ∷ zs) ys p e d = elim (chain.same_place x p) [
-  | inl t ↦ absurd (d.0 (chain.in_first x (y ∷ zs) ys (elim (chain.last_in y zs p e) [ inl k ↦ inl (t.1 ∙ k) | inr k ↦ inr (subst (λ j. Has j zs) (sym t.1) k) ])))
+  | inl t ↦ absurd (d.0 (in_left_part x (y ∷ zs) ys (elim (chain.last_in y zs p e) [ inl k ↦ inl (t.1 ∙ k) | inr k ↦ inr (subst (λ j. IsIn j zs) (sym t.1) k) ])))
   | inr t ↦ let r = cut_at y zs ys p e d.1 in (rw t.0 (ap (λ ws. x ∷ ws) r.0), rw t.0 r.1)
 ]
 
@@ -139,7 +139,7 @@ ids_cut (x ∷ xs) ys l out = elim (same_says x l) [
   | inr t ↦ let r = ids_cut xs ys l (λ h. out (inr h)) in (rw t.0 (ap (λ ws. x ∷ ws) r.0), rw t.0 r.1)
 ]
 
-pub to_before : (p : ℕ) (list : List ℕ) → Has p list → places_to (Some p) list ≡ before p list ++ p ∷ []
+pub to_before : (p : ℕ) (list : List ℕ) → IsIn p list → places_to (Some p) list ≡ before p list ++ p ∷ []
 to_before p [] h = absurd h
 to_before p (x ∷ xs) h = elim (chain.same_place x p) [
   | inl t ↦ rw t.0 (ap (λ k. k ∷ []) t.1)

@@ -1,12 +1,12 @@
 -- What the place that the scan of a run's first unit finds is worth (own).
-use Rattle.std.specs.Prelude.{◌≡◌, ◌<◌, ◌++◌, ℕ, List, [], ◌∷◌, Option, None, IfSome, length}
+use Rattle.std.specs.Prelude.{◌≡◌, ◌<◌, ◌++◌, ℕ, List, [], ◌∷◌, Option, None, length}
 use Rattle.yd_ids.specs.declared.id.Id.{Id}
 use Rattle.yd_words.specs.Member.{IsIn}
 use Rattle.yd_origins.specs.Growing.{IsRun}
 use Rattle.yd_origins.specs.Scan.{after_scans}
-use Rattle.yd_chains.specs.Chain.{IsIn as Has, put_behind}
+use Rattle.yd_chains.specs.Chain.{put_behind}
 use Rattle.yd_scan.specs.declared.stretch.Stretch.{Stretch}
-use Rattle.yd_scan.specs.Stretches.{units_of, later_units, stretch_at, units_at, HasOrigins}
+use Rattle.yd_scan.specs.Stretches.{units_of, later_units, units_at, HasOrigins, HasLefts}
 use Rattle.yd_scan.specs.Scanning.{IsReady, IsScanPlace}
 
 -- no unit of the new run has a place yet, each later one has the one before as its left, and the left origins of the list's
@@ -15,7 +15,7 @@ pub record IsUnheld (left : Id → Option Id) (places : Id → Option ℕ) (stre
   pub is_run : IsRun left new.id (later_units new)
   pub filled : 0 < new.len
   pub unheld : (u : Id) → IsIn u (units_of new) → places u ≡ None
-  pub held_lefts : (i : ℕ) → Has i list → IfSome (stretch_at stretches i).left (λ l. IsIn l (units_at stretches list))
+  pub held_lefts : HasLefts stretches list
 
 -- with the new run at that place, the units of the list are those after the scans of its units in turn
 abbrev pub ListsGrow : Type 0

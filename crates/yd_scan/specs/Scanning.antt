@@ -4,10 +4,10 @@ use Rattle.yd_ids.specs.declared.id.Id.{Id}
 use Rattle.yd_words.specs.Test.{is_some_and}
 use Rattle.yd_ids.specs.Ids.{is_same, is_same_neighbour}
 use Rattle.yd_origins.specs.Scan.{Verdict, stops, moves, stays, walk, scan_place}
-use Rattle.yd_origins.specs.Growing.{IsNotAmong}
-use Rattle.yd_chains.specs.Chain.{IsIn, AreDistinct, first_of, last_from, up_to, behind}
+use Rattle.yd_words.specs.Member.{IsIn, AreDistinct}
+use Rattle.yd_chains.specs.Chain.{first_of, last_from, up_to, behind}
 use Rattle.yd_scan.specs.declared.stretch.Stretch.{Stretch}
-use Rattle.yd_scan.specs.Stretches.{stretch_at, units_at, later_units, HasOrigins, IsIndex, EndsLeft}
+use Rattle.yd_scan.specs.Stretches.{stretch_at, units_at, HasOrigins, IsNoLater, IsIndex, EndsLeft}
 
 -- whether the run at a place has a mark above a bound
 abbrev pub is_above_at : List ℕ → ℕ → Option ℕ → Bool
@@ -67,7 +67,7 @@ pub record IsReady (places : Id → Option ℕ) (stretches : List Stretch) (list
   pub distinct : AreDistinct list
   pub has_after : IfSome after (λ p. IsIn p list)
   pub ends_left : EndsLeft stretches new.left after
-  pub right_begins : (i : ℕ) → IsIn i list → IsNotAmong new.right (later_units (stretch_at stretches i))
+  pub right_begins : IsNoLater stretches list new.right
 
 -- what the scan of a new run asks of its caller, the list being one of chains
 pub record Stands (places : Id → Option ℕ) (stretches : List Stretch) (list : List ℕ) (after : Option ℕ) (new : Stretch) : Type 0 where
@@ -76,4 +76,4 @@ pub record Stands (places : Id → Option ℕ) (stretches : List Stretch) (list 
   pub within : (i : ℕ) → IsIn i list → i < length stretches
   pub has_after : IfSome after (λ p. IsIn p list)
   pub ends_left : EndsLeft stretches new.left after
-  pub right_begins : (i : ℕ) → IsIn i list → IsNotAmong new.right (later_units (stretch_at stretches i))
+  pub right_begins : IsNoLater stretches list new.right

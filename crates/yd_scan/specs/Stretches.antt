@@ -1,10 +1,9 @@
 -- Runs at places, as stretches, and their units (Yjs 13, an item of several units).
-use Rattle.std.specs.Prelude.{◌≡◌, ◌<◌, ◌+◌, ◌-◌, ℕ, zero, suc, List, [], ◌∷◌, Option, Some, None, length, get_or, flat_map}
+use Rattle.std.specs.Prelude.{◌≡◌, ◌<◌, ◌+◌, ◌-◌, ℕ, zero, suc, List, [], ◌∷◌, Option, Some, None, IfSome, length, get_or, flat_map}
 use Rattle.yd_ids.specs.declared.id.Id.{Id}
 use Rattle.yd_ids.specs.declared.id.Client.{Client}
 use Rattle.yd_words.specs.Member.{IsIn}
-use Rattle.yd_origins.specs.Growing.{IsRun}
-use Rattle.yd_chains.specs.Chain.{IsIn as Has}
+use Rattle.yd_origins.specs.Growing.{IsRun, IsNotAmong}
 use Rattle.yd_scan.specs.declared.stretch.Stretch.{Stretch}
 
 -- the ids of so many units of a client from a clock on
@@ -40,9 +39,17 @@ units_at stretches places = flat_map (λ i. units_of (stretch_at stretches i)) p
 pub record HasOrigins (left right : Id → Option Id) (stretches : List Stretch) (list : List ℕ) (new : Stretch) : Type 0 where
   pub new_left : left new.id ≡ new.left
   pub new_right : right new.id ≡ new.right
-  pub first_left : (i : ℕ) → Has i list → left (stretch_at stretches i).id ≡ (stretch_at stretches i).left
-  pub first_right : (i : ℕ) → Has i list → right (stretch_at stretches i).id ≡ (stretch_at stretches i).right
-  pub later_left : (i : ℕ) → Has i list → IsRun left (stretch_at stretches i).id (later_units (stretch_at stretches i))
+  pub first_left : (i : ℕ) → IsIn i list → left (stretch_at stretches i).id ≡ (stretch_at stretches i).left
+  pub first_right : (i : ℕ) → IsIn i list → right (stretch_at stretches i).id ≡ (stretch_at stretches i).right
+  pub later_left : (i : ℕ) → IsIn i list → IsRun left (stretch_at stretches i).id (later_units (stretch_at stretches i))
+
+-- the left origins of the runs in a list are in the list
+abbrev pub HasLefts : List Stretch → List ℕ → Type 0
+HasLefts stretches list = (i : ℕ) → IsIn i list → IfSome (stretch_at stretches i).left (λ l. IsIn l (units_at stretches list))
+
+-- the neighbour is no later unit of a run in the list
+abbrev pub IsNoLater : List Stretch → List ℕ → Option Id → Type 0
+IsNoLater stretches list neighbour = (i : ℕ) → IsIn i list → IsNotAmong neighbour (later_units (stretch_at stretches i))
 
 -- each unit of a run has the run's place, and no other id has one
 pub record IsIndex (places : Id → Option ℕ) (stretches : List Stretch) : Type 0 where

@@ -7,7 +7,7 @@ ghost use Rattle.yd_scan.specs.Scanning.{verdict_on, verdict_by_left};
 ghost use Rattle.yd_scan.specs.Verdicts.{verdict_of};
 
 use crate::stretch::Stretch;
-use yd_ids::Id;
+use yd_ids::{Id, is_same};
 
 /// What a scanned run does to the place of the new one.
 #[derive(Clone, Copy, Debug)]
@@ -20,20 +20,13 @@ pub enum Verdict {
     Stays,
 }
 
-/// Whether two ids are one.
-fn is_same_id(a: Id, b: Id) -> bool
-    ensures { result ≡ is_same a b }
-{
-    a.client.0 == b.client.0 && a.clock == b.clock
-}
-
 /// Whether both are absent, or both are there and one.
 fn is_same_origin(a: Option<Id>, b: Option<Id>) -> bool
     ensures { result ≡ is_same_neighbour a b }
 {
     match (a, b) {
         (None, None) => true,
-        (Some(a), Some(b)) => is_same_id(a, b),
+        (Some(a), Some(b)) => is_same(a, b),
         _ => false,
     }
 }
@@ -44,14 +37,16 @@ fn is_origin(id: Id, origin: Option<Id>) -> bool
 {
     match origin {
         None => false,
-        Some(origin) => is_same_id(id, origin),
+        Some(origin) => is_same(id, origin),
     }
 }
 
 /// What a scanned run does, where its left origin does not have to be looked up.
 pub fn judge(next: &Stretch, new: &Stretch) -> Option<Verdict>
-    ensures decided { IfSome result (λ verdict. (conflicts scanned : Bool) → verdict_of verdict ≡ verdict_on next.now new.now conflicts scanned) }
-    ensures open { IfNone result ((conflicts scanned : Bool) → verdict_on next.now new.now conflicts scanned ≡ verdict_by_left conflicts scanned) }
+    ensures decided { IfSome result (λ verdict. (conflicts scanned : Bool) →
+        verdict_of verdict ≡ verdict_on next.now new.now conflicts scanned) }
+    ensures open { IfNone result ((conflicts scanned : Bool) →
+        verdict_on next.now new.now conflicts scanned ≡ verdict_by_left conflicts scanned) }
 {
     if is_origin(next.id, new.right) {
         return Some(Verdict::Stops);

@@ -2,8 +2,9 @@
 
 ghost use Rattle.std.specs.Prelude.{◌≡◌, ◌<◌, ◌≤◌, ◌+◌, ◌^◌, [], ℕ, Option, nat_lt, length, IfSome, slice_index, slice_index_or, slice_set, HoldsAt};
 ghost use Rattle.yd_ids.specs.declared.id.Id.{Id as Ident};
-ghost use Rattle.yd_chains.specs.Chain.{IsIn, first_of, behind};
-ghost use Rattle.yd_chains.specs.Link.{AreSound};
+ghost use Rattle.yd_words.specs.Member.{IsIn};
+ghost use Rattle.yd_chains.specs.Chain.{first_of, behind};
+ghost use Rattle.yd_chains.specs.Link.{chain_at, AreSound};
 ghost use Rattle.yd_scan.specs.Stretches.{stretch_at, HasOrigins};
 ghost use Rattle.yd_scan.specs.Scanning.{is_above, verdict_on, IsScanPlace, Stands};
 ghost use Rattle.yd_scan.specs.Verdicts.{verdict_of};
@@ -45,7 +46,9 @@ fn verdict_at<I: Finds>(
     moved: u64,
 ) -> Verdict
     requires { i < length stretches.now }
-    ensures { verdict_of result ≡ verdict_on (stretch_at stretches.now i) new.now (is_above (I.places index.now) marks.now moved (stretch_at stretches.now i).left) (is_above (I.places index.now) marks.now start (stretch_at stretches.now i).left) }
+    ensures { verdict_of result ≡ verdict_on (stretch_at stretches.now i) new.now
+        (is_above (I.places index.now) marks.now moved (stretch_at stretches.now i).left)
+        (is_above (I.places index.now) marks.now start (stretch_at stretches.now i).left) }
 {
     if let Some(turn) = judge(&stretches[i], new) {
         return turn;
@@ -68,8 +71,8 @@ fn mark(marks: &mut Vec<u64>, counter: &mut u64, i: usize)
 /// What stands behind a place of a list, or first.
 fn next_place(chains: &Chains, chain: usize, after: Option<usize>) -> Option<usize>
     requires chain { chain < length chains.now.chains }
-    requires after { IfSome after (λ p. (p < chains.now.count) × IsIn p (slice_index_or chains.now.chains chain [])) }
-    ensures value { result ≡ first_of (behind after (slice_index_or chains.now.chains chain [])) }
+    requires after { IfSome after (λ p. (p < chains.now.count) × IsIn p (chain_at chains.now chain)) }
+    ensures value { result ≡ first_of (behind after (chain_at chains.now chain)) }
     ensures sound { AreSound chains.now }
 {
     match after {
@@ -100,9 +103,11 @@ pub fn scan<I: Finds>(
     requires marks { length stretches.now ≤ length marks.old.items }
     requires low { (i : ℕ) → slice_index marks.old.items i ≤ counter.old }
     requires room { counter.old + length stretches.now < 2 ^ 64 }
-    requires stands { Stands (I.places index.now) stretches.now (slice_index_or chains.now.chains chain []) after new.now }
-    ensures place { (left right : Ident → Option Ident) → HasOrigins left right stretches.now (slice_index_or chains.now.chains chain []) new.now → IsScanPlace stretches.now (slice_index_or chains.now.chains chain []) new.now result left right }
-    ensures within { IfSome result (λ p. IsIn p (slice_index_or chains.now.chains chain [])) }
+    requires stands { Stands (I.places index.now) stretches.now (chain_at chains.now chain) after new.now }
+    ensures place { (left right : Ident → Option Ident) →
+        HasOrigins left right stretches.now (chain_at chains.now chain) new.now →
+        IsScanPlace stretches.now (chain_at chains.now chain) new.now result left right }
+    ensures within { IfSome result (λ p. IsIn p (chain_at chains.now chain)) }
     ensures sound { AreSound chains.now }
     ensures len { length marks.new.items ≡ length marks.old.items }
     ensures low { (i : ℕ) → slice_index marks.new.items i ≤ counter.new }

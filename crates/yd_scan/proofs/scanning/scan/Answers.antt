@@ -1,5 +1,5 @@
 use Rattle.std.proofs.Common.{◌∙◌, ◌+◌, ap, arith, length, length-set, refl, ℕ, Vec, Global}
-use Rattle.yd_scan.proofs.ScanningLemmas.{begins, in_place, low, ends, in_range, lower, stopped, moved_on, stayed_on}
+use Rattle.yd_scan.proofs.LoopLemmas.{begins, in_place, low, ends, in_range, lower, stopped, moved_on, stayed_on}
 use Rattle.yd_scan.proofs.scanning.scan.Goals as goal
 use Rattle.yd_scan.proofs.scanning.scan.Goals.{in-Moves, in-Stays}
 

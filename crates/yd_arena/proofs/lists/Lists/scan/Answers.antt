@@ -1,6 +1,6 @@
 use Rattle.std.proofs.Common.{arith, refl}
 use Rattle.yd_arena.specs.declared.lists.TheConstants.{MOST}
-use Rattle.yd_arena.proofs.ListsLemmas.{kept_room, stands}
+use Rattle.yd_arena.proofs.ListsLemmas.{are_lists, kept_room, stands}
 use Rattle.yd_arena.proofs.lists.Lists.scan.Goals as goal
 
 pub scan-requires-clause-stands : goal.scan-requires-clause-stands
@@ -13,3 +13,6 @@ pub invariant_of-self : goal.invariant_of-self
 invariant_of-self g c =
     kept_room c.self.inside.chains c.self.inside.stretches.items c.self.inside.marks.items c.self.inside.counter MOST c.self.invariant c.self.inside.chains c.scan.new.marks.items c.scan.new.counter
     (omega arith) refl (omega (arith, c.begin_scan.ensures.len, c.scan.ensures.len)) c.scan.ensures.low
+
+pub returns-clause-lists : goal.returns-clause-lists
+returns-clause-lists g c = rw (← c.self.view_is) (are_lists c.self.inside.chains c.self.inside.stretches.items c.self.inside.marks.items c.self.inside.counter MOST _ c.scan.ensures.sound c.self.invariant)
