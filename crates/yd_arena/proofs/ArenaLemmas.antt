@@ -5,6 +5,7 @@ use Rattle.yd_ids.specs.declared.id.Id.{Id}
 use Rattle.yd_ids.specs.declared.id.Client.{Client}
 use Rattle.yd_ids.specs.Id.{IsClock}
 use Rattle.yd_words.specs.Member.{IsIn}
+use Rattle.yd_words.proofs.OptionLemmas.{some_is}
 use Rattle.yd_scan.specs.declared.stretch.Stretch.{Stretch}
 use Rattle.yd_scan.specs.Stretches.{stretch_at, units_of}
 use Rattle.yd_index.specs.declared.line.Entry.{Entry}
@@ -17,6 +18,7 @@ use Rattle.yd_index.proofs.RowLemmas.{from_says, found_run, only_run, entry_run,
 use Rattle.yd_index.proofs.HoldingLemmas.{added_is_held}
 use Rattle.yd_index.proofs.CuttingLemmas.{cut_is_held}
 use Rattle.yd_arena.specs.Arena.{IsArena, HasUnit}
+use Rattle.yd_arena.specs.Law.{UnitsStandOnce}
 
 -- ---- an id and the run that has its unit
 
@@ -60,6 +62,12 @@ module _ (lines : List Lined) (runs : List Stretch) (h : Holds lines runs) where
 
   pub none_above : (id : Id) → entry_at lines id ≡ None → next_of lines id.client.0 ≤ id.clock
   none_above id e = (index_is_exact lines runs id h).0 e
+
+pub units_stand_once : UnitsStandOnce
+units_stand_once = λ lines runs id place n other m a u v.
+    let e = some_is (entry_for runs place) (entry_for runs other) (sym (unit_entry lines runs a.holds place n id u) ∙ unit_entry lines runs a.holds other m id v) in
+    let p : place ≡ other = ap (λ (x : Entry). x.place) e in
+    (p, omega (arith, u.clock, v.clock, ap (λ i. (stretch_at runs i).id.clock) p), unit_below lines runs a.holds place n id u)
 
 -- the id of a unit of a run
 abbrev pub unit_id : List Stretch → ℕ → ℕ → Id

@@ -87,3 +87,10 @@ pub record GrowsByRun (old new : Placed) (list : ℕ) (run : Stretch) : Type 0 w
   pub others : (other : ℕ) → other ≢ list → places_in new other ≡ places_in old other
   pub next : next_clock new run.id.client.0 ≡ run.id.clock + run.len
   pub other_nexts : (client : ℕ) → client ≢ run.id.client.0 → next_clock new client ≡ next_clock old client
+
+-- a run goes to the end of its client's units, and no list changes
+pub record AddsLoose (old new : Placed) (run : Stretch) : Type 0 where
+  pub runs : runs_of new ≡ runs_of old ++ run ∷ []
+  pub lists : new.linked.lists ≡ old.linked.lists
+  pub next : next_clock new run.id.client.0 ≡ run.id.clock + run.len
+  pub other_nexts : (client : ℕ) → client ≢ run.id.client.0 → next_clock new client ≡ next_clock old client

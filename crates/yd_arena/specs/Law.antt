@@ -1,11 +1,15 @@
--- What a cut and an addition do to the units of lists (own).
+-- What a cut and an addition do to the units of lists, and where a unit stands (own).
 use Rattle.std.specs.Prelude.{◌≡◌, ◌<◌, ◌≤◌, ◌++◌, ℕ, List, [], ◌∷◌, Option, length}
+use Rattle.yd_ids.specs.declared.id.Id.{Id}
 use Rattle.yd_words.specs.Member.{IsIn}
 use Rattle.yd_chains.specs.Chain.{up_to, behind, put_behind}
 use Rattle.yd_scan.specs.declared.stretch.Stretch.{Stretch}
 use Rattle.yd_scan.specs.Stretches.{stretch_at, units_of, units_at}
+use Rattle.yd_index.specs.Line.{Lined}
+use Rattle.yd_index.specs.Lines.{next_of}
 use Rattle.yd_index.specs.Holding.{cut_stretches}
 use Rattle.yd_arena.specs.Lists.{Linked, list_at, AreLists, PutsBehind}
+use Rattle.yd_arena.specs.Arena.{IsArena, HasUnit}
 
 -- where a run is cut, each list has the units that it had, in their order
 abbrev pub CutsKeepUnits : Type 0
@@ -17,3 +21,8 @@ CutsKeepUnits = (old new : Linked) (place n : ℕ) → AreLists old → place < 
 abbrev pub AddsPutUnits : Type 0
 AddsPutUnits = (stretches : List Stretch) (list : List ℕ) (after : Option ℕ) (new : Stretch) → ((i : ℕ) → IsIn i list → i < length stretches) →
     units_at (stretches ++ new ∷ []) (put_behind after (length stretches) list) ≡ units_at stretches (up_to after list) ++ units_of new ++ units_at stretches (behind after list)
+
+-- a unit stands in one run only, at one place of it, and its clock is below the next one of its client
+abbrev pub UnitsStandOnce : Type 0
+UnitsStandOnce = (lines : List Lined) (runs : List Stretch) (id : Id) (place n other m : ℕ) → IsArena lines runs → HasUnit runs place n id → HasUnit runs other m id →
+    (place ≡ other) × (n ≡ m) × (id.clock < next_of lines id.client.0)

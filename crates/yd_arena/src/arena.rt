@@ -4,7 +4,7 @@ ghost use Rattle.std.specs.Prelude.{◌≡◌, ◌<◌, ◌≤◌, ◌⊎◌, �
 ghost use Rattle.yd_ids.specs.Id.{IsClock};
 ghost use Rattle.yd_words.specs.Member.{IsIn};
 ghost use Rattle.yd_scan.specs.Stretches.{stretch_at, IsNoLater, EndsLeft};
-ghost use Rattle.yd_arena.specs.Arena.{runs_of, count_of, places_in, next_clock, room_for, IsArena, HasUnit, IsSame, CutsRun, CutsAt, GrowsByRun};
+ghost use Rattle.yd_arena.specs.Arena.{runs_of, count_of, places_in, next_clock, room_for, IsArena, HasUnit, IsSame, CutsRun, CutsAt, GrowsByRun, AddsLoose};
 
 use crate::growing::add_entry;
 use crate::lists::Lists;
@@ -167,5 +167,21 @@ impl Arena {
         let place = self.lists.len();
         add_entry(&mut self.index, &new, place);
         self.lists.add(list, behind, new)
+    }
+
+    /// Adds the next run of its client in no list, as one that is gone, where there is room. Its place
+    /// is answered. It takes no memory.
+    pub fn add_loose(&mut self, new: Stretch) -> usize
+        requires next { new.id.clock ≡ next_clock self.old new.id.client.0 }
+        requires filled { 0 < new.len }
+        requires fits { IsClock (new.id.clock + new.len) }
+        requires room { 0 < room_for self.old new.id.client.0 }
+        ensures place { result ≡ length (runs_of self.old) }
+        ensures done { AddsLoose self.old self.new new }
+        ensures room { room_for self.old new.id.client.0 ≤ room_for self.new new.id.client.0 + 1 }
+    {
+        let place = self.lists.len();
+        add_entry(&mut self.index, &new, place);
+        self.lists.add_loose(new)
     }
 }

@@ -15,6 +15,7 @@ use Rattle.yd_scan.specs.Stretches.{units_from, units_of, stretch_at, units_at, 
 use Rattle.yd_scan.specs.Scanning.{is_above, verdict_on, IsScanning, IsScanPlace, IsReady}
 use Rattle.yd_scan.proofs.UnitLemmas.{units_last, from_below, units_append, not_in_units, cut_behind_last, last_append, ids_cut, to_before}
 use Rattle.yd_scan.proofs.StandingLemmas as standing
+use Rattle.yd_scan.proofs.StandingLemmas.{next_part, other_mark, same_mark}
 
 module _ (places : Id → Option ℕ) (stretches : List Stretch) (list : List ℕ) (after : Option ℕ) (new : Stretch) (ready : IsReady places stretches list after new) where
   -- the next run stays
@@ -22,7 +23,7 @@ module _ (places : Id → Option ℕ) (stretches : List Stretch) (list : List �
       (i : ℕ) → at ≡ Some i → verdict_on (stretch_at stretches i) new (is_above places marks moved (stretch_at stretches i).left) (is_above places marks start (stretch_at stretches i).left) ≡ stays →
       IsScanning stretches list after new start (set marks i (counter + 1)) (counter + 1) moved place (first_of (places_behind (Some i) list))
   scan_stays start marks counter moved place at s i e turn =
-      let cut = (standing.next_part places stretches list after new ready) s.rest i (sym s.at_is ∙ e) in
+      let cut = next_part s.rest i (sym s.at_is ∙ e) in
       let tail = cut.0 in
       let parts : places_behind after list ≡ s.passed ++ (s.conflicting ++ i ∷ tail) = s.parts ∙ ap (λ xs. s.passed ++ (s.conflicting ++ xs)) cut.1 in
       let here : IsIn i (places_behind after list) = subst (IsIn i) (sym parts) (in_right_part i s.passed (s.conflicting ++ i ∷ tail) (in_right_part i s.conflicting (i ∷ tail) (inl refl))) in
@@ -38,25 +39,26 @@ module _ (places : Id → Option ℕ) (stretches : List Stretch) (list : List �
         walked = λ left right o. s.walked left right o
             ∙ ap (λ xs. walk left right new.id (units_at stretches s.passed) (units_at stretches s.conflicting) (units_at stretches xs)) cut.1
             ∙ (standing.whole places stretches list after new ready) left right o i tail (units_at stretches s.passed) (units_at stretches s.conflicting) here
-            ∙ ap (λ v. run_walk left right new.id (units_at stretches s.passed) (units_at stretches s.conflicting) (units_of (stretch_at stretches i)) (units_at stretches tail) v) ((standing.turn_is places stretches list after new ready) start marks counter moved place at s i ((standing.behind_in places stretches list after new ready) i here) stays turn left right o)
+            ∙ ap (λ v. run_walk left right new.id (units_at stretches s.passed) (units_at stretches s.conflicting) (units_of (stretch_at stretches i)) (units_at stretches tail) v)
+            ((standing.turn_is places stretches list after new ready) start marks counter moved place at s i ((standing.behind_in places stretches list after new ready) i here) stays turn left right o)
             ∙ ap (λ xs. walk left right new.id (units_at stretches s.passed) xs (units_at stretches tail))
             (ap (λ xs. units_at stretches s.conflicting ++ xs) (sym (append-nil (units_of (stretch_at stretches i)))) ∙ sym (units_append stretches s.conflicting (i ∷ [])));
         marked_conflicting = λ j h. elim (chain.same_place j i) [
-          | inl t ↦ omega (arith, ap (λ k. get_or (set marks i (counter + 1)) k 0) t.1, (standing.same_mark places stretches list after new ready) marks i (counter + 1) (omega (arith, lt, s.marks_len)), s.moved_low)
-          | inr t ↦ omega (arith, (standing.other_mark places stretches list after new ready) marks i (counter + 1) j t.1, s.marked_conflicting j (still j s.conflicting t.1 h))
+          | inl t ↦ omega (arith, ap (λ k. get_or (set marks i (counter + 1)) k 0) t.1, same_mark marks i (counter + 1) (omega (arith, lt, s.marks_len)), s.moved_low)
+          | inr t ↦ omega (arith, other_mark marks i (counter + 1) j t.1, s.marked_conflicting j (still j s.conflicting t.1 h))
         ];
         marked_passed = λ j h.
             let n : j ≢ i = λ q. fresh (inl (subst (λ k. IsIn k s.passed) q h)) in
-            (omega (arith, (standing.other_mark places stretches list after new ready) marks i (counter + 1) j n, (s.marked_passed j h).0), omega (arith, (standing.other_mark places stretches list after new ready) marks i (counter + 1) j n, (s.marked_passed j h).1));
+            (omega (arith, other_mark marks i (counter + 1) j n, (s.marked_passed j h).0), omega (arith, other_mark marks i (counter + 1) j n, (s.marked_passed j h).1));
         marked_others = λ j p q.
             let n : j ≢ i = λ k. q (in_right_part j s.conflicting (i ∷ []) (inl k)) in
-            omega (arith, (standing.other_mark places stretches list after new ready) marks i (counter + 1) j n, s.marked_others j p (λ k. q (in_left_part j s.conflicting (i ∷ []) k)));
+            omega (arith, other_mark marks i (counter + 1) j n, s.marked_others j p (λ k. q (in_left_part j s.conflicting (i ∷ []) k)));
         start_low = s.start_low;
         counted = omega (arith, s.counted, length-append s.conflicting (i ∷ []));
         moved_low = omega (arith, s.moved_low);
         marks_low = λ j. elim (chain.same_place j i) [
-          | inl t ↦ omega (arith, ap (λ k. get_or (set marks i (counter + 1)) k 0) t.1, (standing.same_mark places stretches list after new ready) marks i (counter + 1) (omega (arith, lt, s.marks_len)))
-          | inr t ↦ omega (arith, (standing.other_mark places stretches list after new ready) marks i (counter + 1) j t.1, s.marks_low j)
+          | inl t ↦ omega (arith, ap (λ k. get_or (set marks i (counter + 1)) k 0) t.1, same_mark marks i (counter + 1) (omega (arith, lt, s.marks_len)))
+          | inr t ↦ omega (arith, other_mark marks i (counter + 1) j t.1, s.marks_low j)
         ];
         marks_len = omega (arith, length-set marks i (counter + 1), s.marks_len);
       }
@@ -69,7 +71,7 @@ module _ (places : Id → Option ℕ) (stretches : List Stretch) (list : List �
       (i : ℕ) → at ≡ Some i → verdict_on (stretch_at stretches i) new (is_above places marks moved (stretch_at stretches i).left) (is_above places marks start (stretch_at stretches i).left) ≡ moves →
       IsScanning stretches list after new start (set marks i (counter + 1)) (counter + 1) (counter + 1) (Some i) (first_of (places_behind (Some i) list))
   scan_moves start marks counter moved place at s i e turn =
-      let cut = (standing.next_part places stretches list after new ready) s.rest i (sym s.at_is ∙ e) in
+      let cut = next_part s.rest i (sym s.at_is ∙ e) in
       let tail = cut.0 in
       let parts : places_behind after list ≡ s.passed ++ (s.conflicting ++ i ∷ tail) = s.parts ∙ ap (λ xs. s.passed ++ (s.conflicting ++ xs)) cut.1 in
       let here : IsIn i (places_behind after list) = subst (IsIn i) (sym parts) (in_right_part i s.passed (s.conflicting ++ i ∷ tail) (in_right_part i s.conflicting (i ∷ tail) (inl refl))) in
@@ -85,7 +87,8 @@ module _ (places : Id → Option ℕ) (stretches : List Stretch) (list : List �
         walked = λ left right o. s.walked left right o
             ∙ ap (λ xs. walk left right new.id (units_at stretches s.passed) (units_at stretches s.conflicting) (units_at stretches xs)) cut.1
             ∙ (standing.whole places stretches list after new ready) left right o i tail (units_at stretches s.passed) (units_at stretches s.conflicting) here
-            ∙ ap (λ v. run_walk left right new.id (units_at stretches s.passed) (units_at stretches s.conflicting) (units_of (stretch_at stretches i)) (units_at stretches tail) v) ((standing.turn_is places stretches list after new ready) start marks counter moved place at s i ((standing.behind_in places stretches list after new ready) i here) moves turn left right o)
+            ∙ ap (λ v. run_walk left right new.id (units_at stretches s.passed) (units_at stretches s.conflicting) (units_of (stretch_at stretches i)) (units_at stretches tail) v)
+            ((standing.turn_is places stretches list after new ready) start marks counter moved place at s i ((standing.behind_in places stretches list after new ready) i here) moves turn left right o)
             ∙ ap (λ xs. walk left right new.id xs [] (units_at stretches tail))
             (append_assoc (units_at stretches s.passed) (units_at stretches s.conflicting) (units_of (stretch_at stretches i))
             ∙ ap (λ xs. units_at stretches s.passed ++ (units_at stretches s.conflicting ++ xs)) (sym (append-nil (units_of (stretch_at stretches i))))
@@ -95,21 +98,21 @@ module _ (places : Id → Option ℕ) (stretches : List Stretch) (list : List �
         marked_passed = λ j h. elim (chain.same_place j i) [
           | inl t ↦
               let m = ap (λ k. get_or (set marks i (counter + 1)) k 0) t.1 in
-              let v = (standing.same_mark places stretches list after new ready) marks i (counter + 1) (omega (arith, lt, s.marks_len)) in
+              let v = same_mark marks i (counter + 1) (omega (arith, lt, s.marks_len)) in
               (omega (arith, m, v, s.moved_low, s.start_low), omega (arith, m, v))
           | inr t ↦
-              let m = (standing.other_mark places stretches list after new ready) marks i (counter + 1) j t.1 in
+              let m = other_mark marks i (counter + 1) j t.1 in
               (omega (arith, m, above_start j t.1 h), omega (arith, m, s.marks_low j))
         ];
         marked_others = λ j p q.
             let n : j ≢ i = λ k. p (in_right_part j s.passed (s.conflicting ++ i ∷ []) (in_right_part j s.conflicting (i ∷ []) (inl k))) in
-            omega (arith, (standing.other_mark places stretches list after new ready) marks i (counter + 1) j n, s.marked_others j (λ k. p (in_left_part j s.passed (s.conflicting ++ i ∷ []) k)) (λ k. p (in_right_part j s.passed (s.conflicting ++ i ∷ []) (in_left_part j s.conflicting (i ∷ []) k))));
+            omega (arith, other_mark marks i (counter + 1) j n, s.marked_others j (λ k. p (in_left_part j s.passed (s.conflicting ++ i ∷ []) k)) (λ k. p (in_right_part j s.passed (s.conflicting ++ i ∷ []) (in_left_part j s.conflicting (i ∷ []) k))));
         start_low = omega (arith, s.start_low, s.moved_low);
         counted = omega (arith, s.counted, length-append s.conflicting (i ∷ []), length-append s.passed (s.conflicting ++ i ∷ []));
         moved_low = omega arith;
         marks_low = λ j. elim (chain.same_place j i) [
-          | inl t ↦ omega (arith, ap (λ k. get_or (set marks i (counter + 1)) k 0) t.1, (standing.same_mark places stretches list after new ready) marks i (counter + 1) (omega (arith, lt, s.marks_len)))
-          | inr t ↦ omega (arith, (standing.other_mark places stretches list after new ready) marks i (counter + 1) j t.1, s.marks_low j)
+          | inl t ↦ omega (arith, ap (λ k. get_or (set marks i (counter + 1)) k 0) t.1, same_mark marks i (counter + 1) (omega (arith, lt, s.marks_len)))
+          | inr t ↦ omega (arith, other_mark marks i (counter + 1) j t.1, s.marks_low j)
         ];
         marks_len = omega (arith, length-set marks i (counter + 1), s.marks_len);
       }
@@ -186,7 +189,7 @@ module _ (places : Id → Option ℕ) (stretches : List Stretch) (list : List �
   scan_done start marks counter moved place at s left right o ended =
       let tail = s.conflicting ++ s.rest in
       let front = places_to after list in
-      let w : (front ++ s.passed) ++ tail ≡ list = append_assoc front s.passed tail ∙ ap (λ xs. front ++ xs) (sym s.parts) ∙ (standing.list_is places stretches list after new ready) in
+      let w : (front ++ s.passed) ++ tail ≡ list = append_assoc front s.passed tail ∙ ap (λ xs. front ++ xs) (sym s.parts) ∙ (chain.parts_are after list) in
       let place_last : place ≡ last_of (front ++ s.passed) = s.place_is ∙ ap (λ z. last_from z s.passed) (sym (chain.last_is after list ready.has_after)) ∙ sym (last_append None front s.passed) in
       let cut = cut_behind_last (front ++ s.passed) tail (subst AreDistinct (sym w) ready.distinct) in
       let to_place : places_to place list ≡ front ++ s.passed = ap₂ places_to place_last (sym w) ∙ cut.0 in
@@ -206,14 +209,15 @@ module _ (places : Id → Option ℕ) (stretches : List Stretch) (list : List �
       (i : ℕ) → at ≡ Some i → verdict_on (stretch_at stretches i) new (is_above places marks moved (stretch_at stretches i).left) (is_above places marks start (stretch_at stretches i).left) ≡ stops →
       (left right : Id → Option Id) → HasOrigins left right stretches list new → IsScanPlace stretches list new place left right
   scan_stops start marks counter moved place at s i e turn left right o =
-      let cut = (standing.next_part places stretches list after new ready) s.rest i (sym s.at_is ∙ e) in
+      let cut = next_part s.rest i (sym s.at_is ∙ e) in
       let tail = cut.0 in
       let parts : places_behind after list ≡ s.passed ++ (s.conflicting ++ i ∷ tail) = s.parts ∙ ap (λ xs. s.passed ++ (s.conflicting ++ xs)) cut.1 in
       let here : IsIn i (places_behind after list) = subst (IsIn i) (sym parts) (in_right_part i s.passed (s.conflicting ++ i ∷ tail) (in_right_part i s.conflicting (i ∷ tail) (inl refl))) in
       scan_done start marks counter moved place at s left right o
       (ap (λ xs. walk left right new.id (units_at stretches s.passed) (units_at stretches s.conflicting) (units_at stretches xs)) cut.1
       ∙ (standing.whole places stretches list after new ready) left right o i tail (units_at stretches s.passed) (units_at stretches s.conflicting) here
-      ∙ ap (λ v. run_walk left right new.id (units_at stretches s.passed) (units_at stretches s.conflicting) (units_of (stretch_at stretches i)) (units_at stretches tail) v) ((standing.turn_is places stretches list after new ready) start marks counter moved place at s i ((standing.behind_in places stretches list after new ready) i here) stops turn left right o)
+      ∙ ap (λ v. run_walk left right new.id (units_at stretches s.passed) (units_at stretches s.conflicting) (units_of (stretch_at stretches i)) (units_at stretches tail) v)
+      ((standing.turn_is places stretches list after new ready) start marks counter moved place at s i ((standing.behind_in places stretches list after new ready) i here) stops turn left right o)
       ∙ ap (λ xs. (units_at stretches s.passed, xs)) (append_assoc (units_at stretches s.conflicting) (units_of (stretch_at stretches i)) (units_at stretches tail) ∙ ap (λ xs. units_at stretches s.conflicting ++ units_at stretches xs) (sym cut.1)))
 
   -- the list ends
@@ -233,13 +237,13 @@ module _ (places : Id → Option ℕ) (stretches : List Stretch) (list : List �
   pub counter_low : (start : ℕ) (marks : List ℕ) (counter moved : ℕ) (place at : Option ℕ) → IsScanning stretches list after new start marks counter moved place at → length list ≤ length stretches →
       counter ≤ start + length stretches
   counter_low start marks counter moved place at s short =
-      omega (arith, s.counted, short, ap length (standing.list_is places stretches list after new ready), length-append (places_to after list) (places_behind after list), ap length s.parts, length-append s.passed (s.conflicting ++ s.rest), length-append s.conflicting s.rest)
+      omega (arith, s.counted, short, ap length (chain.parts_are after list), length-append (places_to after list) (places_behind after list), ap length s.parts, length-append s.passed (s.conflicting ++ s.rest), length-append s.conflicting s.rest)
 
   pub counter_lower : (start : ℕ) (marks : List ℕ) (counter moved : ℕ) (place at : Option ℕ) → IsScanning stretches list after new start marks counter moved place at → length list ≤ length stretches →
       (i : ℕ) → at ≡ Some i → counter + 1 ≤ start + length stretches
   counter_lower start marks counter moved place at s short i e =
-      let cut = (standing.next_part places stretches list after new ready) s.rest i (sym s.at_is ∙ e) in
-      omega (arith, s.counted, short, ap length (standing.list_is places stretches list after new ready), length-append (places_to after list) (places_behind after list), ap length s.parts, length-append s.passed (s.conflicting ++ s.rest), length-append s.conflicting s.rest, ap length cut.1)
+      let cut = next_part s.rest i (sym s.at_is ∙ e) in
+      omega (arith, s.counted, short, ap length (chain.parts_are after list), length-append (places_to after list) (places_behind after list), ap length s.parts, length-append s.passed (s.conflicting ++ s.rest), length-append s.conflicting s.rest, ap length cut.1)
 
   -- the place is one of the list
   pub place_in : (start : ℕ) (marks : List ℕ) (counter moved : ℕ) (place at : Option ℕ) → IsScanning stretches list after new start marks counter moved place at → IfSome place (λ p. IsIn p list)
@@ -257,12 +261,12 @@ module _ (places : Id → Option ℕ) (stretches : List Stretch) (list : List �
       go None e = tt
       go (Some p) e = elim (last_among after s.passed p (sym s.place_is ∙ e)) [
         | inl k ↦ after_in after p k ready.has_after
-        | inr k ↦ subst (IsIn p) (standing.list_is places stretches list after new ready) (in_right_part p (places_to after list) (places_behind after list) (subst (IsIn p) (sym s.parts) (in_left_part p s.passed (s.conflicting ++ s.rest) k)))
+        | inr k ↦ subst (IsIn p) (chain.parts_are after list) (in_right_part p (places_to after list) (places_behind after list) (subst (IsIn p) (sym s.parts) (in_left_part p s.passed (s.conflicting ++ s.rest) k)))
       ]
 
   -- the next place is one of the list
   pub next_in : (start : ℕ) (marks : List ℕ) (counter moved : ℕ) (place at : Option ℕ) → IsScanning stretches list after new start marks counter moved place at → (i : ℕ) → at ≡ Some i → IsIn i list
   next_in start marks counter moved place at s i e =
-      let cut = (standing.next_part places stretches list after new ready) s.rest i (sym s.at_is ∙ e) in
-      subst (IsIn i) (standing.list_is places stretches list after new ready) (in_right_part i (places_to after list) (places_behind after list) (subst (IsIn i) (sym s.parts) (in_right_part i s.passed (s.conflicting ++ s.rest)
+      let cut = next_part s.rest i (sym s.at_is ∙ e) in
+      subst (IsIn i) (chain.parts_are after list) (in_right_part i (places_to after list) (places_behind after list) (subst (IsIn i) (sym s.parts) (in_right_part i s.passed (s.conflicting ++ s.rest)
       (in_right_part i s.conflicting s.rest (subst (IsIn i) (sym cut.1) (inl refl))))))

@@ -33,6 +33,19 @@ verdict_is left right stretches list new i passed conflicting k s o lt e f =
     (verdicts (is_some_and (is_same (stretch_at stretches i).id) new.right) (is_same_neighbour (stretch_at stretches i).left new.left) (nat_lt (stretch_at stretches i).id.client.0 new.id.client.0)
     (is_same_neighbour (stretch_at stretches i).right new.right) k s (is_some_and (has_id conflicting) (stretch_at stretches i).left) (is_some_and (has_id passed) (stretch_at stretches i).left) e f)
 
+-- ---- lists and marks
+
+-- what is scanned next
+pub next_part : (rest : List ℕ) (i : ℕ) → first_of rest ≡ Some i → (tail : List ℕ) × (rest ≡ i ∷ tail)
+next_part [] i e = absurd cc
+next_part (x ∷ tail) i e = (tail, let same : x ≡ i = cc in ap (λ k. k ∷ tail) same)
+
+pub other_mark : (marks : List ℕ) (i v j : ℕ) → j ≢ i → get_or (set marks i v) j 0 ≡ get_or marks j 0
+other_mark marks i v j n = get_or-set_other marks i j v 0 n
+
+pub same_mark : (marks : List ℕ) (i v : ℕ) → i < length marks → get_or (set marks i v) i 0 ≡ v
+same_mark marks i v lt = get_or-set_same marks i v 0 lt
+
 -- ---- what stands where
 
 module _ (places : Id → Option ℕ) (stretches : List Stretch) (list : List ℕ) (after : Option ℕ) (new : Stretch) (ready : IsReady places stretches list after new) where
@@ -129,11 +142,6 @@ module _ (places : Id → Option ℕ) (stretches : List Stretch) (list : List �
         | inr k ↦ omega (arith, s.marked_others j k out, s.start_low)
       ])
 
-  -- what is scanned next
-  pub next_part : (rest : List ℕ) (i : ℕ) → first_of rest ≡ Some i → (tail : List ℕ) × (rest ≡ i ∷ tail)
-  next_part [] i e = absurd cc
-  next_part (x ∷ tail) i e = (tail, let same : x ≡ i = cc in ap (λ k. k ∷ tail) same)
-
   -- the whole list, with what is scanned next
   pub split_at : (passed conflicting tail : List ℕ) (i : ℕ) → places_behind after list ≡ passed ++ (conflicting ++ i ∷ tail) → (places_to after list ++ (passed ++ conflicting)) ++ i ∷ tail ≡ list
   split_at passed conflicting tail i e =
@@ -160,9 +168,3 @@ module _ (places : Id → Option ℕ) (stretches : List Stretch) (list : List �
         | inl k ↦ in_left_part i passed conflicting k
         | inr k ↦ in_right_part i passed conflicting k
       ])))
-
-  pub other_mark : (marks : List ℕ) (i v j : ℕ) → j ≢ i → get_or (set marks i v) j 0 ≡ get_or marks j 0
-  other_mark marks i v j n = get_or-set_other marks i j v 0 n
-
-  pub same_mark : (marks : List ℕ) (i v : ℕ) → i < length marks → get_or (set marks i v) i 0 ≡ v
-  same_mark marks i v lt = get_or-set_same marks i v 0 lt

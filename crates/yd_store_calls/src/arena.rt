@@ -22,3 +22,13 @@ fn a_run_is_added_found_and_cut(rt: HostRuntime) -> Result<(), Fail> {
     assert_eq!(rt; arena.lists().last(list), Some(last));
     Ok(())
 }
+
+#[test]
+fn a_gone_run_is_in_no_list(rt: HostRuntime) -> Result<(), Fail> {
+    let mut arena = Arena::new(rt.alloc());
+    arena.reserve(ONE, 1)?;
+    let place = arena.add_loose(RUN);
+    assert_eq!(rt; arena.next_clock(ONE), 3);
+    assert_eq!(rt; arena.lists().list_of(place), None);
+    Ok(())
+}
