@@ -12,10 +12,12 @@ use Rattle.yd_files.specs.Verdict.{HasVerdict, StandFor, StopsAt, Verdict}
 pub record FilesAreJudged : Type 0 where
   pub file : (shelf : Shelf) (file : File) → (verdict : Verdict) × HasVerdict (Some shelf) file verdict
   pub one : (shelf : Shelf) (file : File) (verdict other : Verdict) → HasVerdict (Some shelf) file verdict → HasVerdict (Some shelf) file other → verdict ≡ other
-  pub files : (shelf : Shelf) (files : List File) → ((us : List UpdateValue) × StandFor (Some shelf) files us) ⊎ ((file : File) × (verdict : Verdict) × StopsAt (Some shelf) files file verdict)
+  pub files : (shelf : Shelf) (files : List File) →
+      ((us : List UpdateValue) × StandFor (Some shelf) files us) ⊎ ((file : File) × (verdict : Verdict) × StopsAt (Some shelf) files file verdict)
   pub updates : (shelf : Shelf) (files : List File) (us others : List UpdateValue) → StandFor (Some shelf) files us → StandFor (Some shelf) files others → us ≡ others
   pub valid : (shelf : Shelf) (files : List File) (us : List UpdateValue) → StandFor (Some shelf) files us → Each IsValidUpdate us
-  pub first : (shelf : Shelf) (files : List File) (file other : File) (verdict thing : Verdict) → StopsAt (Some shelf) files file verdict → StopsAt (Some shelf) files other thing → (file ≡ other) × (verdict ≡ thing)
+  pub first : (shelf : Shelf) (files : List File) (file other : File) (verdict thing : Verdict) → StopsAt (Some shelf) files file verdict → StopsAt (Some shelf) files other thing →
+      (file ≡ other) × (verdict ≡ thing)
   pub apart : (shelf : Shelf) (files : List File) (us : List UpdateValue) (file : File) (verdict : Verdict) → StandFor (Some shelf) files us → StopsAt (Some shelf) files file verdict → ⊥
 
 -- words name one list of files at most
