@@ -1,6 +1,6 @@
 -- The fields of a map, by the keys of its parent.
 use Rattle.std.proofs.Common.{◌≡◌, ℕ, Bool, true, false, ◌||◌, List, [], ◌∷◌, Option, Some, None, inl, inr, refl, sym, ap, ◌∙◌}
-use Rattle.std.specs.Prelude.{if◌then◌else◌}
+use Rattle.std.specs.Prelude.{filter, option_map, if◌then◌else◌}
 use Rattle.yd_words.specs.Member.{IsIn}
 use Rattle.yd_any.specs.Tree.{AnyTree, AnyFields}
 use Rattle.yd_any.specs.Keys.{is_same, first_at}
@@ -8,7 +8,7 @@ use Rattle.yd_ops.specs.declared.lists.Parent.{Parent}
 use Rattle.yd_ops.specs.Operation.{Operation}
 use Rattle.yd_meaning.specs.Document.{Document}
 use Rattle.yd_shown.specs.Law.{is_among}
-use Rattle.yd_shown.specs.Shown.{last_unit, value_under, field_before, fields_under}
+use Rattle.yd_shown.specs.Shown.{last_unit, unit_under, value_under, field_before, fields_under}
 use Rattle.yd_shown.proofs.KeyLemmas.{one_text}
 
 -- what stands in front under another key does not count
@@ -37,6 +37,16 @@ fields_at show d p k (l ∷ ls) = field_first k l (value_under show d p l) (fiel
     go true e None f false deep = deep ∙ sym f ∙ ap (value_under show d p) (sym (one_text k l e))
 
 -- ---- lemmas for callers
+
+pub keys_left_out : (show : Operation → AnyTree) (d : Document) (p : Parent) (test : List ℕ → Bool) → ((k : List ℕ) → test k ≡ false → unit_under d p k ≡ None) →
+    (ks : List (List ℕ)) → fields_under show d p (filter test ks) ≡ fields_under show d p ks
+keys_left_out show d p test none [] = refl
+keys_left_out show d p test none (k ∷ ks) = go (test k) refl (keys_left_out show d p test none ks)
+  where
+    go : (t : Bool) → test k ≡ t → fields_under show d p (filter test ks) ≡ fields_under show d p ks →
+        fields_under show d p (if t then k ∷ filter test ks else filter test ks) ≡ field_before k (value_under show d p k) (fields_under show d p ks)
+    go true e deep = ap (field_before k (value_under show d p k)) deep
+    go false e deep = deep ∙ ap (λ unit. field_before k (option_map show unit) (fields_under show d p ks)) (sym (none k e))
 
 pub fields_of_keys : (show : Operation → AnyTree) (d : Document) (p : Parent) (k : List ℕ) →
     first_at k (fields_under show d p (d.keys p)) ≡ (if is_among k (d.keys p) then value_under show d p k else None)

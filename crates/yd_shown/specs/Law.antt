@@ -1,5 +1,5 @@
 -- The laws of what is shown.
-use Rattle.std.specs.Prelude.{◌↔◌, Decides, ◌≡◌, ℕ, Bool, true, false, List, [], ◌∷◌, Some, None, ◌||◌, if◌then◌else◌}
+use Rattle.std.specs.Prelude.{◌↔◌, Decides, ◌≡◌, ℕ, Bool, true, false, List, [], ◌∷◌, Some, None, ◌||◌, filter, if◌then◌else◌}
 use Rattle.std.specs.Ordering.{nat_cmp}
 use Rattle.std.specs.declared.cmp.Ordering.TheVariants.{Less}
 use Rattle.std.specs.Cmp.Lexicographic.{slice_cmp}
@@ -24,7 +24,7 @@ use Rattle.yd_shown.specs.Seen.{seen_units, text_units}
 use Rattle.yd_shown.specs.Same.{same_tree, same_fields}
 use Rattle.yd_shown.specs.Pieces.{Piece, with_attribute, attributes_of_piece, delta_pieces, list_pieces}
 use Rattle.yd_shown.specs.Cut.{delta_units, list_units, cut_pieces, AreApart, ArePiecesOf}
-use Rattle.yd_shown.specs.Shown.{Mode, as_text, own_list, key_list, last_unit, unit_under, value_under, map_fields, shown, printed_text}
+use Rattle.yd_shown.specs.Shown.{Mode, as_text, own_list, key_list, last_unit, unit_under, value_under, fields_under, map_fields, shown, printed_text}
 
 -- ---- text
 
@@ -102,10 +102,14 @@ FieldsAscend no_fields = Unit {0}
 FieldsAscend (field key t fs) = FieldsAbove key fs × FieldsAscend fs
 
 -- a map has, under each key of the parent, the value of the last unit of the key's list where that is live and counted, and
--- nothing else. In each document of what is received it is so under every key, and the keys ascend
+-- nothing else; so keys under which nothing stands may be left out. In each document of what is received it is so under every
+-- key, and the keys ascend
 pub record MapsShowLast : Type 0 where
   pub under_keys : (show : Operation → AnyTree) (document : Document) (parent : Parent) (key : List ℕ) →
       first_at key (map_fields show document parent) ≡ (if is_among key (document.keys parent) then value_under show document parent key else None)
+  pub left_out : (show : Operation → AnyTree) (document : Document) (parent : Parent) (test : List ℕ → Bool) →
+      ((key : List ℕ) → test key ≡ false → unit_under document parent key ≡ None) →
+      fields_under show document parent (filter test (document.keys parent)) ≡ map_fields show document parent
   pub received : (show : Operation → AnyTree) (r : Received) → IsWritten r.operations → (document : Document) → IsDocumentOf document r →
       (parent : Parent) (key : List ℕ) → first_at key (map_fields show document parent) ≡ value_under show document parent key
   pub ascend : (show : Operation → AnyTree) (r : Received) (document : Document) → IsDocumentOf document r →

@@ -1,5 +1,6 @@
 pub mod Cut
 pub mod Example
+pub mod Front
 pub mod Law
 pub mod Pieces
 pub mod Same

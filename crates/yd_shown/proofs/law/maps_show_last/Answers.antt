@@ -10,7 +10,7 @@ use Rattle.yd_meaning.specs.Document.{document_of, keys_among}
 use Rattle.yd_shown.specs.Shown.{key_list, last_unit, value_under, map_fields}
 use Rattle.yd_shown.specs.Law.{is_among, FieldsAscend}
 use Rattle.yd_shown.proofs.KeyLemmas.{has_key_there}
-use Rattle.yd_shown.proofs.MapLemmas.{fields_of_keys, last_is_one}
+use Rattle.yd_shown.proofs.MapLemmas.{fields_of_keys, keys_left_out, last_is_one}
 use Rattle.yd_shown.proofs.ReceivedLists.{in_list}
 use Rattle.yd_shown.proofs.AscendLemmas.{map_ascends}
 use Rattle.yd_shown.proofs.law.maps_show_last.Goals as goal
@@ -34,6 +34,7 @@ under_each show r written p k = fields_of_keys show (document_of r) p k
 pub returns : goal.returns
 returns c = record {
   under_keys = λ show document p k. fields_of_keys show document p k;
+  left_out = λ show document p test none. keys_left_out show document p test none (document.keys p);
   received = λ show r written document of_r p k.
       subst (λ d. first_at k (map_fields show d p) ≡ value_under show d p k) (sym of_r) (under_each show r written p k);
   ascend = λ show r document of_r p. subst (λ d. FieldsAscend (map_fields show d p)) (sym of_r)
