@@ -1,23 +1,20 @@
-//! Each public call of the codec of updates once, on its happy path.
+//! Calls of values and their codec that no command makes: any-values printed, copies, updates made
+//! by hand, logs and state vectors.
 //!
-//! Updates, state vectors and any-values are read and written in V1 and V2 by the calls of `yd_v1`,
-//! `yd_v2` and the crates below them; the bytes are worked by hand or are those that Yjs writes. What
-//! each content is written as, and where each kind of fault is, stands in the cases of `yd_cases`.
+//! What `read_v1`, `write_v1`, `read_v2` and `write_v2` answer, and with them each call of the crates
+//! below, stands in the cases of `yd_cases`. Here the other calls are seen to answer where memory is
+//! there; the bytes are worked by hand or are those that Yjs writes.
 #![tactic(auto)]
 
 #[cfg(test)]
 mod cutting;
 #[cfg(test)]
-mod fields;
-#[cfg(test)]
-mod infos;
-#[cfg(test)]
 mod logs;
 #[cfg(test)]
-mod ops;
+mod samples;
 #[cfg(test)]
-mod reading;
+mod updates;
 #[cfg(test)]
-mod v2;
+mod values;
 #[cfg(test)]
-mod writing;
+mod vectors;
