@@ -1,17 +1,11 @@
-//! Each public call once, with memory at hand and an answer from outside.
+//! Calls of units, of the outside and of the program that no command makes.
 //!
-//! Numbers, units, any-values, sets and the outside in memory are called as their crates say; the
-//! answers are those of lib0, of Yjs and of JSON, and `run` is called over a library in memory.
+//! Each is made once, with memory at hand and an answer from outside: units are cut and joined, a
+//! board in memory tells what was sent, and `run` is called over a library in memory.
 #![tactic(auto)]
 
 #[cfg(test)]
-mod any;
-#[cfg(test)]
 mod app;
-#[cfg(test)]
-mod ids;
-#[cfg(test)]
-mod num;
 #[cfg(test)]
 mod units;
 #[cfg(test)]

@@ -1,4 +1,4 @@
-//! Calls of `yd_units`.
+//! Units cut and joined.
 
 use std::test::Fail;
 use yd_units::Units;

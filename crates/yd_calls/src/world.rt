@@ -1,43 +1,10 @@
-//! Calls of `yd_world`.
+//! The board in memory, and a file that the system lacks.
 
 use std::test::Fail;
 use yd_world::{
-    Blob8, Event, Failed, FileLibrary, Library, MemoryLibrary, MemorySink, Outage, ScriptBoard,
-    Sent, Session, Sink, Switchboard, Way, What,
+    Blob8, Event, Failed, FileLibrary, Library, Outage, ScriptBoard, Sent, Session, Switchboard,
+    Way, What,
 };
-
-#[test]
-fn a_library_in_memory_gives_its_files(rt: HostRuntime) -> Result<(), Fail> {
-    let mut library = MemoryLibrary::new(rt.alloc());
-    library.add("F", b"old")?;
-    library.add("G", b"other")?;
-    library.add("F", b"bytes")?;
-    library.piece(3);
-    library.fail_at(3)?;
-    let mut into = [0; 8];
-    assert_eq!(rt; library.read(&mut into), Ok(0));
-    assert_eq!(rt; library.begin("F"), Ok(()));
-    assert_eq!(rt; library.read(&mut into), Ok(3));
-    assert_eq!(rt; into, [98, 121, 116, 0, 0, 0, 0, 0]);
-    assert_eq!(rt; library.read(&mut into), Err(Failed));
-    assert_eq!(rt; library.read(&mut into), Ok(2));
-    assert_eq!(rt; library.read(&mut into), Ok(0));
-    assert_eq!(rt; library.begin("H"), Err(Failed));
-    Ok(())
-}
-
-#[test]
-fn a_sink_in_memory_takes_what_it_may(rt: HostRuntime) -> Result<(), Fail> {
-    let mut sink = MemorySink::new(rt.alloc());
-    sink.fail_at(1)?;
-    assert_eq!(rt; sink.write(b"ab"), Ok(2));
-    assert_eq!(rt; sink.write(b"cd"), Err(Outage::Failed));
-    sink.fail_after(3);
-    assert_eq!(rt; sink.write(b"cd"), Ok(1));
-    assert_eq!(rt; sink.write(b"d"), Err(Outage::Failed));
-    assert_eq!(rt; sink.as_slice(), b"abc".as_slice());
-    Ok(())
-}
 
 #[test]
 fn a_board_with_a_script_tells_what_was_sent(rt: HostRuntime) -> Result<(), Fail> {

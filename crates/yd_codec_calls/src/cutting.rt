@@ -40,7 +40,7 @@ fn root(alloc: Global) -> Result<List, Fail> {
 }
 
 #[test]
-fn contents_give_their_last_units_out(rt: HostRuntime) -> Result<(), Fail> {
+fn contents_give_their_last_units_out_and_take_others(rt: HostRuntime) -> Result<(), Fail> {
     let alloc = rt.alloc();
     let mut units = JsonUnits::new(alloc);
     units.push(JsonUnit::Undefined)?;
@@ -48,9 +48,13 @@ fn contents_give_their_last_units_out(rt: HostRuntime) -> Result<(), Fail> {
     assert_eq!(rt; units.as_slice().len(), 2);
     let rest = units.split_off(1)?;
     assert_eq!(rt; (units.as_slice().len(), rest.as_slice().len()), (1, 1));
+    units.append(rest)?;
+    assert_eq!(rt; units.as_slice().len(), 2);
     let mut values = AnyList::new(alloc);
     values.push(Any::Null)?;
-    values.push(Any::Undefined)?;
+    let mut others = AnyList::new(alloc);
+    others.push(Any::Undefined)?;
+    values.append(others)?;
     let mut content = Content::Any(values);
     assert_eq!(rt; content.len(), 2);
     let rest = content.split_off(1)?;

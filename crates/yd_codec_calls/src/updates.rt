@@ -1,6 +1,6 @@
-//! Updates: copied, made by hand, and read out of a log.
+//! Updates: copied, and made by hand.
 
-use crate::samples::{ABC, EACH, LOG};
+use crate::samples::{ABC, EACH};
 use std::alloc::Global;
 use std::process::Abort;
 use std::test::Fail;
@@ -8,7 +8,7 @@ use yd_any::Text;
 use yd_ids::{Client, Id, IdSet};
 use yd_ops::{Block, BlockList, Content, List, Parent, Run, Struct, StructList, Update};
 use yd_units::Units;
-use yd_v1::{read_log, read_v1, write_v1};
+use yd_v1::{read_v1, write_v1};
 
 #[test]
 fn a_copy_of_each_struct_and_content_is_written_alike(rt: HostRuntime) -> Result<(), Fail> {
@@ -59,14 +59,4 @@ fn update_of(alloc: Global, run: Run) -> Result<Update, Fail> {
     })?;
     let deletes = IdSet::new(alloc);
     Ok(Update { blocks, deletes })
-}
-
-#[test]
-fn a_log_has_its_updates(rt: HostRuntime) -> Result<(), Fail> {
-    let list = read_log(rt.alloc(), &LOG)?;
-    assert_eq!(rt; list.as_slice().len(), 2);
-    for update in list.as_slice() {
-        is_written(&rt, update, &ABC)?;
-    }
-    Ok(())
 }
