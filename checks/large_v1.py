@@ -48,4 +48,5 @@ def main():
     sys.stdout.buffer.write(out)
 
 
-main()
+if __name__ == "__main__":
+    main()

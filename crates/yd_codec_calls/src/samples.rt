@@ -3,11 +3,6 @@
 /// One update of client 1: "abc" in the root `t`.
 pub const ABC: [u8; 13] = [1, 1, 1, 0, 4, 1, 1, 116, 3, 97, 98, 99, 0];
 
-/// Two updates as a log has them: the one above, twice.
-pub const LOG: [u8; 28] = [
-    13, 1, 1, 1, 0, 4, 1, 1, 116, 3, 97, 98, 99, 0, 13, 1, 1, 1, 0, 4, 1, 1, 116, 3, 97, 98, 99, 0,
-];
-
 /// One struct of each kind and each content, and the deletion of one unit.
 ///
 /// In turn: the JSON units `undefined` and 7 under the key `k` of the root `t`, a byte string, "a",
