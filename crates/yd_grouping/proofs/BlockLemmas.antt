@@ -98,16 +98,16 @@ struct-operations : (group : Group) → operations_of_struct (start_of group).cl
 struct-operations (of_run run) = refl
 struct-operations (of_gone id count) = refl
 
-gap-operations : (client : Client) (clock n : ℕ) (structs : List StructValue) → operations_of_structs client clock (with_gap n structs) ≡ operations_of_structs
-    client (clock + n) structs
+gap-operations : (client : Client) (clock n : ℕ) (structs : List StructValue) → operations_of_structs client clock (with_gap n structs)
+    ≡ operations_of_structs client (clock + n) structs
 gap-operations client clock zero structs = ap (λ k. operations_of_structs client k structs) none
   where
     none : clock ≡ clock + 0
     none = omega arith
 gap-operations client clock (suc n) structs = refl
 
-front-block-operations : (group : Group) (blocks : List BlockValue) → FitsBefore group blocks → operations_of_blocks (front_block group blocks) ≡
-    operations_of_group group ++ operations_of_blocks blocks
+front-block-operations : (group : Group) (blocks : List BlockValue) → FitsBefore group blocks → operations_of_blocks (front_block group blocks)
+    ≡ operations_of_group group ++ operations_of_blocks blocks
 front-block-operations group [] fits = append_assoc (operations_of_struct (start_of group).client (start_of group).clock (struct_of group)) [] []
     ∙ ap (λ ps. ps ++ []) (struct-operations group)
 front-block-operations group (block ∷ blocks) fits = go (nat_eq block.client.0 (start_of group).client.0) refl

@@ -11,11 +11,11 @@ use Rattle.yd_grouping.proofs.BlockLemmas.{FitsBefore, ascend_fits, ascend_rest,
 
 -- ---- blocks that grow at the back
 
-clocks-append : (structs others : List StructValue) → clocks_of_structs (structs ++ others) ≡ clocks_of_structs structs + clocks_of_structs others
+pub clocks-append : (structs others : List StructValue) → clocks_of_structs (structs ++ others) ≡ clocks_of_structs structs + clocks_of_structs others
 clocks-append [] others = omega arith
 clocks-append (s ∷ structs) others = omega (arith, clocks-append structs others)
 
-gap-clocks : (n : ℕ) (structs : List StructValue) → clocks_of_structs (with_gap n structs) ≡ n + clocks_of_structs structs
+pub gap-clocks : (n : ℕ) (structs : List StructValue) → clocks_of_structs (with_gap n structs) ≡ n + clocks_of_structs structs
 gap-clocks zero structs = omega arith
 gap-clocks (suc n) structs = refl
 
@@ -60,8 +60,8 @@ front_and_back group (block ∷ []) last fits = go (nat_eq block.client.0 (start
     other_group e f = grind (arith, tests)
 
     go : (s : Bool) → nat_eq block.client.0 (start_of group).client.0 ≡ s → (t : Bool) → nat_eq block.client.0 (start_of last).client.0 ≡ t →
-        front_block group (if t then block_and block last ∷ [] else block ∷ block_of last ∷ []) ≡ blocks_and
-        (if s then block_with group block ∷ [] else block_of group ∷ block ∷ []) last
+        front_block group (if t then block_and block last ∷ [] else block ∷ block_of last ∷ [])
+        ≡ blocks_and (if s then block_with group block ∷ [] else block_of group ∷ block ∷ []) last
     go true e true f = rw (e, also_group e f) (ap (λ (ss : List StructValue). record {
       client = (start_of group).client;
       clock = (start_of group).clock;

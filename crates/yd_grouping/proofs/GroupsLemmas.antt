@@ -57,14 +57,14 @@ pub gathered_are : (groups : List Group) → Each IsGroup groups → Each IsGrou
 gathered_are [] each = tt
 gathered_are (group ∷ groups) each = front_are group (gathered groups) each.0 (gathered_are groups each.1)
 
-front-operations : (group : Group) (groups : List Group) → IsGroup group → Each IsGroup groups → operations_of_groups (in_front group groups) ≡
-    operations_of_group group ++ operations_of_groups groups
+front-operations : (group : Group) (groups : List Group) → IsGroup group → Each IsGroup groups → operations_of_groups (in_front group groups)
+    ≡ operations_of_group group ++ operations_of_groups groups
 front-operations group [] is each = refl
 front-operations group (next ∷ groups) is each = go (group_joins group next) refl
   where
     go : (t : Bool) → group_joins group next ≡ t →
-        operations_of_groups (if t then joined_group group next ∷ groups else group ∷ next ∷ groups) ≡ operations_of_group group ++
-        (operations_of_group next ++ operations_of_groups groups)
+        operations_of_groups (if t then joined_group group next ∷ groups else group ∷ next ∷ groups) ≡ operations_of_group group
+        ++ (operations_of_group next ++ operations_of_groups groups)
     go true e = ap (λ ps. ps ++ operations_of_groups groups) (joined-operations group next is each.0 e)
         ∙ append_assoc (operations_of_group group) (operations_of_group next) (operations_of_groups groups)
     go false e = refl

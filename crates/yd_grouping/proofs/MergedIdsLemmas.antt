@@ -69,8 +69,8 @@ module _ (Q : Id → Type 0) where
       more_ids (received_after r update) updates back (groups_ids (groups_of update) r.operations (subst (λ os. Each OfId os) (sym (update_groups update)) front) also)
 
 -- a merge has the ids of its updates
-pub merge_ids : (updates : List UpdateValue) → Each IsValidUpdate updates → (x : Id) → has_operation (operations_of (merge_of updates)) x ≡ true ↔
-    has_operation (operations_of_all updates) x ≡ true
+pub merge_ids : (updates : List UpdateValue) → Each IsValidUpdate updates → (x : Id) → has_operation (operations_of (merge_of updates)) x ≡ true
+    ↔ has_operation (operations_of_all updates) x ≡ true
 merge_ids updates valid x = (
   (λ e. let (o, i, same) = operation_with (operations_of (merge_of updates)) x e in
       subst (λ y. has_operation (operations_of_all updates) y ≡ true) same (each_in (λ p. has_operation (operations_of_all updates) p.id ≡ true) (received_set updates).operations
