@@ -33,7 +33,7 @@ fn count(ids: &IdSet) -> u64 {
 }
 
 /// What a new replica tells once it received the updates in this order.
-fn told(alloc: Global, updates: &[&[u8]]) -> Result<Told, Fail> {
+fn tells(alloc: Global, updates: &[&[u8]]) -> Result<Told, Fail> {
     let mut replica = Replica::new(alloc, Client(9))?;
     for bytes in updates {
         let update = read_v1(alloc, bytes)?;
@@ -54,8 +54,8 @@ fn a_deleted_text_is_held(rt: HostRuntime) -> Result<(), Fail> {
         deleted: 3,
         waiting: NONE,
     };
-    assert_eq!(rt; told(rt.alloc(), &[&TEXT, &TEXT_DELETED])?, wanted);
-    assert_eq!(rt; told(rt.alloc(), &[&TEXT_DELETED, &TEXT])?, wanted);
+    assert_eq!(rt; tells(rt.alloc(), &[&TEXT, &TEXT_DELETED])?, wanted);
+    assert_eq!(rt; tells(rt.alloc(), &[&TEXT_DELETED, &TEXT])?, wanted);
     Ok(())
 }
 
@@ -67,15 +67,15 @@ fn a_gone_unit_is_held_and_deleted(rt: HostRuntime) -> Result<(), Fail> {
         waiting: NONE,
     };
     assert_eq!(rt;
-        told(rt.alloc(), &[&ARRAY, &ARRAY_UNIT, &FIVE_GONE])?,
+        tells(rt.alloc(), &[&ARRAY, &ARRAY_UNIT, &FIVE_GONE])?,
         wanted
     );
     assert_eq!(rt;
-        told(rt.alloc(), &[&FIVE_GONE, &ARRAY_UNIT, &ARRAY])?,
+        tells(rt.alloc(), &[&FIVE_GONE, &ARRAY_UNIT, &ARRAY])?,
         wanted
     );
     assert_eq!(rt;
-        told(rt.alloc(), &[&ARRAY_UNIT, &FIVE_GONE, &ARRAY])?,
+        tells(rt.alloc(), &[&ARRAY_UNIT, &FIVE_GONE, &ARRAY])?,
         wanted
     );
     Ok(())
@@ -89,15 +89,15 @@ fn what_stands_behind_a_gone_unit_does_not_wait(rt: HostRuntime) -> Result<(), F
         waiting: NONE,
     };
     assert_eq!(rt;
-        told(rt.alloc(), &[&SIX_BEHIND, &ARRAY, &FIVE_GONE])?,
+        tells(rt.alloc(), &[&SIX_BEHIND, &ARRAY, &FIVE_GONE])?,
         wanted
     );
     assert_eq!(rt;
-        told(rt.alloc(), &[&ARRAY, &ARRAY_UNIT, &SIX_BEHIND, &FIVE_GONE])?,
+        tells(rt.alloc(), &[&ARRAY, &ARRAY_UNIT, &SIX_BEHIND, &FIVE_GONE])?,
         wanted
     );
     assert_eq!(rt;
-        told(rt.alloc(), &[&FIVE_GONE, &SIX_BEHIND, &ARRAY, &THIRD_GONE])?,
+        tells(rt.alloc(), &[&FIVE_GONE, &SIX_BEHIND, &ARRAY, &THIRD_GONE])?,
         wanted
     );
     Ok(())
@@ -110,6 +110,6 @@ fn as_many_units_as_there_can_be_are_gone(rt: HostRuntime) -> Result<(), Fail> {
         deleted: 9007199254740991,
         waiting: NONE,
     };
-    assert_eq!(rt; told(rt.alloc(), &[&MANY_GONE])?, wanted);
+    assert_eq!(rt; tells(rt.alloc(), &[&MANY_GONE])?, wanted);
     Ok(())
 }
