@@ -1,0 +1,68 @@
+//! The laws of edits, each the contract of an empty function.
+
+ghost use Rattle.yd_editing.specs.TextLaw.{QuietTextsStay, InsertsStand, DeletesStand, FormatsStand};
+ghost use Rattle.yd_editing.specs.Law.{MadeUnitsStand, MadeRunsStand, StepsStand, RemovalsTell, EditsAreTaken, EditsAreHeld, EditsAreValid, EditsDelete};
+
+/// An operation that is made between two neighbours keeps an honest held set honest, and moves no
+/// other.
+pub fn made_units_stand()
+    ensures { MadeUnitsStand }
+{}
+
+/// So does a run that is made at a place, and it stands there unit by unit.
+pub fn made_runs_stand()
+    ensures { MadeRunsStand }
+{}
+
+/// So does each step of an edit, and the lists are those that the steps evolve.
+pub fn steps_stand()
+    ensures { StepsStand }
+{}
+
+/// A removal that is refused names the smallest id that is not held.
+pub fn removals_tell()
+    ensures { RemovalsTell }
+{}
+
+/// The update of an edit that is not refused has new operations alone, and is taken as it is.
+pub fn edits_are_taken()
+    ensures { EditsAreTaken }
+{}
+
+/// Where nothing waits, all is held and honest after an edit, and the document has the lists that
+/// the steps evolve.
+pub fn edits_are_held()
+    ensures { EditsAreHeld }
+{}
+
+/// The update of an edit is valid, and none of its runs has a made unit as its left origin.
+pub fn edits_are_valid()
+    ensures { EditsAreValid }
+{}
+
+/// What was deleted is so after an edit, and so is what is named, overwritten, or of a deleted
+/// parent.
+pub fn edits_delete()
+    ensures { EditsDelete }
+{}
+
+/// A text whose document is honest and waits for nothing stays so under each edit of it.
+pub fn quiet_texts_stay()
+    ensures { QuietTextsStay }
+{}
+
+/// After an insertion the live counted units are the old ones with the made ones at the index.
+pub fn inserts_stand()
+    ensures { InsertsStand }
+{}
+
+/// After a deletion they are the old ones without those named.
+pub fn deletes_stand()
+    ensures { DeletesStand }
+{}
+
+/// After a format so many units from the index on have the value for the key, and all else is as
+/// before.
+pub fn formats_stand()
+    ensures { FormatsStand }
+{}
