@@ -1,1 +1,5 @@
+pub mod ContentLemmas
+pub mod MergingLemmas
+pub mod NamedLemmas
 pub mod PuttingLemmas
+pub mod ToldLemmas

@@ -1,1 +1,3 @@
 pub mod Builder
+pub mod Named
+pub mod Told

@@ -5,11 +5,12 @@ ghost use Rattle.yd_ops.specs.View.{update_value};
 ghost use Rattle.yd_grouping.specs.Building.{nothing_built, with_next, with_pushed, finished};
 ghost use Rattle.yd_merge.specs.Builder.{group_value, some_group, some_blocks, built_of};
 
+use crate::fault::NoMemory;
 use crate::group::Group;
 use crate::putting::{Blocks, all_blocks, put};
 use std::alloc::Global;
 use yd_ids::IdSet;
-use yd_ops::{NoMemory, Update};
+use yd_ops::Update;
 
 /// A grouped update that is built from the front. The last group is kept apart, since the next one
 /// may join it.

@@ -7,8 +7,9 @@ ghost use Rattle.yd_ops.specs.View.{struct_value};
 ghost use Rattle.yd_grouping.specs.Groups.{start_of, size_of, struct_of, group_joins, joined_group};
 ghost use Rattle.yd_merge.specs.Builder.{group_value};
 
+use crate::fault::NoMemory;
 use yd_ids::Id;
-use yd_ops::{NoMemory, Run, Struct};
+use yd_ops::{Run, Struct};
 
 /// What one struct has: a run, or gone units.
 #[derive(Drop)]
@@ -70,7 +71,10 @@ impl Group {
         ensures unchanged { OnErr result (group_value self.new ≡ group_value self.old) }
     {
         match (self, next) {
-            (Group::Run(run), Group::Run(next)) => run.append(next),
+            (Group::Run(run), Group::Run(next)) => {
+                run.append(next)?;
+                Ok(())
+            }
             (Group::Gone(_, count), Group::Gone(_, more)) => match count.checked_add(more) {
                 None => Err(NoMemory),
                 Some(both) => {

@@ -6,11 +6,12 @@ ghost use Rattle.yd_grouping.specs.Grouped.{block_of, with_gap};
 ghost use Rattle.yd_grouping.specs.Building.{block_and};
 ghost use Rattle.yd_merge.specs.Builder.{group_value};
 
+use crate::fault::NoMemory;
 use crate::group::Group;
 use std::alloc::Global;
 use std::marker::Model;
 use yd_ids::Client;
-use yd_ops::{Block, NoMemory, Struct, StructList};
+use yd_ops::{Block, Struct, StructList};
 
 /// A block, with the clock behind it.
 #[derive(Drop)]

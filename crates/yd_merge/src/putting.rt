@@ -5,10 +5,11 @@ ghost use Rattle.yd_ops.specs.View.{block_value};
 ghost use Rattle.yd_grouping.specs.Building.{blocks_and};
 ghost use Rattle.yd_merge.specs.Builder.{group_value, blocks_value, some_blocks};
 
+use crate::fault::NoMemory;
 use crate::group::Group;
 use crate::growing::Growing;
 use std::alloc::Global;
-use yd_ops::{BlockList, NoMemory};
+use yd_ops::BlockList;
 
 /// Blocks, of which the last may still grow.
 #[derive(Drop)]

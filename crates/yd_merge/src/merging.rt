@@ -1,0 +1,47 @@
+//! Merging updates, without a document.
+
+ghost use Rattle.std.specs.Prelude.{◌≡◌, map, IfOk};
+ghost use Rattle.yd_words.specs.Each.{Each};
+ghost use Rattle.yd_ops.specs.Valid.{IsValidUpdate};
+ghost use Rattle.yd_ops.specs.View.{update_value};
+ghost use Rattle.yd_updates.specs.Received.{received_set};
+ghost use Rattle.yd_grouping.specs.Merged.{merge_of};
+ghost use Rattle.yd_received.specs.Received.{taken_of};
+
+use crate::fault::NoMemory;
+use crate::naming::named_by;
+use crate::writing::written;
+use std::alloc::Global;
+use yd_ops::Update;
+use yd_received::Received;
+
+/// One update that says what all of them say. Of each id one operation is there: under agreement
+/// the one that says least, and else what was received of them in this order. It is grouped, so
+/// neither their order nor repeats change it under agreement (`yd_grouping::law`).
+pub fn merge(alloc: Global, updates: &[Update]) -> Result<Update, NoMemory>
+    requires { Each IsValidUpdate (map update_value updates.now) }
+    ensures merged { IfOk result (λ merged. update_value merged
+        ≡ merge_of (map update_value updates.now)) }
+    ensures valid { IfOk result (λ merged. IsValidUpdate (update_value merged)) }
+{
+    let received = received_of(alloc, updates)?;
+    let deletes = named_by(alloc, updates)?;
+    let runs = received.runs();
+    let entries = received.entries();
+    let merged = written(alloc, runs, entries, deletes)?;
+    Ok(merged)
+}
+
+/// What is received of updates.
+#[tactic(auto, using(crate::proofs::MergingLemmas::set_operations))]
+pub fn received_of(alloc: Global, updates: &[Update]) -> Result<Received, NoMemory>
+    requires { Each IsValidUpdate (map update_value updates.now) }
+    ensures { IfOk result (λ received. taken_of received
+        ≡ (received_set (map update_value updates.now)).operations) }
+{
+    let mut received = Received::new(alloc);
+    for update in updates {
+        received.take(update)?;
+    }
+    Ok(received)
+}

@@ -1,0 +1,102 @@
+//! Parts of runs, in memory of their own.
+
+ghost use Rattle.std.specs.Prelude.{◌≡◌, ◌+◌, ◌<◌, ◌≤◌, Some, IfOk};
+ghost use Rattle.yd_ops.specs.Cutting.{content_before, content_behind};
+ghost use Rattle.yd_ops.specs.Value.{len_of};
+ghost use Rattle.yd_ops.specs.Valid.{IsValidContent};
+ghost use Rattle.yd_ops.specs.View.{content_value, run_value};
+ghost use Rattle.yd_grouping.specs.Groups.{of_run};
+ghost use Rattle.yd_received.specs.Entries.{IsTakenOf, list_at};
+ghost use Rattle.yd_merge.specs.Builder.{group_value};
+ghost use Rattle.yd_merge.specs.Told.{IsPartOf, content_part, group_of_run, group_of_entry};
+
+use crate::fault::NoMemory;
+use crate::group::Group;
+use yd_ops::{Content, List, Run};
+use yd_received::Entry;
+
+/// What an entry has, in memory of its own.
+pub fn group_of(runs: &[Run], entry: Entry) -> Result<Group, NoMemory>
+    requires { IsTakenOf runs.now entry }
+    ensures { IfOk result (λ group. group_value group ≡ group_of_entry runs.now entry) }
+{
+    if entry.is_gone {
+        return Ok(Group::Gone(entry.id, entry.len));
+    }
+    let run = part_of(&runs[entry.run], entry)?;
+    Ok(Group::Run(run))
+}
+
+/// An entry's part of its run.
+fn part_of(run: &Run, entry: Entry) -> Result<Run, NoMemory>
+    requires { IsPartOf (content_value run.now.content) entry }
+    ensures { IfOk result (λ part. of_run (run_value part) ≡ group_of_run entry (Some run.now)) }
+{
+    let list = carried_by(run, entry.offset)?;
+    let content = copied(&run.content, entry.offset, entry.len)?;
+    Ok(Run {
+        id: entry.id,
+        left: entry.left,
+        right: entry.right,
+        list,
+        content,
+    })
+}
+
+/// The list that a run's unit carries.
+fn carried_by(run: &Run, offset: u64) -> Result<Option<List>, NoMemory>
+    ensures { IfOk result (λ list. list ≡ list_at (Some run.now) offset) }
+{
+    if offset > 0 {
+        return Ok(None);
+    }
+    match &run.list {
+        None => Ok(None),
+        Some(list) => Ok(Some(list.copy()?)),
+    }
+}
+
+/// So many units of a content, from an offset on.
+fn copied(content: &Content, offset: u64, len: u64) -> Result<Content, NoMemory>
+    requires some { 0 < len }
+    requires within { offset + len ≤ len_of (content_value content.now) }
+    requires content { IsValidContent (content_value content.now) }
+    ensures { IfOk result (λ part. content_value part
+        ≡ content_part offset len (content_value content.now)) }
+{
+    let copy = content.copy()?;
+    let rest = behind(copy, offset)?;
+    let part = before(rest, len)?;
+    Ok(part)
+}
+
+/// The units of a content from one on.
+#[tactic(auto, using(crate::proofs::ContentLemmas::behind_none))]
+fn behind(content: Content, n: u64) -> Result<Content, NoMemory>
+    requires { n < len_of (content_value content) }
+    ensures { IfOk result (λ rest. content_value rest
+        ≡ content_behind n (content_value content)) }
+{
+    if n == 0 {
+        return Ok(content);
+    }
+    let mut content = content;
+    let rest = content.split_off(n)?;
+    Ok(rest)
+}
+
+/// The first units of a content.
+#[tactic(auto, using(crate::proofs::ContentLemmas::before_all))]
+fn before(content: Content, n: u64) -> Result<Content, NoMemory>
+    requires some { 0 < n }
+    requires inside { n ≤ len_of (content_value content) }
+    ensures { IfOk result (λ first. content_value first
+        ≡ content_before n (content_value content)) }
+{
+    if n == content.len() {
+        return Ok(content);
+    }
+    let mut content = content;
+    content.split_off(n)?;
+    Ok(content)
+}

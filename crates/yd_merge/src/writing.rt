@@ -1,0 +1,37 @@
+//! What was received, written out as a grouped update.
+
+ghost use Rattle.std.specs.Prelude.{◌≡◌, map, IfOk};
+ghost use Rattle.yd_words.specs.Each.{Each};
+ghost use Rattle.yd_ops.specs.View.{update_value};
+ghost use Rattle.yd_grouping.specs.Building.{finished, all_pushed, nothing_built};
+ghost use Rattle.yd_grouping.specs.Grouped.{grouping_of};
+ghost use Rattle.yd_received.specs.Entries.{IsTakenOf, AreInOrder, operations_in};
+ghost use Rattle.yd_merge.specs.Told.{group_of_entry};
+
+use crate::builder::Builder;
+use crate::fault::NoMemory;
+use crate::parts::group_of;
+use std::alloc::Global;
+use yd_ids::IdSet;
+use yd_ops::{Run, Update};
+use yd_received::Entry;
+
+/// The grouped update of entries, with these deletions, in time of the units that are told.
+pub fn written(
+    alloc: Global,
+    runs: &[Run],
+    entries: &[Entry],
+    deletes: IdSet,
+) -> Result<Update, NoMemory>
+    requires each { Each (IsTakenOf runs.now) entries.now }
+    requires in_order { AreInOrder entries.now }
+    ensures { IfOk result (λ update. update_value update
+        ≡ grouping_of (operations_in runs.now entries.now) deletes) }
+{
+    let mut builder = Builder::new(alloc);
+    for entry in entries {
+        builder.push(group_of(runs, *entry)?)?;
+    }
+    let update = builder.finish(deletes)?;
+    Ok(update)
+}
