@@ -2,4 +2,5 @@ pub mod ContentLemmas
 pub mod MergingLemmas
 pub mod NamedLemmas
 pub mod PuttingLemmas
+pub mod ReachingLemmas
 pub mod ToldLemmas

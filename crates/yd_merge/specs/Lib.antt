@@ -1,3 +1,4 @@
 pub mod Builder
 pub mod Named
+pub mod Reaching
 pub mod Told

@@ -1,13 +1,15 @@
-//! Updates without a document: merging them.
+//! Updates without a document: merging them, and how far one reaches.
 //!
 //! [`merge`] makes the one grouped update that says what many say. It takes each into a `Received`
 //! and writes the entries out by runs. What is written goes through a [`Builder`]: it is pushed what
 //! structs have, in the order of writing and in pieces of any size, and joins each piece with the one
 //! before where they are one run that was cut, or gone units with clocks in a row. So what it makes is
-//! the grouping of all that it was pushed (`yd_grouping::law::builder_groups`).
+//! the grouping of all that it was pushed (`yd_grouping::law::builder_groups`). [`vector_of`] tells of
+//! each client the smallest clock that an update does not have.
 //!
 //! ```rust
 //! let merged = merge(alloc, &[first, second])?;
+//! let reached = vector_of(alloc, &merged)?;
 //! ```
 #![tactic(auto)]
 
@@ -19,9 +21,11 @@ mod merging;
 mod naming;
 mod parts;
 mod putting;
+mod reaching;
 mod writing;
 
 pub use builder::Builder;
 pub use fault::NoMemory;
 pub use group::Group;
 pub use merging::merge;
+pub use reaching::vector_of;
