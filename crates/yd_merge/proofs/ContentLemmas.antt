@@ -1,6 +1,9 @@
 -- Parts of a content: all of it, and which units a part has.
-use Rattle.std.proofs.Common.{◌≡◌, ℕ, zero, suc, ◌+◌, ◌-◌, ◌<◌, ◌≤◌, [], ◌∷◌, take, drop, length, refl, sym, ap, ◌∙◌, arith}
-use Rattle.std.proofs.lemmas.List.{length-drop, take_all, take-map, drop-map}
+use Rattle.std.specs.Option.{unwrap_or}
+use Rattle.std.specs.Prelude.{slice_get}
+use Rattle.std.proofs.Common.{◌≡◌, ℕ, zero, suc, ◌+◌, ◌-◌, ◌<◌, ◌≤◌, List, [], ◌∷◌, ◌++◌, take, drop, length, get_or, refl, sym, ap, ◌∙◌, arith, append_assoc, append-nil}
+use Rattle.std.proofs.lemmas.List.{drop_more, length-drop, take_all, take-map, drop-map}
+use Rattle.std.proofs.lemmas.Option.{unwrap_or-slice_get}
 use Rattle.yd_any.specs.Tree.{AnyTrees, no_trees, tree}
 use Rattle.yd_any.specs.Rows.{first_trees, other_trees}
 use Rattle.yd_ops.specs.Value.{ContentValue, json, binary, string, embed, format, nested, any, deleted, count_of, len_of}
@@ -90,3 +93,25 @@ behind-len o (nested kind) lt = omega (arith, lt)
 -- so a part from there on is within it
 pub rest_within : (o n : ℕ) (content copy rest : ContentValue) → 0 < n → o + n ≤ len_of content → copy ≡ content → rest ≡ content_behind o copy → n ≤ len_of rest
 rest_within o n content copy rest some le same is = omega (arith, some, le, behind-len o copy (omega (arith, some, le, ap len_of same)), ap len_of same, ap len_of is)
+
+-- ---- lemmas for callers: the units of a text, one after another
+
+pub part_begins : (us : List ℕ) (from len : ℕ) (part : List ℕ) → part ≡ [] → part ++ take (len - 0) (drop (from + 0) us) ≡ take len (drop from us)
+part_begins us from len part e = let all : len - 0 ≡ len = omega arith in let begin : from + 0 ≡ from = omega arith in
+    ap (λ ns. ns ++ take (len - 0) (drop (from + 0) us)) e ∙ (λ i. take (all i) (drop (begin i) us))
+
+pub unit_next : (us : List ℕ) (from len done : ℕ) (old new : List ℕ) → done < len → from + len ≤ length us → new ≡ old ++ unwrap_or (slice_get us (from + done)) 0 ∷ [] →
+    new ++ take (len - (done + 1)) (drop (from + (done + 1)) us) ≡ old ++ take (len - done) (drop (from + done) us)
+unit_next us from len done old new lt le e =
+    let next : from + (done + 1) ≡ (from + done) + 1 = omega arith in
+    let size : suc (len - (done + 1)) ≡ len - done = omega (arith, lt) in
+    let unit = get_or us (from + done) 0 in
+    ap (λ ns. ns ++ take (len - (done + 1)) (drop (from + (done + 1)) us)) (e ∙ ap (λ u. old ++ u ∷ []) (unwrap_or-slice_get us (from + done) 0))
+    ∙ append_assoc old (unit ∷ []) (take (len - (done + 1)) (drop (from + (done + 1)) us))
+    ∙ ap (λ k. old ++ unit ∷ take (len - (done + 1)) (drop k us)) next
+    ∙ ap (λ xs. old ++ take (suc (len - (done + 1))) xs) (sym (drop_more us (from + done) 0 (omega (arith, lt, le))))
+    ∙ ap (λ m. old ++ take m (drop (from + done) us)) size
+
+pub part_ends : (us : List ℕ) (from len done : ℕ) (part : List ℕ) → len ≤ done → part ++ take (len - done) (drop (from + done) us) ≡ take len (drop from us) → part ≡ take len (drop from us)
+part_ends us from len done part le e = let none : len - done ≡ 0 = omega (arith, le) in
+    sym (append-nil part) ∙ ap (λ m. part ++ take m (drop (from + done) us)) (sym none) ∙ e

@@ -30,7 +30,7 @@ pub fn written(
 {
     let mut builder = Builder::new(alloc);
     for entry in entries {
-        builder.push(group_of(runs, *entry)?)?;
+        builder.push(group_of(alloc, runs, *entry)?)?;
     }
     let update = builder.finish(deletes)?;
     Ok(update)
