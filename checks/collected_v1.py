@@ -1,5 +1,5 @@
 #!/usr/bin/env python3
-"""Writes an update in V1: a text of 100,000 runs, of which every second one is told in one of four ways.
+"""Writes an update in V1: a text of 100,000 runs, of which every second one is told in one of five ways.
 
     collected_v1.py full|named|deleted|gone|skipped
 

@@ -24,9 +24,9 @@ pub fn one_is_due()
     ensures { OneIsDue }
 {}
 
-/// Files of the same changes show the same: in any order, repeated or translated, and merged. The
-/// updates have to agree. Of a merge they also have to keep the collecting rule: no update tells one
-/// half of a pair as deleted and the other half whole.
+/// Files of the same changes show the same: in any order, repeated or translated, and merged. Their
+/// operations with one id have to be alike. Where some are merged, they also have to keep the
+/// collecting rule: of a pair that one update tells in full, each tells less of both or of neither.
 pub fn shows_converge()
     ensures { ShowsConverge }
 {}
