@@ -82,7 +82,7 @@ function inEachWay(session, updates) {
   );
 }
 
-/** The cases of a session: what its documents told, and what Yjs makes of all that. */
+/** The cases of a session: what its documents told, what Yjs makes of all that, and the state of each. */
 function convertCases(session) {
   const { chance, updates, passedOn, documents } = session;
   const files = updates.map((update) => fileOf(session, update, 'v1'));
@@ -96,7 +96,7 @@ function convertCases(session) {
     ...inEachWay(session, [
       [merge, []],
       [gapped, files.filter((_, at) => leftOut(at))],
-      [stateOf('state', documents[0]), []],
+      ...documents.map((doc, at) => [stateOf(`state-${at + 1}`, doc), []]),
     ]),
   ];
 }

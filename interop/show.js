@@ -28,6 +28,8 @@ function wholes(session) {
     'merged-v2': [fileOf(session, mergeOf('merge', updates), 'v2')],
     'merged-in-two': merges.map((merge, at) => fileOf(session, merge, FORMS[at])),
     states: mixedFiles(session, chance.shuffled(states)),
+    'merged-states': [fileOf(session, mergeOf('merged-states', chance.shuffled(states)), 'v1')],
+    'states-and-updates': mixedFiles(session, chance.shuffled([...states, ...updates])),
   };
 }
 
