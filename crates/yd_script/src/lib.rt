@@ -1,0 +1,23 @@
+//! Scripts: which edits their lines ask for (own).
+//!
+//! A script is a text with a line for each edit. A line is a JSON array, of a word and what goes with
+//! it ([`Line`]). [`Lines`] gives the lines that are not empty, in order and with their numbers, and
+//! [`read_line`] what a line asks for, or that it is none.
+//!
+//! ```rust
+//! let mut lines = Lines::of("[\"insert\",\"t\",0,\"Hi\"]\n");
+//! let first = lines.next().unwrap();
+//! let line = read_line(alloc, first.text)?;
+//! ```
+#![tactic(auto)]
+
+mod arguments;
+mod fault;
+mod line;
+mod lines;
+mod reading;
+
+pub use fault::LineFault;
+pub use line::Line;
+pub use lines::{Lines, NumberedLine};
+pub use reading::read_line;

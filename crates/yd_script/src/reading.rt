@@ -1,0 +1,75 @@
+//! A line, read.
+
+ghost use Rattle.std.specs.Prelude.{◌≡◌, ◌⊎◌, Err, map};
+ghost use Rattle.serde_json.specs.Errors.{IsMemory};
+ghost use Rattle.serde_json.specs.View.{view};
+ghost use Rattle.yd_script.specs.Reading.{Reads, call_in, line_in, line_in_data, line_in_list};
+ghost use Rattle.yd_script.specs.declared.fault.LineFault.TheVariants.{NoMemory, BadLine};
+
+use crate::arguments::{delete_of, embed_of, format_of, insert_of};
+use crate::fault::LineFault;
+use crate::line::Line;
+use serde_json::Value;
+use std::alloc::Global;
+
+/// The line that a text is (own; the text is JSON as `serde_json` reads it). Where a growth finds no
+/// memory that is answered, and else `BadLine` just where the text is no line.
+pub fn read_line(alloc: Global, text: &str) -> Result<Line, LineFault>
+    ensures { (result ≡ Err NoMemory) ⊎ Reads (line_in text.now) result }
+{
+    match Value::from_str(alloc, text) {
+        Ok(value) => line_of_value(alloc, &value),
+        Err(error) => Err(text_fault(&error)),
+    }
+}
+
+/// Why a text was not read.
+fn text_fault(error: &serde_json::Error) -> LineFault
+    ensures memory { IsMemory error.now → result ≡ NoMemory }
+    ensures text { ¬ IsMemory error.now → result ≡ BadLine }
+{
+    if error.is_memory() {
+        LineFault::NoMemory
+    } else {
+        LineFault::BadLine
+    }
+}
+
+fn line_of_value(alloc: Global, value: &Value) -> Result<Line, LineFault>
+    ensures { Reads (line_in_data (view value.now)) result }
+{
+    match value {
+        Value::Array(items) => line_of_list(alloc, items.as_slice()),
+        _ => Err(LineFault::BadLine),
+    }
+}
+
+fn line_of_list(alloc: Global, items: &[Value]) -> Result<Line, LineFault>
+    ensures { Reads (line_in_list (map view items.now)) result }
+{
+    match items {
+        [first, rest @ ..] => match first.as_str() {
+            Some(word) => line_of_call(alloc, word, rest),
+            None => Err(LineFault::BadLine),
+        },
+        _ => Err(LineFault::BadLine),
+    }
+}
+
+fn line_of_call(alloc: Global, word: &str, rest: &[Value]) -> Result<Line, LineFault>
+    ensures { Reads (call_in word.now (map view rest.now)) result }
+{
+    if word == "insert" {
+        return insert_of(alloc, rest);
+    }
+    if word == "embed" {
+        return embed_of(alloc, rest);
+    }
+    if word == "delete" {
+        return delete_of(alloc, rest);
+    }
+    if word == "format" {
+        return format_of(alloc, rest);
+    }
+    Err(LineFault::BadLine)
+}
