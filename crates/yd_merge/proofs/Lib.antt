@@ -1,4 +1,5 @@
 pub mod ContentLemmas
+pub mod CuttingLemmas
 pub mod MergingLemmas
 pub mod NamedLemmas
 pub mod PuttingLemmas

@@ -100,7 +100,7 @@ write_next runs ts i t old new lt at e = ap (λ b. all_pushed b (map (group_of_e
     ∙ ap (λ us. all_pushed old (map (group_of_entry runs) us)) (sym (drop_more ts i t lt ∙ ap (λ (s : Entry). s ∷ drop (i + 1) ts) (sym at)))
 
 -- all entries pushed are the grouping of their operations
-writes : (runs : List Run) (ts : List Entry) (deletes : List Span) → Each (IsTakenOf runs) ts → AreInOrder ts →
+pub writes : (runs : List Run) (ts : List Entry) (deletes : List Span) → Each (IsTakenOf runs) ts → AreInOrder ts →
     finished (all_pushed nothing_built (map (group_of_entry runs) ts)) deletes ≡ grouping_of (operations_in runs ts) deletes
 writes runs ts deletes each order = builder_groups (map (group_of_entry runs) ts) deletes (entries_groups runs ts each)
     (subst (λ os. IsWritten os) (sym (entries-operations runs ts each)) (in_written runs ts each order))

@@ -1,4 +1,5 @@
 pub mod Builder
+pub mod Cutting
 pub mod Named
 pub mod Reaching
 pub mod Told

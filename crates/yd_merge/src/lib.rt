@@ -14,6 +14,7 @@
 #![tactic(auto)]
 
 mod builder;
+mod cutting;
 mod fault;
 mod group;
 mod growing;
@@ -25,6 +26,7 @@ mod reaching;
 mod writing;
 
 pub use builder::Builder;
+pub use cutting::write_cut;
 pub use fault::NoMemory;
 pub use group::Group;
 pub use merging::merge;
