@@ -15,18 +15,20 @@ use Rattle.yd_ids.specs.declared.id.Id.{Id}
 use Rattle.yd_ids.specs.declared.id.Span.{Span}
 use Rattle.yd_ops.specs.Operation.{ArePartners, IsHighUnit, Operation, UnitContent, later_id, text_unit}
 use Rattle.yd_ops.specs.Valid.{IsValidContent}
-use Rattle.yd_ops.specs.Value.{ContentValue, any, binary, deleted, embed, format, json, nested, string}
+use Rattle.yd_ops.specs.Value.{ContentValue, UpdateValue, any, binary, deleted, embed, format, json, nested, string}
 use Rattle.yd_ops.specs.View.{content_value}
 use Rattle.yd_ops.specs.declared.runs.Run.{Run}
 use Rattle.yd_updates.specs.Pairs.{is_high, is_low}
+use Rattle.yd_updates.specs.Received.{groups_of, received_set, with_groups}
 use Rattle.yd_updates.proofs.MendingLemmas.{HasPartners, paired_has}
 use Rattle.yd_updates.proofs.PartnerLemmas.{IsHalf, high_partner, high_unit, low_unit}
 use Rattle.yd_grouping.specs.Building.{Built, all_pushed, finished, nothing_built, with_pushed}
 use Rattle.yd_grouping.specs.Grouped.{grouping_of}
 use Rattle.yd_grouping.specs.Groups.{Group}
-use Rattle.yd_grouping.specs.Merged.{cut_of, is_cut_in}
+use Rattle.yd_grouping.specs.Merged.{cut_of, cut_update, is_cut_in}
 use Rattle.yd_grouping.proofs.CutLemmas.{IsKept, cut_is, cut_passes}
 use Rattle.yd_received.specs.Entries.{AreInOrder, AreTaken, IsTakenOf, IsTold, PartsPair, StandsBefore, TellsRight, list_at, operations_in, operations_of_taken, operations_told, units_of}
+use Rattle.yd_received.specs.Received.{ReceivedValue, taken_of}
 use Rattle.yd_received.specs.Splitting.{IsSplittable, PartsPairOf, back_of, front_of}
 use Rattle.yd_received.specs.declared.entry.Entry.{Entry}
 use Rattle.yd_received.proofs.CutLemmas.{cut_high, high_cut}
@@ -417,3 +419,10 @@ all_cut runs vector ts i built deletes taken le e =
 -- what is pushed of an entry is taken of the runs
 pub part_taken : (runs : List Run) (clock : ℕ) (t u : Entry) (n : ℕ) → IsTakenOf runs t → n ≡ left_out runs clock t → n < t.len → u ≡ behind t n → IsTakenOf runs u
 part_taken runs clock t u n is e lt f = subst (IsTakenOf runs) (sym f) (behind_taken runs clock t is n (subst (IsLeftOut runs clock t) (sym e) (is_left_out runs clock t is)) lt)
+
+-- what was received of an update alone, cut and with its deletions, is the update's cut
+pub cut_received : (update : UpdateValue) (old r : ReceivedValue) (part : UpdateValue) (vector : ℕ → ℕ) (deletes : List Span) → old ≡ record { runs = []; entries = [] } →
+    taken_of r ≡ with_groups (groups_of update) (taken_of old) → deletes ≡ (received_set (update ∷ [])).deletes → part ≡ grouping_of (cut_of (taken_of r) vector) deletes →
+    part ≡ cut_update update vector
+cut_received update old r part vector deletes none took named e = e
+    ∙ ap₂ (λ os ds. grouping_of (cut_of os vector) ds) (took ∙ ap (λ o. with_groups (groups_of update) (taken_of o)) none) named

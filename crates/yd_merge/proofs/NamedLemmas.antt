@@ -100,3 +100,7 @@ note_next {X} f front xs i x old new says lt at e = ap (λ ss. ss ++ f (drop (i 
 pub all_noted : (updates : List Update) (i : ℕ) (spans : List Span) → length updates ≤ i →
     spans ++ all_named (map update_value (drop i updates)) ≡ all_named (map update_value updates) → spans ≡ all_named (map update_value updates)
 all_noted updates i spans le e = sym (append-nil spans) ∙ ap (λ us. spans ++ all_named (map update_value us)) (sym (drop_all i updates le)) ∙ e
+
+-- what one update names alone
+pub one_noted : (update : UpdateValue) (old new : List Span) → old ≡ [] → new ≡ old ++ named_spans update → new ≡ all_named (update ∷ [])
+one_noted update old new none e = e ∙ ap (λ ss. ss ++ named_spans update) none ∙ sym (append-nil (named_spans update))

@@ -2,10 +2,11 @@
 
 ghost use Rattle.std.specs.Prelude.{◌≡◌, ◌<◌, map, IfOk, OnOk};
 ghost use Rattle.yd_ids.specs.Vector.{clock_of};
+ghost use Rattle.yd_ops.specs.Valid.{IsValidUpdate};
 ghost use Rattle.yd_ops.specs.View.{content_value, update_value};
 ghost use Rattle.yd_grouping.specs.Building.{all_pushed};
 ghost use Rattle.yd_grouping.specs.Grouped.{grouping_of};
-ghost use Rattle.yd_grouping.specs.Merged.{cut_of};
+ghost use Rattle.yd_grouping.specs.Merged.{cut_of, cut_update};
 ghost use Rattle.yd_received.specs.Entries.{AreTaken, IsTakenOf, operations_in};
 ghost use Rattle.yd_received.specs.Received.{taken_of};
 ghost use Rattle.yd_received.specs.Splitting.{IsSplittable};
@@ -15,11 +16,29 @@ ghost use Rattle.yd_merge.specs.Told.{group_of_entry};
 
 use crate::builder::Builder;
 use crate::fault::NoMemory;
+use crate::naming::named_in;
 use crate::parts::group_of;
 use std::alloc::Global;
 use yd_ids::{Id, IdSet, Vector};
 use yd_ops::{Content, Run, Update};
 use yd_received::{Entry, Received};
+
+/// What an update says from a vector on, and all its deletions, as one grouped update (Yjs 13,
+/// diffUpdate; that it keeps pairs whole is own): the operations whose clock is not below their
+/// client's clock in the vector, and the high half of a pair whose low half has that clock. The cut
+/// and what lies below it give the whole (`yd_grouping::law::cuts_give_the_whole`).
+pub fn cut(alloc: Global, update: &Update, vector: &Vector) -> Result<Update, NoMemory>
+    requires { IsValidUpdate (update_value update.now) }
+    ensures cut { IfOk result (λ cut. update_value cut
+        ≡ cut_update (update_value update.now) (clock_of vector.now)) }
+    ensures valid { IfOk result (λ cut. IsValidUpdate (update_value cut)) }
+{
+    let mut received = Received::new(alloc);
+    received.take(update)?;
+    let deletes = named_in(alloc, update)?;
+    let cut = write_cut(alloc, &received, vector, deletes)?;
+    Ok(cut)
+}
 
 /// What was received from a vector on, as one grouped update with these deletions: the operations
 /// whose clock is not below their client's clock in the vector, and the high half of a pair whose low

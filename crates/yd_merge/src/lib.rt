@@ -26,7 +26,7 @@ mod reaching;
 mod writing;
 
 pub use builder::Builder;
-pub use cutting::write_cut;
+pub use cutting::{cut, write_cut};
 pub use fault::NoMemory;
 pub use group::Group;
 pub use merging::merge;

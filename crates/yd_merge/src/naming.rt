@@ -1,6 +1,6 @@
 //! What updates delete by name.
 
-ghost use Rattle.std.specs.Prelude.{◌≡◌, ◌++◌, map, IfOk, OnOk};
+ghost use Rattle.std.specs.Prelude.{◌≡◌, [], ◌∷◌, ◌++◌, map, IfOk, OnOk};
 ghost use Rattle.yd_words.specs.Each.{Each};
 ghost use Rattle.yd_ops.specs.Valid.{IsValidBlock, IsValidUpdate};
 ghost use Rattle.yd_ops.specs.View.{content_value, struct_value, block_value, update_value};
@@ -23,6 +23,18 @@ pub fn named_by(alloc: Global, updates: &[Update]) -> Result<IdSet, NoMemory>
     for update in updates {
         note_update(&mut spans, update)?;
     }
+    let named = IdSet::of_spans(alloc, spans)?;
+    Ok(named)
+}
+
+/// The ids that an update deletes by name, in the time of sorting the spans that it spells.
+pub fn named_in(alloc: Global, update: &Update) -> Result<IdSet, NoMemory>
+    requires { IsValidUpdate (update_value update.now) }
+    ensures { IfOk result (λ named. named
+        ≡ (received_set (update_value update.now ∷ [])).deletes) }
+{
+    let mut spans = Vec::new(alloc);
+    note_update(&mut spans, update)?;
     let named = IdSet::of_spans(alloc, spans)?;
     Ok(named)
 }
