@@ -71,7 +71,7 @@ cut_passes os vector o from = (cut_decides os vector o).1 from
 
 -- ---- what a cut keeps
 
-filter_written : (test : Operation → Bool) (os : List Operation) → IsWritten os → IsWritten (filter test os)
+pub filter_written : (test : Operation → Bool) (os : List Operation) → IsWritten os → IsWritten (filter test os)
 filter_written test [] w = tt
 filter_written test (o ∷ os) w = go (test o) (filter_written test os w.1)
   where

@@ -18,6 +18,7 @@ pub mod MergedIdsLemmas
 pub mod MergedPartsLemmas
 pub mod ReachLemmas
 pub mod ReplyLemmas
+pub mod RestLemmas
 pub mod SamenessLemmas
 pub mod SideLemmas
 pub mod SingleLemmas

@@ -23,7 +23,7 @@ use Rattle.yd_grouping.specs.Disagreement.{BreaksAgreement, disagreement_of}
 use Rattle.yd_grouping.specs.Groupable.{AreGroupable}
 use Rattle.yd_grouping.specs.Grouped.{IsGrouped, blocks_of, end_of, grouping_of}
 use Rattle.yd_grouping.specs.Groups.{AreApart, Group, IsGroup, gathered, group_joins, groups_for, joined_group, met, operations_of_group, operations_of_groups, size_of, start_of}
-use Rattle.yd_grouping.specs.Merged.{cut_of, cut_update, merge_of, merges_of, reply_of, updates_of}
+use Rattle.yd_grouping.specs.Merged.{cut_of, cut_update, is_cut_in, merge_of, merges_of, reply_of, rest_of, updates_of}
 use Rattle.yd_grouping.specs.Reach.{reach_of}
 
 -- ---- groups, as a builder makes them
@@ -136,6 +136,15 @@ pub record UpdatesAreCut : Type 0 where
   pub valid : (update : UpdateValue) (vector : ℕ → ℕ) → IsValidUpdate update → IsValidUpdate (cut_update update vector)
   pub grouped : (update : UpdateValue) (vector : ℕ → ℕ) → IsValidUpdate update → IsGrouped (cut_update update vector)
   pub again : (update : UpdateValue) (vector : ℕ → ℕ) → IsValidUpdate update → cut_update (cut_update update vector) vector ≡ cut_update update vector
+
+-- each operation is in the cut or below it, and what lies below can be grouped too. An update of what lies below, which deletes no
+-- other ids than the whole does, gives with the cut the whole
+pub record CutsGiveTheWhole : Type 0 where
+  pub operations : (os : List Operation) (vector : ℕ → ℕ) (o : Operation) → IsIn o (rest_of os vector) ↔ (IsIn o os × (is_cut_in os vector o ≡ false))
+  pub groupable : (os : List Operation) (vector : ℕ → ℕ) → AreGroupable os → AreGroupable (rest_of os vector)
+  pub whole : (update below : UpdateValue) (vector : ℕ → ℕ) → IsValidUpdate update → IsValidUpdate below →
+      operations_of below ≡ rest_of (received_set (update ∷ [])).operations vector → ((x : Id) → HasId (deletes_of below) x → HasId (deletes_of update) x) →
+      received_set (below ∷ cut_update update vector ∷ []) ≡ received_set (update ∷ [])
 
 -- ---- reach
 

@@ -1,5 +1,5 @@
 -- Merges, cuts and replies (Yjs 13, mergeUpdates, diffUpdate and encodeStateAsUpdate; that they are grouped, and that a cut keeps pairs whole, is own).
-use Rattle.std.specs.Prelude.{ℕ, ◌++◌, Bool, false, ◌&&◌, ◌||◌, List, [], ◌∷◌, filter, nat_eq, nat_le}
+use Rattle.std.specs.Prelude.{ℕ, ◌++◌, Bool, false, ◌&&◌, ◌||◌, List, [], ◌∷◌, filter, nat_eq, nat_le, not}
 use Rattle.yd_ids.specs.Set.{union_of}
 use Rattle.yd_ids.specs.declared.id.Span.{Span}
 use Rattle.yd_ops.specs.Operation.{Operation}
@@ -40,6 +40,10 @@ is_cut_in os vector o = nat_le (vector o.id.client.0) o.id.clock || has_partner_
 -- the cut: the operations from a vector on
 abbrev pub cut_of : List Operation → (ℕ → ℕ) → List Operation
 cut_of os vector = filter (is_cut_in os vector) os
+
+-- what lies below the cut: the operations that are not in it
+abbrev pub rest_of : List Operation → (ℕ → ℕ) → List Operation
+rest_of os vector = filter (λ o. not (is_cut_in os vector o)) os
 
 -- an update that is cut: what it has from a vector on, with all its deletions, grouped
 abbrev pub cut_update : UpdateValue → (ℕ → ℕ) → UpdateValue

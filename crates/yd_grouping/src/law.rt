@@ -1,6 +1,6 @@
 //! The laws of grouping, each the contract of an empty function.
 
-ghost use Rattle.yd_grouping.specs.Law.{GroupsMeet, BlocksAreBuilt, BuilderGroups, GroupingKeeps, GroupedIsOne, ReceivedIsGroupable, GroupedIsReceived, MergeIsReceived, MergeIsReceivingAll, CutsAreFromVector, UpdatesAreCut, ReachIsGap, RepliesAreValid, RepliesComplete, DisagreementIsSmallest, CoverIsEnough};
+ghost use Rattle.yd_grouping.specs.Law.{GroupsMeet, BlocksAreBuilt, BuilderGroups, GroupingKeeps, GroupedIsOne, ReceivedIsGroupable, GroupedIsReceived, MergeIsReceived, MergeIsReceivingAll, CutsAreFromVector, UpdatesAreCut, CutsGiveTheWhole, ReachIsGap, RepliesAreValid, RepliesComplete, DisagreementIsSmallest, CoverIsEnough};
 
 /// The groups for two lists are those of each, joined at the border where the rule says so.
 pub fn groups_meet()
@@ -55,6 +55,11 @@ pub fn cuts_are_from_vector()
 /// An update is cut to a valid grouped one, with all its deletions.
 pub fn updates_are_cut()
     ensures { UpdatesAreCut }
+{}
+
+/// What lies below a cut and the cut give the whole.
+pub fn cuts_give_the_whole()
+    ensures { CutsGiveTheWhole }
 {}
 
 /// The vector of an update has of each client the smallest clock that no operation has.
