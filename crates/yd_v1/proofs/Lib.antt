@@ -3,6 +3,7 @@ pub mod FileLemmas
 pub mod FitLemmas
 pub mod LogLemmas
 pub mod LogWrittenLemmas
+pub mod PlaceLemmas
 pub mod SpellsLemmas
 pub mod VectorWrittenLemmas
 pub mod WrittenLemmas

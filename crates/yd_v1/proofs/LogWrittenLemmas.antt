@@ -1,8 +1,13 @@
 -- A written log is read again.
 use Rattle.std.proofs.Common.{◌≡◌, ◌∙◌, ◌+◌, ◌<◌, ◌≤◌, ℕ, List, [], ◌∷◌, ◌++◌, length, map, take, get_or, append-nil, append_assoc, refl, sym, ap, subst, arith}
+use Rattle.std.specs.Prelude.{None}
 use Rattle.std.proofs.lemmas.List.{get_or-map, length-map, map-append, take_all, take_more}
 use Rattle.yd_num.proofs.WrittenLemmas.{blob_spells}
 use Rattle.yd_num.specs.Writing.{shortest_blob}
+use Rattle.yd_fields.proofs.UpdateExpectLemmas.{update_expects}
+use Rattle.yd_fields.specs.UpdateFields.{fields_of_update}
+use Rattle.yd_fields.specs.UpdatePlan.{update_plan}
+use Rattle.yd_fields.specs.Writes.{with_fields}
 use Rattle.yd_words.proofs.EachLemmas.{each_append, each_at}
 use Rattle.yd_words.specs.Each.{Each}
 use Rattle.yd_ops.specs.Valid.{IsValidUpdate}
@@ -11,6 +16,9 @@ use Rattle.yd_ops.specs.View.{update_value}
 use Rattle.yd_ops.specs.declared.updates.Update.{Update}
 use Rattle.yd_parts.specs.Part.{Unread, all_of, behind}
 use Rattle.yd_parts.specs.declared.fault.Column.TheVariants.{Whole}
+use Rattle.yd_v1.proofs.WrittenLemmas.{with_v1_bytes, written_fills}
+use Rattle.yd_v1.specs.Bytes.{V1Spells, v1_bytes}
+use Rattle.yd_v1.specs.Grammar.{StandsForV1}
 use Rattle.yd_v1.specs.Log.{AreEntries, StandsBody, StandsForLog}
 use Rattle.yd_v1.specs.LogWriting.{AreBodies, IsBody, LogsComeBack, body_of, log_bytes, log_of}
 
@@ -72,3 +80,14 @@ written_all updates count log all front =
     let us = map update_value updates in
     let each : Each (λ u. IsBody (body_of u) u) us = subst (λ (list : List Update). Each (λ u. IsBody (body_of u) u) (map update_value list)) whole front.again in
     subst (λ (l : List ℕ). StandsForLog l us) (sym (front.written ∙ ap (λ (list : List Update). log_bytes (map update_value list)) whole)) (logs_back (map body_of us) us (are_bodies us each))
+
+-- the body of an update was made behind no byte
+pub record MakesBody (body : List ℕ) (u : UpdateValue) : Type 0 where
+  pub body_is : body ≡ body_of u
+  pub stands : StandsForV1 (body_of u) u
+
+pub body_made : (u : UpdateValue) (none body : List ℕ) → IsValidUpdate u → none ≡ [] → body ≡ with_fields (λ f bytes. bytes ++ v1_bytes f) (fields_of_update u) none → Each V1Spells (fields_of_update u) → MakesBody body u
+body_made u none body valid is_none made spelled = record {
+  body_is = made ∙ ap (λ (old : List ℕ). with_fields (λ f bytes. bytes ++ v1_bytes f) (fields_of_update u) old) is_none ∙ with_v1_bytes (fields_of_update u) [];
+  stands = written_fills (fields_of_update u) (update_plan None) u (update_expects u valid) spelled;
+}

@@ -1,5 +1,5 @@
 -- Log files (own): updates in V1, each in a byte string, up to the end of the file. The grammar first, and then how a log is read.
-use Rattle.std.specs.Prelude.{◌≡◌, ◌≢◌, ◌⊎◌, ℕ, zero, suc, ◌+◌, ◌-◌, List, [], ◌∷◌, ◌++◌, length, Result, Ok, Err}
+use Rattle.std.specs.Prelude.{◌≡◌, ◌≢◌, ◌⊎◌, ℕ, zero, suc, ◌+◌, ◌-◌, ◌<◌, ◌^◌, List, [], ◌∷◌, ◌++◌, length, Result, Ok, Err}
 use Rattle.yd_ops.specs.Valid.{IsValidUpdate}
 use Rattle.yd_ops.specs.Value.{UpdateValue}
 use Rattle.yd_ops.specs.View.{update_value}
@@ -90,8 +90,14 @@ pub record TakesEntry (old new : Unread) (before after : List Update) : Type 0 w
   pub valid : IsValidUpdate (update_value update)
   pub list : after ≡ before ++ update ∷ []
 
--- the error of a body that begins at this place of the file, as it is in the file; or memory was wanted
+-- the error of a body that begins at this place of the file is at a place of the file that has a number; want of memory has none
+abbrev pub HasPlace : ℕ → ReadError → Type 0
+HasPlace start errors.NoMemory = Unit {0}
+HasPlace start (errors.Fault cause spot) = start + spot.at < 2 ^ 64
+
+-- the error of a body that begins at this place of the file, as it is in the file
 abbrev pub IsMoved : ℕ → ReadError → ReadError → Type 0
-IsMoved start error errors.NoMemory = Unit {0}
+IsMoved start errors.NoMemory errors.NoMemory = Unit {0}
+IsMoved start (errors.Fault why at) errors.NoMemory = ⊥
 IsMoved start errors.NoMemory (errors.Fault cause spot) = ⊥
 IsMoved start (errors.Fault why at) (errors.Fault cause spot) = in_file start (record { cause = why; spot = at }) ≡ record { cause = cause; spot = spot }

@@ -1,12 +1,12 @@
 //! Log files, read.
 
-ghost use Rattle.std.specs.Prelude.{map, IfOk, OnOk};
+ghost use Rattle.std.specs.Prelude.{◌+◌, ◌<◌, ◌^◌, length, map, IfOk, OnOk};
 ghost use Rattle.yd_words.specs.Each.{Each};
 ghost use Rattle.yd_ops.specs.Valid.{IsValidUpdate};
 ghost use Rattle.yd_ops.specs.View.{update_value};
 ghost use Rattle.yd_parts.specs.Fault.{FailsAs, Gives, Makes};
 ghost use Rattle.yd_reading.specs.Answer.{ReadsWhole};
-ghost use Rattle.yd_v1.specs.Log.{HasFirstFaultLog, IsMoved, StandsForLog, TakesEntry, entry_at, log_reading, read_in_file};
+ghost use Rattle.yd_v1.specs.Log.{HasFirstFaultLog, HasPlace, IsMoved, StandsForLog, TakesEntry, entry_at, log_reading, read_in_file};
 ghost use Rattle.yd_v1.specs.Reading.{v1_reading};
 
 use crate::logs::UpdateList;
@@ -67,6 +67,7 @@ fn read_entry(alloc: Global, parts: &mut Parts<'_>) -> Result<Update, ReadError>
 }
 
 fn read_body(alloc: Global, body: &[u8], start: u64) -> Result<Update, ReadError>
+    requires { start + length body.now < 2 ^ 64 }
     ensures made { Makes update_value result (read_in_file start (v1_reading body.now)) }
     ensures valid { IfOk result (λ update. IsValidUpdate (update_value update)) }
 {
@@ -76,20 +77,18 @@ fn read_body(alloc: Global, body: &[u8], start: u64) -> Result<Update, ReadError
     }
 }
 
-// A spot of 2^64 or more finds no memory.
+// The error as it is in the file.
 fn moved(error: ReadError, start: u64) -> ReadError
+    requires { HasPlace start error }
     ensures { IsMoved start error result }
 {
     match error {
         ReadError::NoMemory => ReadError::NoMemory,
-        ReadError::Fault { cause, spot } => match start.checked_add(spot.at) {
-            None => ReadError::NoMemory,
-            Some(at) => ReadError::Fault {
-                cause,
-                spot: Spot {
-                    column: spot.column,
-                    at,
-                },
+        ReadError::Fault { cause, spot } => ReadError::Fault {
+            cause,
+            spot: Spot {
+                column: spot.column,
+                at: start + spot.at,
             },
         },
     }

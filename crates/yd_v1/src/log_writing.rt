@@ -8,8 +8,9 @@ ghost use Rattle.yd_ops.specs.View.{update_value};
 ghost use Rattle.yd_v1.specs.Log.{StandsForLog};
 ghost use Rattle.yd_v1.specs.LogWriting.{IsBody, body_of, log_bytes};
 
-use crate::writing::write_v1;
+use crate::writer::V1Writer;
 use std::alloc::Global;
+use yd_fields::write_update;
 use yd_num::Bytes;
 use yd_ops::Update;
 use yd_parts::NoMemory;
@@ -23,21 +24,28 @@ pub fn write_log(alloc: Global, updates: &[Update]) -> Result<Vec<u8>, NoMemory>
         StandsForLog bytes.items (map update_value updates.now)) }
 {
     let mut log = Bytes::new(alloc);
+    let mut body = V1Writer::new(alloc);
     for update in updates {
-        write_entry(alloc, update, &mut log)?;
+        write_entry(alloc, update, &mut body, &mut log)?;
     }
     Ok(log.into_vec())
 }
 
-// Appends the entry of one update.
-fn write_entry(alloc: Global, update: &Update, log: &mut Bytes) -> Result<(), NoMemory>
+// Appends the entry of one update. Its body is made in the memory of those before.
+fn write_entry(
+    alloc: Global,
+    update: &Update,
+    body: &mut V1Writer,
+    log: &mut Bytes,
+) -> Result<(), NoMemory>
     requires { IsValidUpdate (update_value update.now) }
     ensures appended { OnOk result
         (log.new ≡ log.old ++ shortest_blob (body_of (update_value update.now))) }
     ensures again { OnOk result
         (IsBody (body_of (update_value update.now)) (update_value update.now)) }
 {
-    let body = write_v1(alloc, update)?;
-    log.push_blob(&body)?;
+    body.clear();
+    write_update(alloc, update, body)?;
+    log.push_blob(body.as_slice())?;
     Ok(())
 }

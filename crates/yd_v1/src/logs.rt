@@ -46,11 +46,16 @@ impl UpdateList {
         Ok(())
     }
 
-    /// Appends the updates of another list. Where they find no memory, they are dropped.
+    /// Appends the updates of another list. Where they find no memory, they are dropped. Behind no
+    /// update they stay where they are.
     pub fn append(&mut self, other: UpdateList) -> Result<(), NoMemory>
         ensures appended { OnOk result (self.new ≡ self.old ++ other) }
         ensures unchanged { OnErr result (self.new ≡ self.old) }
     {
+        if self.updates.is_empty() {
+            self.updates = other.updates;
+            return Ok(());
+        }
         let mut more = other;
         self.updates.append(&mut more.updates)?;
         Ok(())

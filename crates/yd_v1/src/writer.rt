@@ -35,6 +35,20 @@ impl V1Writer {
             bytes: Bytes::new(alloc),
         }
     }
+
+    // The bytes of the fields that were written.
+    pub(crate) fn as_slice(&self) -> &[u8]
+        ensures { result.now ≡ self.now }
+    {
+        self.bytes.as_slice()
+    }
+
+    // No field again, and the memory stays.
+    pub(crate) fn clear(&mut self)
+        ensures { self.new ≡ [] }
+    {
+        self.bytes.truncate(0);
+    }
 }
 
 impl FieldWriter for V1Writer {
