@@ -121,6 +121,7 @@ impl Lists {
             result ≡ Some k }
         ensures found { IfSome result (λ k.
             (k < length self.now.lists) × IsIn place (list_at self.now k)) }
+        ensures lists { AreLists self.now }
     {
         self.chains.chain_of(place)
     }

@@ -1,0 +1,4 @@
+pub mod TotalLemmas
+pub mod CountLemmas
+pub mod BorderLemmas
+pub mod MarkLemmas
