@@ -224,6 +224,13 @@ module _ {old ls : List Lined} {i k : ℕ} (s : IsSeat old ls i k) {line : Lined
         ];
       }
 
+  -- no client loses room
+  pub put_rooms : (new : Lined) → new.client ≡ line.client → line.room ≤ new.room → (j : ℕ) → room_of old j ≤ room_of (set ls i new) j
+  put_rooms new e h j = elim (eq_says j k) [
+    | inl x ↦ subst (λ m. room_of old m ≤ room_of (set ls i new) m) (sym x.1) (omega (arith, h, room_seen, put_room new e))
+    | inr x ↦ put_other_room new e j x.1
+  ]
+
 pub on_err : {T E : Type 0} (r : Result T E) (P : Type 0) → P → OnErr r P
 on_err (Ok x) P p = tt
 on_err (Err e) P p = p

@@ -1,5 +1,5 @@
 -- The index of a client: entries that fill the clocks from 0 on, and what is found there (own).
-use Rattle.std.specs.Prelude.{◌≡◌, ◌<◌, ℕ, nat_lt, List, [], ◌∷◌, Option, Some, None, if◌then◌else◌}
+use Rattle.std.specs.Prelude.{◌≡◌, ◌<◌, ℕ, nat_eq, nat_lt, List, [], ◌∷◌, Option, Some, None, if◌then◌else◌}
 use Rattle.yd_index.specs.declared.line.Entry.{Entry}
 
 -- whose entries they are, the entries, the clock behind the last run, and how many more cannot fail
@@ -31,11 +31,23 @@ with_cut (e ∷ es) next clock place =
     if nat_lt clock (begin es next) then e ∷ record { clock = clock; place = place } ∷ es
     else e ∷ with_cut es next clock place
 
+-- the entries without the one that begins at a clock
+abbrev pub without_cut : List Entry → ℕ → List Entry
+without_cut [] clock = []
+without_cut (e ∷ es) clock = if nat_eq e.clock clock then es else e ∷ without_cut es clock
+
 -- the clock stands in an entry and is not its first
 pub record IsInside (entries : List Entry) (next clock : ℕ) : Type 0 where
   pub entry : Entry
   pub found : entry_in entries next clock ≡ Some entry
   pub behind_first : entry.clock < clock
+
+-- an entry begins at the clock, which is not the first of all
+pub record Begins (entries : List Entry) (next clock : ℕ) : Type 0 where
+  pub entry : Entry
+  pub found : entry_in entries next clock ≡ Some entry
+  pub begins : entry.clock ≡ clock
+  pub later : 0 < clock
 
 -- all but the room is as before
 pub record IsSame (old new : Lined) : Type 0 where

@@ -2,7 +2,7 @@
 use Rattle.std.specs.Prelude.{◌≡◌, ◌≢◌, ◌<◌, ◌≤◌, ◌+◌, ◌++◌, ℕ, suc, nat_eq, List, [], ◌∷◌, Option, Some, None, if◌then◌else◌, length, HoldsAt}
 use Rattle.yd_ids.specs.declared.id.Id.{Id}
 use Rattle.yd_index.specs.declared.line.Entry.{Entry}
-use Rattle.yd_index.specs.Line.{Lined, entry_in, with_cut}
+use Rattle.yd_index.specs.Line.{Lined, entry_in, with_cut, without_cut}
 
 -- the clients ascend from a number on
 abbrev pub AreLines : ℕ → List Lined → Type 0
@@ -73,6 +73,10 @@ Adds old new client place len =
 abbrev pub Cuts : List Lined → List Lined → Id → ℕ → Type 0
 Cuts old new id place =
     Changes old new id.client.0 (with_cut (entries_of old id.client.0) (next_of old id.client.0) id.clock place) (next_of old id.client.0)
+
+-- the run with an id is one with the run before it again
+abbrev pub Uncuts : List Lined → List Lined → Id → Type 0
+Uncuts old new id = Changes old new id.client.0 (without_cut (entries_of old id.client.0) id.clock) (next_of old id.client.0)
 
 -- all entries and next clocks are the old ones, and there is no less room
 pub record KeepsLines (old new : List Lined) : Type 0 where

@@ -1,8 +1,8 @@
 //! The index of all clients, a line for each.
 
 ghost use Rattle.std.specs.Prelude.{◌≡◌, ◌≢◌, ◌<◌, ◌≤◌, ◌+◌, ◌^◌, [], ℕ, OnOk, OnErr, IsOk};
-ghost use Rattle.yd_index.specs.Line.{IsInside};
-ghost use Rattle.yd_index.specs.Lines.{entries_of, next_of, room_of, entry_at, Adds, Cuts, Stays, KeepsLines};
+ghost use Rattle.yd_index.specs.Line.{IsInside, Begins};
+ghost use Rattle.yd_index.specs.Lines.{entries_of, next_of, room_of, entry_at, Adds, Cuts, Uncuts, Stays, KeepsLines};
 
 use crate::line::{Entry, Line};
 use crate::lines::{seat, seat_made};
@@ -90,11 +90,25 @@ impl Index {
         requires { IsInside (entries_of self.old id.client.0) (next_of self.old id.client.0) id.clock }
         ensures done { OnOk result (Cuts self.old self.new id place) }
         ensures unchanged { OnErr result (Stays self.old self.new id.client.0) }
+        ensures other_rooms { (k : ℕ) → k ≢ id.client.0 → room_of self.old k ≤ room_of self.new k }
     {
         let Some(i) = seat(&self.lines, id.client) else {
             return Err(AllocError);
         };
         self.lines[i].cut(id.clock, place)?;
         Ok(())
+    }
+
+    /// Undoes a cut: the run that begins with this id, which is not its client's first, is one with
+    /// the run before it again. It takes no memory, and no room is lost.
+    pub fn uncut(&mut self, id: Id)
+        requires { Begins (entries_of self.old id.client.0) (next_of self.old id.client.0) id.clock }
+        ensures done { Uncuts self.old self.new id }
+        ensures rooms { (k : ℕ) → room_of self.old k ≤ room_of self.new k }
+    {
+        let Some(i) = seat(&self.lines, id.client) else {
+            unreachable!();
+        };
+        self.lines[i].uncut(id.clock);
     }
 }

@@ -2,7 +2,7 @@
 
 ghost use Rattle.std.specs.Prelude.{◌≡◌, ◌<◌, ◌≤◌, ◌+◌, ◌^◌, ◌++◌, ◌∷◌, [], Some, nat_lt, length, HoldsAt, IfSome, OnOk, OnErr, IsOk};
 ghost use Rattle.yd_pieces.specs.Pieces.{IsBoundary};
-ghost use Rattle.yd_index.specs.Line.{Fills, IsInside, entry_in, with_cut, IsSame};
+ghost use Rattle.yd_index.specs.Line.{Fills, IsInside, Begins, entry_in, with_cut, without_cut, IsSame};
 
 use std::alloc::{AllocError, Global};
 use std::marker::Model;
@@ -146,5 +146,18 @@ impl Line {
         let n = begun(&self.entries, clock);
         self.entries.insert(n, Entry { clock, place })?;
         Ok(())
+    }
+
+    /// Undoes a cut: the run that begins with this clock, which is not the first, is one with the run
+    /// before it again. It takes no memory.
+    pub fn uncut(&mut self, clock: u64)
+        requires { Begins self.old.entries self.old.next clock }
+        ensures client { self.new.client ≡ self.old.client }
+        ensures next { self.new.next ≡ self.old.next }
+        ensures entries { self.new.entries ≡ without_cut self.old.entries clock }
+        ensures room { self.old.room ≤ self.new.room }
+    {
+        let n = begun(&self.entries, clock);
+        let _ = self.entries.remove(n - 1);
     }
 }
