@@ -1,5 +1,5 @@
 -- The update of an edit is valid.
-use Rattle.std.proofs.Common.{◌≡◌, ◌+◌, ◌^◌, ℕ, Bool, true, false, List, [], ◌∷◌, ◌++◌, map, nat_le, Option, Some, None, inl, inr, refl, sym, subst, arith, tests}
+use Rattle.std.proofs.Common.{◌≡◌, ◌+◌, ◌^◌, ◌<◌, ℕ, Bool, true, false, List, [], ◌∷◌, ◌++◌, map, nat_le, Option, Some, None, inl, inr, refl, sym, subst, arith, tests}
 use Rattle.std.specs.Prelude.{IfSome, if◌then◌else◌}
 use Rattle.yd_words.specs.Each.{Each}
 use Rattle.yd_words.specs.Member.{IsIn}
@@ -12,7 +12,7 @@ use Rattle.yd_ids.specs.Set.{AreMaximal}
 use Rattle.yd_ids.proofs.UnionLemmas.{union_maximal}
 use Rattle.yd_ops.specs.declared.lists.List.{List as DocList}
 use Rattle.yd_ops.specs.Value.{ContentValue, len_of, RunValue, item}
-use Rattle.yd_ops.specs.Valid.{IsParent, CarriesList, AreStructsFrom, IsValidBlock}
+use Rattle.yd_ops.specs.Valid.{IsParent, CarriesList, AreStructsFrom, IsValidBlock, IsValidContent}
 use Rattle.yd_ops.specs.Operation.{Operation, operations_of_run}
 use Rattle.yd_updates.specs.Received.{has_operation, Received, IsWritten}
 use Rattle.yd_updates.specs.Law.{IsReceived}
@@ -26,7 +26,7 @@ use Rattle.yd_meaning.proofs.StandingLemmas.{standing_in}
 use Rattle.yd_meaning.proofs.VectorLemmas.{held_written}
 use Rattle.yd_editing.specs.Step.{Step, make, remove, clock_full}
 use Rattle.yd_editing.specs.Basis.{basis_of}
-use Rattle.yd_editing.specs.Made.{units_up_to, units_behind, id_of_first, put_behind, list_where_alone, run_of_step, lists_with, runs_of, block_of_runs, removed_by}
+use Rattle.yd_editing.specs.Made.{units_up_to, units_behind, id_of_first, put_behind, list_where_alone, run_of_step, lists_with, runs_of, block_of_runs, runs_on, removed_by}
 use Rattle.yd_editing.specs.Refused.{first_of_steps, place_refusal, removal_refusal, pair_refusal, waiting_refusal, clock_refusal, refusal_of}
 use Rattle.yd_editing.specs.Law.{CanStep, IsStepInRange, IsValidEdit}
 use Rattle.yd_editing.proofs.OrderLemmas.{up_to_in, behind_in}
@@ -96,8 +96,13 @@ grown_in_range client clock lists name after content c fits in_range other o i =
     ]
     go false j = in_range other o j
 
+-- a step makes what is in range: a valid content of at least one unit for a list whose parent is in range
+abbrev pub MakesInRange : Step → Type 0
+MakesInRange (make name after content) = IsValidContent content × (0 < len_of content) × IsParent name.parent
+MakesInRange (remove spans) = Unit {0}
+
 structs_valid : (steps : List Step) (client : Client) (clock : ℕ) (lists : DocList → List Operation) → IsClient client → AreInRange lists → AreAfters steps →
-    Each IsStepInRange steps →
+    Each MakesInRange steps →
     clock_refusal clock steps ≡ None → AreStructsFrom client clock (map (λ r. item r) (runs_of client clock lists steps))
 structs_valid [] client clock lists c in_range afters each e = tt
 structs_valid (make name after content ∷ steps) client clock lists c in_range afters each e =
@@ -117,7 +122,7 @@ structs_valid (make name after content ∷ steps) client clock lists c in_range 
 structs_valid (remove spans ∷ steps) client clock lists c in_range afters each e = structs_valid steps client clock lists c in_range afters each.1 e
 
 blocks_valid : (steps : List Step) (client : Client) (clock : ℕ) (lists : DocList → List Operation) → IsClient client → AreInRange lists → AreAfters steps →
-    Each IsStepInRange steps →
+    Each MakesInRange steps →
     clock_refusal clock steps ≡ None → Each IsValidBlock (block_of_runs (runs_of client clock lists steps))
 blocks_valid [] client clock lists c in_range afters each e = tt
 blocks_valid (make name after content ∷ steps) client clock lists c in_range afters each e =
@@ -145,19 +150,20 @@ afters_of [] held can f = tt
 afters_of (make name after content ∷ steps) held can f = (if_some_map (λ y. IsIn y (order_of (standing held) name)) IsId after (f name) can.0.of_list, afters_of steps held can.1 f)
 afters_of (remove spans ∷ steps) held can f = afters_of steps held can.1 f
 
+-- what is in range makes what is so
+makes_in_range : (steps : List Step) → Each IsStepInRange steps → Each MakesInRange steps
+makes_in_range [] each = tt
+makes_in_range (make name after content ∷ steps) each = (each.0, makes_in_range steps each.1)
+makes_in_range (remove spans ∷ steps) each = (tt, makes_in_range steps each.1)
+
 -- ---- lemmas for callers
 
-pub valid_edit : (client : Client) (r : Received) (steps : List Step) → IsReceived r → Each IsStepInRange steps → IsClient client →
-    ((o : Operation) → IsIn o r.operations → IsId o.id) → refusal_of (basis_of client r) steps ≡ None → IsValidEdit client r steps
-valid_edit client r steps received each c ids done = record {
-  valid = record {
-    blocks = blocks_valid steps client (held_clock held client.0) (document_of r).units c (λ name o i. held_range o (written_units_stand held w name o i))
-        (afters_of steps held can (λ name y i. in_range name y i)) each (clocks_fit client r steps done);
-    deletes = removed_maximal steps each;
-  };
-  lefts = lefts_of (λ y. has_operation r.operations y ≡ true) steps client (held_clock held client.0) (document_of r).units held can
-      (λ name y i. ids_stay held r.operations y (λ o j. held_in r.operations o j) (written_held_id held w y ((written_in_list held w name y).0 i).0));
-}
+-- the made runs are valid, whatever is removed
+pub valid_blocks : (client : Client) (r : Received) (steps : List Step) → IsReceived r → Each MakesInRange steps → IsClient client →
+    ((o : Operation) → IsIn o r.operations → IsId o.id) → refusal_of (basis_of client r) steps ≡ None → Each IsValidBlock (block_of_runs (runs_on (basis_of client r) steps))
+valid_blocks client r steps received each c ids done =
+    blocks_valid steps client (held_clock held client.0) (document_of r).units c (λ name o i. held_range o (written_units_stand held w name o i))
+    (afters_of steps held can (λ name y i. in_range name y i)) each (clocks_fit client r steps done)
   where
     held : List Operation
     held = held_set r.operations
@@ -174,3 +180,23 @@ valid_edit client r steps received each c ids done = record {
     in_range : (name : DocList) (y : Id) → IsIn y (order_of (standing (held_set r.operations)) name) → IsId y
     in_range name y i = let (o, j, e) = operation_with (standing (held_set r.operations)) y ((written_in_list (held_set r.operations) w name y).0 i).0 in subst
         (λ x. IsId x) e (held_range o j)
+
+pub valid_edit : (client : Client) (r : Received) (steps : List Step) → IsReceived r → Each IsStepInRange steps → IsClient client →
+    ((o : Operation) → IsIn o r.operations → IsId o.id) → refusal_of (basis_of client r) steps ≡ None → IsValidEdit client r steps
+valid_edit client r steps received each c ids done = record {
+  valid = record {
+    blocks = valid_blocks client r steps received (makes_in_range steps each) c ids done;
+    deletes = removed_maximal steps each;
+  };
+  lefts = lefts_of (λ y. has_operation r.operations y ≡ true) steps client (held_clock held client.0) (document_of r).units held can
+      (λ name y i. ids_stay held r.operations y (λ o j. held_in r.operations o j) (written_held_id held w y ((written_in_list held w name y).0 i).0));
+}
+  where
+    held : List Operation
+    held = held_set r.operations
+
+    w : IsWritten (held_set r.operations)
+    w = held_written r.operations received.written
+
+    can : Each (CanStep (held_set r.operations)) steps
+    can = can_step client r w steps done

@@ -1,5 +1,5 @@
 -- Ids of a list that are in a row: the units that they lend are those of their entry.
-use Rattle.std.proofs.Common.{◌≡◌, ℕ, zero, suc, ◌+◌, ◌-◌, ◌<◌, ◌≤◌, Bool, true, false, List, [], ◌∷◌, ◌++◌, Some, length, take, drop, map, get_or, refl, sym, ap, ◌∙◌, subst, arith, true≢false}
+use Rattle.std.proofs.Common.{◌≡◌, ℕ, zero, suc, ◌+◌, ◌-◌, ◌^◌, ◌<◌, ◌≤◌, Bool, true, false, List, [], ◌∷◌, ◌++◌, Some, length, take, drop, map, get_or, refl, sym, ap, ◌∙◌, subst, arith, true≢false}
 use Rattle.std.specs.Prelude.{◌↔◌, slice_get, Decides}
 use Rattle.std.proofs.lemmas.Option.{slice_get-get_or}
 use Rattle.yd_words.specs.Member.{AreDistinct, IsIn}
@@ -7,7 +7,7 @@ use Rattle.yd_words.proofs.MemberLemmas.{each_in}
 use Rattle.yd_words.proofs.TestLemmas.{one_answer}
 use Rattle.yd_ids.specs.declared.id.Id.{Id}
 use Rattle.yd_ids.specs.declared.id.Span.{Span}
-use Rattle.yd_ids.specs.Id.{IsClock}
+use Rattle.yd_ids.specs.Id.{IsClient, IsClock}
 use Rattle.yd_ids.specs.Set.{HasId}
 use Rattle.yd_ops.specs.declared.runs.Run.{Run}
 use Rattle.yd_ops.specs.Operation.{UnitContent, Operation, later_id, units_of_content}
@@ -216,6 +216,10 @@ module _ (runs : List Run) (taken : List Entry) (are : AreTaken runs taken) (tol
         let many : length (units_of (slice_get runs t.run)) ≡ len_of (content_value (get_or runs t.run d).content) =
         ap (λ z. length (units_of z)) (run_there d) ∙ length-units_of_content (content_value (get_or runs t.run d).content) in
         (omega (arith, of_run.within), omega (arith, is.end))
+
+    -- its client is in range
+    pub client_within : IsClient id.client
+    client_within = subst (λ n. n < 2 ^ 53) (covers_less t id is_its).0 is.id.client
 
     pub place_within : (d : Run) → t.offset + skipped ≤ len_of (content_value (get_or runs t.run d).content)
     place_within d = let (client, low, high) = covers_less t id is_its in let inside = row_inside d 0 (omega arith) in omega (arith, inside.0)

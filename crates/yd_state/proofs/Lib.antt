@@ -7,6 +7,7 @@ pub mod FoundLemmas
 pub mod GatheringLemmas
 pub mod LastLemmas
 pub mod LendingLemmas
+pub mod LeftLemmas
 pub mod LentLemmas
 pub mod ListOrderLemmas
 pub mod ListedLemmas
@@ -19,6 +20,7 @@ pub mod NumberLemmas
 pub mod OneListLemmas
 pub mod PassLemmas
 pub mod SettledLemmas
+pub mod SoundLemmas
 pub mod SwappingLemmas
 pub mod TakenRowLemmas
 pub mod WaitingLemmas

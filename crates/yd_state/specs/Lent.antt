@@ -2,7 +2,7 @@
 use Rattle.std.specs.Prelude.{◌≡◌, ◌+◌, ◌≤◌, ℕ, zero, suc, Bool, List, [], ◌∷◌, Option, map, take, drop}
 use Rattle.yd_ids.specs.declared.id.Id.{Id}
 use Rattle.yd_ids.specs.declared.id.Span.{Span}
-use Rattle.yd_ids.specs.Id.{IsClock}
+use Rattle.yd_ids.specs.Id.{IsClient, IsClock}
 use Rattle.yd_ops.specs.declared.lists.List.{List as DocList}
 use Rattle.yd_ops.specs.declared.runs.Run.{Run}
 use Rattle.yd_ops.specs.Operation.{UnitContent, Operation, later_id, units_of_content}
@@ -46,6 +46,7 @@ units_of_view view = lent_from view.id view.deleted (take view.len (drop view.of
 -- the units of a piece are its content's, and their ids are in range
 pub record IsWithin (view : RunView) : Type 0 where
   pub units : view.offset + view.len ≤ len_of (content_value view.content.now)
+  pub client : IsClient view.id.client
   pub ids : IsClock (view.id.clock + view.len)
 
 -- the units in lists with these ids, in the order of the ids, as they are lent

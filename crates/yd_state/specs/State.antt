@@ -5,6 +5,7 @@ use Rattle.yd_ids.specs.declared.id.Span.{Span}
 use Rattle.yd_ids.specs.Set.{AreMaximal}
 use Rattle.yd_ops.specs.Operation.{Operation}
 use Rattle.yd_updates.specs.Received.{Received}
+use Rattle.yd_updates.specs.Law.{IsReceived}
 use Rattle.yd_meaning.specs.Held.{is_named}
 use Rattle.yd_meaning.specs.Deleted.{AreDeleteSet}
 use Rattle.yd_meaning.specs.Document.{Document, operations_at, keys_among}
@@ -36,8 +37,9 @@ document_in s = record {
   keys = keys_among (listed_of s);
 }
 
--- each part is what the received operations and deletions define
+-- each part is what the received operations and deletions define, and they are those of valid updates
 pub record IsSound (s : StateValue) : Type 0 where
+  pub received : IsReceived (received_in s)
   pub holds : HoldsAll s.held
   pub named : AreMaximal s.named
   pub ordered : AreOrders (listed_of s) s.held.names s.orders

@@ -65,6 +65,13 @@ impl<'a> Model for ListView<'a> {
 }
 
 impl<'a> ListView<'a> {
+    /// How many units are still to come, deleted ones too.
+    pub fn len(&self) -> usize
+        ensures { result ≡ length (units_left self.now) }
+    {
+        self.order.len()
+    }
+
     /// The next units, at least one, or none where no unit is left. It takes no memory, and a few
     /// look-ups by bisection for the first unit and one for each unit that it lends.
     pub fn next(&mut self) -> Option<RunView<'a>>

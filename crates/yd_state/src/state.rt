@@ -27,6 +27,7 @@ use std::marker::Model;
 use yd_held::Held;
 use yd_ids::{Id, IdSet, Vector};
 use yd_ops::{List, Update};
+use yd_received::Received;
 
 /// What was received and is held, the lists of what stands of it in order, and what is deleted.
 #[derive(Drop)]
@@ -105,6 +106,14 @@ impl State {
                 Err(NoMemory)
             }
         }
+    }
+
+    /// What was received, as it is kept.
+    pub fn received(&self) -> &Received
+        ensures received { result.now ≡ self.now.held.received }
+        ensures sound { IsSound self.now }
+    {
+        self.held.received()
     }
 
     /// The state vector: the clock up to which each client's units are held.

@@ -5,7 +5,7 @@ use Rattle.yd_received.specs.Entries.{AreTaken, covers, standing_in}
 use Rattle.yd_state.specs.Lending.{AreTold}
 use Rattle.yd_received.proofs.EntriesLemmas.{entry_at}
 use Rattle.yd_received.proofs.EntryLemmas.{no_entry}
-use Rattle.yd_state.proofs.LendingLemmas.{asked_named, listed_covered, place_within, row_inside, row_lent, row_within, lent_of}
+use Rattle.yd_state.proofs.LendingLemmas.{asked_named, listed_covered, client_within, place_within, row_inside, row_lent, row_within, lent_of}
 use Rattle.yd_state.proofs.listing.view_at.Goals as goal
 
 pub entry_of-requires : goal.entry_of-requires
@@ -33,7 +33,11 @@ returns-clause-within c =
     let covered : covers (get_or ts c.entry_of.result no_entry) c.args.id ≡ true = rw c.entries-taken.ensures.entries (c.entry_of.ensures.covers no_entry) in
     let row = row_inside runs ts taken told c.args.id stands (get_or ts c.entry_of.result no_entry) (entry_at ts c.entry_of.result no_entry inside) covered
     c.index-runs-entry.result c.row_len-len.result c.row_len-len.ensures.bound in
-    record { units = omega (arith, row.0, c.place_in-offset.ensures); ids = row.1 }
+    record {
+      units = omega (arith, row.0, c.place_in-offset.ensures);
+      client = client_within runs ts taken told c.args.id stands (get_or ts c.entry_of.result no_entry) (entry_at ts c.entry_of.result no_entry inside) covered;
+      ids = row.1;
+    }
 
 pub returns-clause-bound : goal.returns-clause-bound
 returns-clause-bound c = row_within c.args.deletes.now (is_named c.args.deletes.now c.args.id) c.args.id c.row_len-len.result c.args.order.now c.row_len-len.ensures.row

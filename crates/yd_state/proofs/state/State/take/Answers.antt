@@ -1,4 +1,4 @@
-use Rattle.std.proofs.Common.{◌≡◌, ◌||◌, sym, ap, ◌∙◌, subst}
+use Rattle.std.proofs.Common.{◌≡◌, ◌||◌, sym, ap, ap₂, ◌∙◌, subst}
 use Rattle.std.specs.Prelude.{◌↔◌, ◌⊎◌, IsTrue}
 use Rattle.yd_ids.specs.declared.id.Id.{Id}
 use Rattle.yd_ids.specs.Set.{HasId}
@@ -7,7 +7,10 @@ use Rattle.yd_state.specs.Ordered.{order_lists}
 use Rattle.yd_state.specs.State.{received_in}
 use Rattle.yd_state.specs.Brings.{BringsSomething}
 use Rattle.yd_state.specs.Stretches.{AreSettled}
+use Rattle.yd_ids.specs.Set.{union_of}
+use Rattle.yd_received.specs.Received.{taken_of}
 use Rattle.yd_state.proofs.BringsLemmas.{brings_either}
+use Rattle.yd_state.proofs.SoundLemmas.{still_received}
 use Rattle.yd_state.proofs.SettledLemmas.{settled_after}
 use Rattle.yd_state.proofs.state.State.take.Goals.{then-taken, else-taken}
 use Rattle.yd_state.proofs.state.State.take.Goals as goal
@@ -36,3 +39,25 @@ returns-after-taken-clause-brings c =
     c.self.invariant one more c.in_ok-taken.ensures.brings
     (subst (λ named. IsTrue more ↔ (((x : Id) → HasId named x → HasId c.self.inside.named x ⊎ HasId c.self.inside.deletes x) → ⊥)) c.in_ok-more.ensures
     c.brings_deletion-deletes.ensures)))
+
+pub invariant_of-self-in-Ok-1 : goal.invariant_of-self-in-Ok-1
+invariant_of-self-in-Ok-1 c = record {
+  received = still_received (record { operations = taken_of c.self.inside.held.received; deletes = c.self.inside.named }) (update_value c.args.update.now)
+      (taken_of c.take.new.self.received) c.union.new.self c.self.invariant.received c.requires c.in_ok-taken.ensures.received
+      (c.in_ok-union.ensures.exact ∙ ap₂ union_of c.in_ok-named.ensures c.in_ok-more.ensures);
+  holds = c.in_ok-taken.ensures.holds;
+  named = c.in_ok-union.ensures.maximal;
+  ordered = c.in-Ok.ensures.ordered;
+  deletes = c.in-Ok.ensures.deletes;
+}
+
+pub returns-after-taken-clause-sound : goal.returns-after-taken-clause-sound
+returns-after-taken-clause-sound c = record {
+  received = still_received (record { operations = taken_of c.self.inside.held.received; deletes = c.self.inside.named }) (update_value c.args.update.now)
+      (taken_of c.take.new.self.received) c.union.new.self c.self.invariant.received c.requires c.in_ok-taken.ensures.received
+      (c.in_ok-union.ensures.exact ∙ ap₂ union_of c.in_ok-named.ensures c.in_ok-more.ensures);
+  holds = c.in_ok-taken.ensures.holds;
+  named = c.in_ok-union.ensures.maximal;
+  ordered = c.in-Ok.ensures.ordered;
+  deletes = c.in-Ok.ensures.deletes;
+}
