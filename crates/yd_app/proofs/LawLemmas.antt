@@ -18,7 +18,7 @@ use Rattle.yd_app.specs.Output.{IsOutputOf}
 use Rattle.yd_app.specs.Writing.{TakesAll}
 
 -- of the same changes the same is received
-received_same : (one other : List UpdateValue) → Each IsValidUpdate one → Each IsValidUpdate other → AreSameChanges one other → received_set one ≡ received_set other
+pub received_same : (one other : List UpdateValue) → Each IsValidUpdate one → Each IsValidUpdate other → AreSameChanges one other → received_set one ≡ received_set other
 received_same one other valid other_valid (inl contents) = received_one one other valid other_valid contents.alike contents.same
 received_same one other valid other_valid (inr merged) = received_merged one other valid other_valid merged.agree merged.others_agree merged.same
 

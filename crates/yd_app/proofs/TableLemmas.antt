@@ -3,8 +3,8 @@ use Rattle.std.proofs.Common.{◌≡◌, ◌⊎◌, ◌∙◌, ℕ, List, [], �
 use Rattle.std.proofs.lemmas.Slice.Eq.{bytes_eq-Decides}
 use Rattle.std.specs.Prelude.{codes}
 use Rattle.std.specs.Str.{bytes_eq}
-use Rattle.yd_app.specs.Command.{Command, arguments_of, convert, name_of, pack, show_text, word_of, words_of}
-use Rattle.yd_app.specs.Table.{Begun, Row, command_in, convert_in, convert_to, either, format_in, pack_in, row_in, show_in, table}
+use Rattle.yd_app.specs.Command.{Command, arguments_of, convert, merge, name_of, pack, show_text, vector, word_of, words_of}
+use Rattle.yd_app.specs.Table.{Begun, Row, command_in, convert_in, convert_to, either, format_in, merge_in, merge_to, pack_in, row_in, show_in, table, vector_in}
 use Rattle.yd_app.specs.declared.format.Format.{Format}
 use Rattle.yd_app.specs.declared.format.Format.TheVariants.{V1, V2}
 
@@ -72,6 +72,24 @@ pack_sound words command names is =
     let one = read_one pack command words names (Some (pack, words)) refl is in
     subst (λ (c : Command). (codes "pack" ≡ name_of c) × (words ≡ arguments_of c ++ names)) one.0 (refl, one.1)
 
+merge_sound : IsSound (record { name = codes "merge"; arguments = merge_in })
+unfolding IsSound
+merge_sound [] command names is = absurd cc
+merge_sound (word ∷ rest) command names is = by_form (format_in word) refl is
+  where
+    by_form : (read : Option Format) → format_in word ≡ read → merge_to read rest ≡ Some (command, names) → (codes "merge" ≡ name_of command) × (word ∷ rest ≡ arguments_of command ++ names)
+    by_form (Some form) named found =
+        let one = read_one (merge form) command rest names (Some (merge form, rest)) refl found in
+        subst (λ (c : Command). (codes "merge" ≡ name_of c) × (word ∷ rest ≡ arguments_of c ++ names)) one.0
+        (refl, subst (λ (ns : List (List ℕ)). word ∷ rest ≡ word_of form ∷ ns) one.1 (ap (λ (w : List ℕ). w ∷ rest) (format_found word form named)))
+    by_form None named found = absurd cc
+
+vector_sound : IsSound (record { name = codes "vector"; arguments = vector_in })
+unfolding IsSound
+vector_sound words command names is =
+    let one = read_one vector command words names (Some (vector, words)) refl is in
+    subst (λ (c : Command). (codes "vector" ≡ name_of c) × (words ≡ arguments_of c ++ names)) one.0 (refl, one.1)
+
 -- all rows are so
 AreSound : List Row → Type 0
 AreSound [] = Unit {0}
@@ -79,7 +97,7 @@ AreSound (row ∷ rows) = IsSound row × AreSound rows
 
 table_sound : AreSound table
 unfolding AreSound
-table_sound = (show_sound, (convert_sound, (pack_sound, tt)))
+table_sound = (show_sound, (convert_sound, (pack_sound, (merge_sound, (vector_sound, tt)))))
 
 row_found : (rows : List Row) → AreSound rows → (name : List ℕ) (words : List (List ℕ)) (command : Command) (names : List (List ℕ)) → row_in rows name words ≡ Some (command, names) → name ∷ words ≡ words_of command names
 unfolding AreSound IsSound
@@ -107,3 +125,6 @@ command_read (show_text root) names = refl
 command_read (convert V1) names = refl
 command_read (convert V2) names = refl
 command_read pack names = refl
+command_read (merge V1) names = refl
+command_read (merge V2) names = refl
+command_read vector names = refl

@@ -2,7 +2,7 @@
 use Rattle.std.specs.Prelude.{ℕ, ◌<◌, List, [], ◌∷◌, ◌++◌, length, codes}
 use Rattle.yd_files.specs.Files.{AreOneUpdate, File}
 use Rattle.yd_app.specs.declared.command.Command.{Command as CommandSeen}
-use Rattle.yd_app.specs.declared.command.Command.TheVariants.{ShowText, Convert, Pack}
+use Rattle.yd_app.specs.declared.command.Command.TheVariants.{ShowText, Convert, Pack, Merge, Vector}
 use Rattle.yd_app.specs.declared.command.Wanted.{Wanted}
 use Rattle.yd_app.specs.declared.command.Wanted.TheVariants.{Several, OneUpdate}
 use Rattle.yd_app.specs.declared.format.Format.{Format}
@@ -12,23 +12,30 @@ use Rattle.yd_app.specs.declared.format.Format.TheVariants.{V1, V2}
 abbrev pub usage_line : List ℕ
 usage_line = codes "usage: ydoc show|merge|cut|vector|convert|edit|serve|sync|check|generate|pack\n"
 
--- what is done with files: a root's text is shown of all that they hold, the one file is written in a format, or all updates as one log
+-- what is done with files: a root's text is shown of all that they hold, the one file is written in a format, all updates as one log
+-- or as one update in a format, or the vector that all reach together
 pub data Command : Type 0 where
   show_text : List ℕ → Command
   convert : Format → Command
   pack : Command
+  merge : Format → Command
+  vector : Command
 
 -- the command that the code has, without where its texts lie in memory
 abbrev pub command_of : CommandSeen → Command
 command_of (ShowText root) = show_text root.now
 command_of (Convert form) = convert form
 command_of Pack = pack
+command_of (Merge form) = merge form
+command_of Vector = vector
 
 -- its name
 abbrev pub name_of : Command → List ℕ
 name_of (show_text root) = codes "show"
 name_of (convert form) = codes "convert"
 name_of pack = codes "pack"
+name_of (merge form) = codes "merge"
+name_of vector = codes "vector"
 
 -- the word that names a format
 abbrev pub word_of : Format → List ℕ
@@ -40,12 +47,16 @@ abbrev pub arguments_of : Command → List (List ℕ)
 arguments_of (show_text root) = codes "--text" ∷ root ∷ []
 arguments_of (convert form) = word_of form ∷ []
 arguments_of pack = []
+arguments_of (merge form) = word_of form ∷ []
+arguments_of vector = []
 
 -- which files it wants
 abbrev pub wanted_by : Command → Wanted
 wanted_by (show_text root) = Several
 wanted_by (convert form) = OneUpdate
 wanted_by pack = Several
+wanted_by (merge form) = Several
+wanted_by vector = Several
 
 -- these are such: one or more, or one that stands for one update
 abbrev pub AreWanted : Wanted → List File → Type 0

@@ -1,3 +1,5 @@
 -- The commands, each in a file of its own.
 pub mod Convert
+pub mod Merge
 pub mod Show
+pub mod Vector

@@ -1,17 +1,24 @@
 -- Laws over words, files, and what is shown of them.
-use Rattle.std.specs.Prelude.{◌≡◌, ◌⊎◌, ℕ, List, Option, Some}
+use Rattle.std.specs.Prelude.{◌≡◌, ◌⊎◌, ℕ, ◌≤◌, List, [], ◌∷◌, Option, Some}
+use Rattle.yd_fields.specs.UpdatePlan.{structs_in}
+use Rattle.yd_grouping.specs.Merged.{merge_of}
 use Rattle.yd_ops.specs.Value.{UpdateValue}
 use Rattle.yd_updates.specs.Agreement.{AreAlike, Agree, HaveSameContents, SayTheSame, operations_of_all}
+use Rattle.yd_v2.specs.Reading.{most_structs}
 use Rattle.yd_world.specs.Shelf.{Shelf}
 use Rattle.yd_world.specs.Traffic.{Traffic}
 use Rattle.yd_files.specs.Files.{File}
 use Rattle.yd_files.specs.Verdict.{StandFor}
-use Rattle.yd_app.specs.Command.{Command, show_text}
+use Rattle.yd_files.specs.declared.kind.Kind.{Kind}
+use Rattle.yd_files.specs.declared.kind.Kind.TheVariants as kinds
+use Rattle.yd_app.specs.Command.{Command, convert, merge, show_text, vector}
 use Rattle.yd_app.specs.Due.{Due, IsDue}
-use Rattle.yd_app.specs.Output.{IsOutputOf}
+use Rattle.yd_app.specs.Output.{IsMadeOf, IsOutputOf}
 use Rattle.yd_app.specs.Run.{Writes}
 use Rattle.yd_app.specs.Words.{Asks}
 use Rattle.yd_app.specs.Writing.{TakesAll}
+use Rattle.yd_app.specs.declared.format.Format.{Format}
+use Rattle.yd_app.specs.declared.format.Format.TheVariants.{V1, V2}
 
 -- words ask for one command of one list of files at most
 abbrev pub AskForOne : Type 0
@@ -54,3 +61,47 @@ abbrev pub RunsConverge : Type 0
 RunsConverge = (root : List ℕ) (one another : List UpdateValue) (words others : List (List ℕ)) (shelf other : Shelf) (taken now took took_now : Option (List ℕ)) →
     Shows root one words shelf taken now → Shows root another others other took took_now → AreSameChanges one another →
     (written : List ℕ) × TakesAll taken now written × TakesAll took took_now written
+
+-- ---- merges
+
+-- the command writes the merge of its files, or what only that tells
+abbrev pub WritesOfMerge : Command → Type 0
+WritesOfMerge (merge form) = Unit {0}
+WritesOfMerge vector = Unit {0}
+WritesOfMerge command = ⊥
+
+-- files in any formats, by any names and in any libraries, have the same merge and the same vector where they are the same changes
+abbrev pub MergesConverge : Type 0
+MergesConverge = (command : Command) (shelf other : Shelf) (files others : List File) (one another : List UpdateValue) → WritesOfMerge command → StandFor (Some shelf) files one → StandFor (Some other) others another → AreSameChanges one another →
+    (bytes others_bytes : List ℕ) → IsOutputOf command one bytes → IsOutputOf command another others_bytes → bytes ≡ others_bytes
+
+-- the words ask for the command of files that are read as these updates, and what is promised for status 0 was written
+pub record Runs (command : Command) (updates : List UpdateValue) (words : List (List ℕ)) (shelf : Shelf) (taken now : Option (List ℕ)) : Type 0 where
+  pub files : List File
+  pub asks : Asks words command files
+  pub stand : StandFor (Some shelf) files updates
+  pub writes : Writes words (Some shelf) taken now
+
+-- two runs that merge the same changes in one format, or tell their vector, and answer 0 have written the same
+abbrev pub MergeRunsConverge : Type 0
+MergeRunsConverge = (command : Command) (one another : List UpdateValue) (words others : List (List ℕ)) (shelf other : Shelf) (taken now took took_now : Option (List ℕ)) → WritesOfMerge command →
+    Runs command one words shelf taken now → Runs command another others other took took_now → AreSameChanges one another →
+    (written : List ℕ) × TakesAll taken now written × TakesAll took took_now written
+
+-- a file in the format
+abbrev pub kind_of : Format → Kind
+kind_of V1 = kinds.V1
+kind_of V2 = kinds.V2
+
+abbrev pub file_in : Format → List ℕ → File
+file_in form name = record { kind = kind_of form; name = name }
+
+-- a file in the format may have as many structs as the update
+abbrev pub FitsIn : Format → UpdateValue → Type 0
+FitsIn V1 u = Unit {0}
+FitsIn V2 u = structs_in u.blocks ≤ most_structs
+
+-- `convert` of what `merge` wrote in one format is the merge in the other
+abbrev pub MergesAreConverted : Type 0
+MergesAreConverted = (shelf other : Shelf) (files : List File) (name : List ℕ) (form to : Format) (us vs : List UpdateValue) (bytes written : List ℕ) → StandFor (Some shelf) files us → IsMadeOf (merge form) us bytes → FitsIn form (merge_of us) →
+    other.bytes_under name ≡ Some bytes → StandFor (Some other) (file_in form name ∷ []) vs → IsOutputOf (convert to) vs written → IsOutputOf (merge to) us written

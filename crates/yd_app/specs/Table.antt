@@ -1,7 +1,7 @@
 -- The table of commands: a row for each, with its name and how the words behind it are read (own).
 use Rattle.std.specs.Prelude.{ℕ, List, [], ◌∷◌, Bool, true, false, Option, Some, None, codes}
 use Rattle.std.specs.Str.{bytes_eq}
-use Rattle.yd_app.specs.Command.{Command, convert, pack, show_text}
+use Rattle.yd_app.specs.Command.{Command, convert, merge, pack, show_text, vector}
 use Rattle.yd_app.specs.declared.format.Format.{Format}
 use Rattle.yd_app.specs.declared.format.Format.TheVariants.{V1, V2}
 
@@ -44,6 +44,19 @@ convert_in (form ∷ names) = convert_to (format_in form) names
 abbrev pub pack_in : List (List ℕ) → Begun
 pack_in names = Some (pack, names)
 
+-- `merge FORM`
+abbrev pub merge_to : Option Format → List (List ℕ) → Begun
+merge_to None names = None
+merge_to (Some form) names = Some (merge form, names)
+
+abbrev pub merge_in : List (List ℕ) → Begun
+merge_in [] = None
+merge_in (form ∷ names) = merge_to (format_in form) names
+
+-- `vector`
+abbrev pub vector_in : List (List ℕ) → Begun
+vector_in names = Some (vector, names)
+
 -- ---- the table
 
 abbrev pub table : List Row
@@ -51,6 +64,8 @@ table =
     record { name = codes "show"; arguments = show_in }
     ∷ record { name = codes "convert"; arguments = convert_in }
     ∷ record { name = codes "pack"; arguments = pack_in }
+    ∷ record { name = codes "merge"; arguments = merge_in }
+    ∷ record { name = codes "vector"; arguments = vector_in }
     ∷ []
 
 -- the row of the name reads the words behind it

@@ -3,7 +3,7 @@
 ghost use Rattle.std.specs.Prelude.{◌≡◌, ◌↔◌, IfSome, IfNone, IsTrue, Some, None, map};
 ghost use Rattle.yd_files.specs.Seen.{file_of};
 ghost use Rattle.yd_app.specs.Command.{AreWanted, command_of as seen, wanted_by};
-ghost use Rattle.yd_app.specs.Table.{command_in, convert_in, row_in, show_in, table};
+ghost use Rattle.yd_app.specs.Table.{command_in, convert_in, merge_in, row_in, show_in, table};
 
 use crate::format::{Format, format_named};
 use crate::word::Word;
@@ -22,6 +22,10 @@ pub enum Command<'a> {
     Convert { form: Format },
     /// All updates are written as one log.
     Pack,
+    /// All updates are written as one, in this format.
+    Merge { form: Format },
+    /// The clock that each client reaches in all updates together is written.
+    Vector,
 }
 
 /// Which files a command wants.
@@ -42,6 +46,8 @@ impl<'a> Command<'a> {
             Command::ShowText { .. } => Wanted::Several,
             Command::Convert { .. } => Wanted::OneUpdate,
             Command::Pack => Wanted::Several,
+            Command::Merge { .. } => Wanted::Several,
+            Command::Vector => Wanted::Several,
         }
     }
 }
@@ -93,6 +99,12 @@ fn command_named<'a>(name: &str, words: &'a [Word]) -> Option<(Command<'a>, &'a 
     if name == "pack" {
         return Some((Command::Pack, words));
     }
+    if name == "merge" {
+        return merge_of(words);
+    }
+    if name == "vector" {
+        return Some((Command::Vector, words));
+    }
     None
 }
 
@@ -122,6 +134,20 @@ fn convert_of(words: &[Word]) -> Option<(Command<'_>, &[Word])>
         [form, names @ ..] => {
             let form = format_named(form.as_str())?;
             Some((Command::Convert { form }, names))
+        }
+        _ => None,
+    }
+}
+
+// `FORM`
+fn merge_of(words: &[Word]) -> Option<(Command<'_>, &[Word])>
+    ensures found { IfSome result (λ both. merge_in words.now ≡ Some (seen both.0, both.1.now)) }
+    ensures none { IfNone result (merge_in words.now ≡ None) }
+{
+    match words {
+        [form, names @ ..] => {
+            let form = format_named(form.as_str())?;
+            Some((Command::Merge { form }, names))
         }
         _ => None,
     }

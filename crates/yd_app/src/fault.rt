@@ -55,3 +55,11 @@ impl From<yd_view::NoMemory> for NoMemory {
         NoMemory
     }
 }
+
+impl From<yd_merge::NoMemory> for NoMemory {
+    ghost from_gives = { λ _ e. e ≡ record {} };
+
+    fn from(_refused: yd_merge::NoMemory) -> NoMemory {
+        NoMemory
+    }
+}

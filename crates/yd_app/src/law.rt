@@ -5,7 +5,7 @@ ghost use Rattle.std.specs.Prelude.{◌≡◌, [], Some};
 ghost use Rattle.yd_world.specs.MemoryLibrary.{shelf_of};
 ghost use Rattle.yd_world.specs.MemorySink.{IsCalm};
 ghost use Rattle.yd_world.specs.ScriptBoard.{traffic_of};
-ghost use Rattle.yd_app.specs.Law.{AskForOne, OneIsDue, RunsConverge, ShowsConverge};
+ghost use Rattle.yd_app.specs.Law.{AskForOne, MergeRunsConverge, MergesAreConverted, MergesConverge, OneIsDue, RunsConverge, ShowsConverge};
 ghost use Rattle.yd_app.specs.Run.{Follows, Writes};
 
 use crate::program::run;
@@ -35,6 +35,24 @@ pub fn shows_converge()
 /// agree.
 pub fn runs_converge()
     ensures { RunsConverge }
+{}
+
+/// Files of the same changes have the same merge, byte for byte, and the same vector: in any order,
+/// repeated or translated, and merged. They have to agree as for [`shows_converge`].
+pub fn merges_converge()
+    ensures { MergesConverge }
+{}
+
+/// Two runs of `merge` in one format, or of `vector`, over the same changes that answer 0 have
+/// written the same, where their updates agree.
+pub fn merge_runs_converge()
+    ensures { MergeRunsConverge }
+{}
+
+/// `convert` of what `merge` wrote in one format is what `merge` writes in the other. A merge in V2
+/// has to have no more structs than a file may declare there.
+pub fn merges_are_converted()
+    ensures { MergesAreConverted }
 {}
 
 /// The program over things in memory. Where no failure is set, the status is that of what is due,

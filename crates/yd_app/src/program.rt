@@ -16,8 +16,8 @@ use yd_files::read_files;
 use yd_world::{Library, Sink, Switchboard};
 
 /// Does what the words ask for, and answers the status. The words that run are
-/// `show --text NAME FILE..`, `convert FORM FILE` and `pack FILE..`. FORM is `v1` or `v2`, and FILE is
-/// `v1:NAME` or `v2:NAME`. `FILE..` is one or more, and each may also be `log:NAME`. Files are read and
+/// `show --text NAME FILE..`, `convert FORM FILE`, `pack FILE..`, `merge FORM FILE..` and
+/// `vector FILE..`. FORM is `v1` or `v2`, and FILE is `v1:NAME` or `v2:NAME`. `FILE..` is one or more, and each may also be `log:NAME`. Files are read and
 /// judged one by one, and nothing is written to out before all are accepted.
 pub fn run<L: Library, S: Sink, B: Switchboard>(
     alloc: Global,

@@ -8,8 +8,10 @@ ghost use Rattle.yd_app.specs.Command.{command_of};
 ghost use Rattle.yd_app.specs.Output.{IsMadeOf};
 
 mod convert;
+mod merge;
 mod pack;
 mod show;
+mod vector;
 
 use crate::command::Command;
 use crate::fault::NoMemory;
@@ -30,5 +32,7 @@ pub fn output_of(
         Command::ShowText { root } => show::show(alloc, root, updates),
         Command::Convert { form } => convert::convert(alloc, form, updates),
         Command::Pack => pack::pack(alloc, updates),
+        Command::Merge { form } => merge::merge(alloc, form, updates),
+        Command::Vector => vector::vector(alloc, updates),
     }
 }
