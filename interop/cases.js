@@ -61,6 +61,16 @@ function updatesOf(files, word) {
   return kind === 'log' ? entriesOf(bytes) : [[kind, bytes]];
 }
 
+/** The merge of some updates, in a format. */
+function merged(form, updates) {
+  return converted(form, ['v1', Y.mergeUpdates(updates.map((update) => converted('v1', update)))]);
+}
+
+/** What an update has from a state vector on, in its own format. */
+function cut(vector, [form, bytes]) {
+  return Buffer.from(form === 'v1' ? Y.diffUpdate(bytes, vector) : Y.diffUpdateV2(bytes, vector));
+}
+
 /** What Yjs makes of words, or null where it has no such call. */
 function answer({ files }, words) {
   const read = (from) => words.slice(from).flatMap((word) => updatesOf(files, word));
@@ -69,6 +79,15 @@ function answer({ files }, words) {
   }
   if (words[0] === 'pack') {
     return packed(read(1));
+  }
+  if (words[0] === 'merge') {
+    return merged(words[1], read(2));
+  }
+  if (words[0] === 'vector') {
+    return Buffer.from(Y.encodeStateVectorFromUpdate(merged('v1', read(1))));
+  }
+  if (words[0] === 'cut') {
+    return cut(bytesOf(files.get(words[1])), read(2)[0]);
   }
   return words[0] === 'convert' ? converted(words[1], read(2)[0]) : null;
 }

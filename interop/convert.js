@@ -101,4 +101,4 @@ function convertCases(session) {
   ];
 }
 
-module.exports = { convertCases };
+module.exports = { convertCases, difference, updateIn };

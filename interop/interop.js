@@ -8,13 +8,15 @@ const os = require('node:os');
 const path = require('node:path');
 const { parseArgs } = require('node:util');
 const { convertCases } = require('./convert.js');
+const { mergeCases } = require('./merge.js');
 const { answersOf } = require('./program.js');
 const { sessions } = require('./sessions.js');
 const { showCases } = require('./show.js');
 
 /** The cases whose names have the word. */
 function casesWith(word) {
-  const all = sessions().flatMap((session) => [...convertCases(session), ...showCases(session)]);
+  const made = [convertCases, showCases, mergeCases];
+  const all = sessions().flatMap((session) => made.flatMap((cases) => cases(session)));
   const cases = all.filter(({ name }) => name.includes(word));
   if (cases.length === 0) {
     throw new Error(`no name of a case has ${word}`);
@@ -24,7 +26,7 @@ function casesWith(word) {
 
 /** Prints what is wrong with a case. */
 function tell({ name, words, files }, { lines }, { expected, came }) {
-  const given = files.map((file) => `${file.form}:${file.name}`);
+  const given = files.map(({ form, name: file }) => (form === undefined ? file : `${form}:${file}`));
   console.log(`interop: ${name}: ${['ydoc', ...words, ...given].join(' ')}`);
   console.log(`  expected: ${expected}`);
   console.log(`  came: ${[came, ...lines].join('\n  | ')}`);

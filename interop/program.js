@@ -15,9 +15,15 @@ function put(file, bytes) {
   fs.writeFileSync(file, bytes);
 }
 
-/** The words of a case: those that it begins with, and its files, which lie below the folder. */
+/** The word of a file, which lies below the folder: its name alone where it has no format. */
+function wordOf({ form, name }, folder) {
+  const file = path.join(folder, name);
+  return form === undefined ? file : `${form}:${file}`;
+}
+
+/** The words of a case: those that it begins with, and its files. */
 function wordsOf({ words, files }, folder) {
-  return [...words, ...files.map(({ form, name }) => `${form}:${path.join(folder, name)}`)];
+  return [...words, ...files.map((file) => wordOf(file, folder))];
 }
 
 /**
