@@ -1,0 +1,17 @@
+pub mod AnswerLemmas
+pub mod CarryingLemmas
+pub mod ExchangeLemmas
+pub mod FlagLemmas
+pub mod HubLemmas
+pub mod IdsLemmas
+pub mod KeepingLemmas
+pub mod NewsLemmas
+pub mod OpenLemmas
+pub mod OrderLemmas
+pub mod PeerLemmas
+pub mod SameLemmas
+pub mod ServingLemmas
+pub mod SessionLemmas
+pub mod SettlingLemmas
+pub mod SyncLemmas
+pub mod WholeLemmas

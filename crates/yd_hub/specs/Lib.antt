@@ -1,0 +1,14 @@
+pub mod Actions
+pub mod Answers
+pub mod Carrying
+pub mod Example
+pub mod ExchangeLaw
+pub mod Hub
+pub mod HubLaw
+pub mod LoopLaw
+pub mod OwnAnswers
+pub mod Peer
+pub mod PeerLaw
+pub mod Serving
+pub mod Sessions
+pub mod Syncing

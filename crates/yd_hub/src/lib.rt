@@ -1,0 +1,18 @@
+//! The cores of a server and of a client that share a document: pure machines over events.
+//!
+//! There are definitions and laws, over messages lost, repeated and in any order. What a hub is after
+//! an event and what it orders (`specs/Hub.antt`), and the same of a peer (`specs/Peer.antt`); what
+//! becomes of sends that fail (`specs/Carrying.antt`); and the loops of both (`specs/Serving.antt`,
+//! `specs/Syncing.antt`). Each law is the contract of an empty function ([`law`]), and [`example`]
+//! has small runs that the checker computes.
+//!
+//! ```rust
+//! law::hub_receives();
+//! ```
+#![tactic(auto)]
+
+mod action;
+pub mod example;
+pub mod law;
+
+pub use action::CloseCause;
