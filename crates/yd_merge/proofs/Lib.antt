@@ -5,3 +5,4 @@ pub mod NamedLemmas
 pub mod PuttingLemmas
 pub mod ReachingLemmas
 pub mod ToldLemmas
+pub mod ValueLemmas

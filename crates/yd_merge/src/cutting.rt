@@ -157,13 +157,14 @@ fn behind(entry: Entry, n: u64) -> Entry
     if entry.is_gone {
         return Entry { id, len, ..entry };
     }
+    let left = Some(Id {
+        client,
+        clock: before,
+    });
     Entry {
         id,
         len,
-        left: Some(Id {
-            client,
-            clock: before,
-        }),
+        left,
         offset: entry.offset + n,
         ..entry
     }

@@ -26,6 +26,16 @@ impl<T: Drop> From<AllocFailed<T>> for NoMemory {
     }
 }
 
+impl From<yd_any::NoMemory> for NoMemory {
+    ghost use Rattle.std.specs.Prelude.{◌≡◌};
+
+    ghost from_gives = { λ _ e. e ≡ record {} };
+
+    fn from(_error: yd_any::NoMemory) -> NoMemory {
+        NoMemory
+    }
+}
+
 impl From<yd_ids::NoMemory> for NoMemory {
     ghost use Rattle.std.specs.Prelude.{◌≡◌};
 

@@ -15,6 +15,7 @@ ghost use Rattle.yd_merge.specs.Told.{IsPartOf, content_part, group_of_run, grou
 
 use crate::fault::NoMemory;
 use crate::group::Group;
+use crate::values::{copied_json, copied_values};
 use std::alloc::Global;
 use yd_ops::{Content, List, Run};
 use yd_received::Entry;
@@ -61,7 +62,7 @@ fn carried_by(run: &Run, offset: u64) -> Result<Option<List>, NoMemory>
     }
 }
 
-/// So many units of a content, from an offset on. Of a text these alone are copied.
+/// So many units of a content, from an offset on. These alone are copied.
 fn copied(alloc: Global, content: &Content, offset: u64, len: u64) -> Result<Content, NoMemory>
     requires some { 0 < len }
     requires within { offset + len ≤ len_of (content_value content.now) }
@@ -74,6 +75,14 @@ fn copied(alloc: Global, content: &Content, offset: u64, len: u64) -> Result<Con
         Content::Str(units) => {
             let units = copied_units(alloc, units, offset, len)?;
             Ok(Content::Str(units))
+        }
+        Content::Any(values) => {
+            let values = copied_values(alloc, values.as_slice(), offset, len)?;
+            Ok(Content::Any(values))
+        }
+        Content::Json(units) => {
+            let units = copied_json(alloc, units.as_slice(), offset, len)?;
+            Ok(Content::Json(units))
         }
         _ => copied_whole(content, offset, len),
     }
@@ -105,7 +114,7 @@ fn push_unit(part: &mut Vec<u16>, units: &Units, at: u64) -> Result<(), NoMemory
     Ok(())
 }
 
-/// The same, by a copy of the whole content that is cut.
+/// The same, by a copy of the whole content that is cut: so it is for one unit, and deleted ones.
 fn copied_whole(content: &Content, offset: u64, len: u64) -> Result<Content, NoMemory>
     requires some { 0 < len }
     requires within { offset + len ≤ len_of (content_value content.now) }
