@@ -1,5 +1,7 @@
 //! What a call without memory answers.
 
+use std::alloc::{AllocError, AllocFailed};
+
 /// A growth found no memory.
 #[derive(Clone, Copy, Debug, PartialEq, Eq)]
 pub struct NoMemory;
@@ -10,6 +12,36 @@ impl From<yd_state::NoMemory> for NoMemory {
     ghost from_gives = { λ _ e. e ≡ record {} };
 
     fn from(_error: yd_state::NoMemory) -> NoMemory {
+        NoMemory
+    }
+}
+
+impl From<yd_any::NoMemory> for NoMemory {
+    ghost use Rattle.std.specs.Prelude.{◌≡◌};
+
+    ghost from_gives = { λ _ e. e ≡ record {} };
+
+    fn from(_error: yd_any::NoMemory) -> NoMemory {
+        NoMemory
+    }
+}
+
+impl From<AllocError> for NoMemory {
+    ghost use Rattle.std.specs.Prelude.{◌≡◌};
+
+    ghost from_gives = { λ _ e. e ≡ record {} };
+
+    fn from(_error: AllocError) -> NoMemory {
+        NoMemory
+    }
+}
+
+impl<T: Drop> From<AllocFailed<T>> for NoMemory {
+    ghost use Rattle.std.specs.Prelude.{◌≡◌};
+
+    ghost from_gives = { λ _ e. e ≡ record {} };
+
+    fn from(_error: AllocFailed<T>) -> NoMemory {
         NoMemory
     }
 }

@@ -13,6 +13,7 @@
 #![tactic(auto)]
 
 mod fault;
+mod keys;
 pub mod law;
 mod replica;
 mod waiting;

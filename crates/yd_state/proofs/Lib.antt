@@ -6,6 +6,7 @@ pub mod FateLemmas
 pub mod FoundLemmas
 pub mod GatheringLemmas
 pub mod LastLemmas
+pub mod LastViewLemmas
 pub mod LendingLemmas
 pub mod LeftLemmas
 pub mod LentLemmas
@@ -14,6 +15,7 @@ pub mod ListedLemmas
 pub mod LostSpanLemmas
 pub mod MadeOrderLemmas
 pub mod NamedLemmas
+pub mod NamesLemmas
 pub mod NamingLemmas
 pub mod NoveltyLemmas
 pub mod NumberLemmas

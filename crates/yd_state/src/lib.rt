@@ -13,10 +13,12 @@
 mod deleting;
 mod fault;
 mod finding;
+mod last;
 mod listing;
 mod lost;
 mod naming;
 mod novelty;
+mod numbered;
 mod ordering;
 mod settling;
 mod state;

@@ -89,7 +89,12 @@ impl<'a> ListView<'a> {
 }
 
 /// The units of the ids from the front on that are in a row in one entry, all deleted or all live.
-fn view_at<'a>(received: &'a Received, deletes: &IdSet, order: &[Id], id: Id) -> RunView<'a>
+pub(crate) fn view_at<'a>(
+    received: &'a Received,
+    deletes: &IdSet,
+    order: &[Id],
+    id: Id,
+) -> RunView<'a>
     requires first { slice_get order.now 0 ≡ Some id }
     requires told { AreTold received.now.entries }
     requires stands { has_operation (listed_of received.now) id ≡ true }

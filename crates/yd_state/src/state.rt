@@ -32,10 +32,10 @@ use yd_received::Received;
 /// What was received and is held, the lists of what stands of it in order, and what is deleted.
 #[derive(Drop)]
 pub struct State {
-    held: Held,
+    pub(crate) held: Held,
     named: IdSet,
-    orders: Vec<Vec<Id>>,
-    deletes: IdSet,
+    pub(crate) orders: Vec<Vec<Id>>,
+    pub(crate) deletes: IdSet,
 }
 
 impl Model for State {

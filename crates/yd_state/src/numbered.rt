@@ -1,0 +1,36 @@
+//! The lists by their numbers.
+
+ghost use Rattle.std.specs.Prelude.{◌≡◌, ◌<◌, ℕ, Some, length, slice_get, IfSome};
+ghost use Rattle.yd_words.specs.Member.{IsIn};
+ghost use Rattle.yd_ops.specs.declared.lists.List.{List as DocList};
+ghost use Rattle.yd_ops.specs.Operation.{Operation};
+ghost use Rattle.yd_state.specs.State.{document_in};
+ghost use Rattle.yd_state.specs.Lent.{lent_units, units_left};
+
+use crate::listing::ListView;
+use crate::state::State;
+use yd_ops::List;
+
+impl State {
+    /// The names of lists, by number. Each list that has a unit is among them.
+    pub fn names(&self) -> &[List]
+        ensures names { result.now ≡ self.now.held.names }
+        ensures all { (list : DocList) (o : Operation) → IsIn o ((document_in self.now).units list)
+            → (n : ℕ) × (slice_get self.now.held.names n ≡ Some list) }
+    {
+        self.held.names()
+    }
+
+    /// The units of the list with a number, in order, deleted ones too. It takes no time to find it.
+    pub fn list_at(&self, n: usize) -> ListView<'_>
+        requires { n < length self.now.held.names }
+        ensures { IfSome (slice_get self.now.held.names n)
+            (λ name. units_left result ≡ lent_units (document_in self.now) name) }
+    {
+        ListView {
+            received: self.held.received(),
+            deletes: &self.deletes,
+            order: &self.orders[n],
+        }
+    }
+}
