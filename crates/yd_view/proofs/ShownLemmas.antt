@@ -35,7 +35,7 @@ unit_test test deleted_unit = refl
 unit_test test gone_unit = refl
 
 -- where pairs are whole, a low half with the next clock is a high half's partner
-partners_join : (received : List Operation) → ArePaired received → (o p : Operation) → IsIn p received → are_partners o p ≡ joins (seen o) (seen p)
+pub partners_join : (received : List Operation) → ArePaired received → (o p : Operation) → IsIn p received → are_partners o p ≡ joins (seen o) (seen p)
 partners_join received paired o p i =
     same_three (is_text_and is_high o.content) (is_text_and is_low p.content) (is_same p.id (later_id o.id 1)) (is_same_neighbour p.left_origin (Some o.id))
     (λ high low next. behind (paired.low p i low) (same_is p.id (later_id o.id 1) next))

@@ -59,6 +59,12 @@ text_left halves rest = halves.shown.items ++ text_behind halves.joined halves.l
 abbrev pub TakesIn : Halves → Halves → List Seen → Type 0
 TakesIn old new came = (rest : List Seen) → text_left new rest ≡ text_left old (came ++ rest)
 
+-- the unit that came last before is shown, and this one waits
+pub record StepsBy (old new : Halves) (seen : Seen) : Type 0 where
+  pub shown : new.shown.items ≡ old.shown.items ++ shown_last old.joined old.last (joins_after old.last seen) []
+  pub last : new.last ≡ Some seen
+  pub joined : new.joined ≡ joins_after old.last seen
+
 -- ---- lent units
 
 -- the text unit that a content is, if it is one

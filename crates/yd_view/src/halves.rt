@@ -5,7 +5,7 @@ ghost use Rattle.yd_ids.specs.Ids.{is_same};
 ghost use Rattle.yd_ops.specs.Operation.{later_id};
 ghost use Rattle.yd_updates.specs.Pairs.{is_high as is_high_unit, is_low as is_low_unit};
 ghost use Rattle.yd_view.specs.declared.halves.Seen.{Seen as SeenUnit};
-ghost use Rattle.yd_view.specs.Halves.{is_unit_and, joins as are_joined, joins_after, shown_last, shown_seen, text_left, text_of_seen, TakesIn};
+ghost use Rattle.yd_view.specs.Halves.{is_unit_and, joins as are_joined, joins_after, shown_last, shown_seen, text_left, text_of_seen, TakesIn, StepsBy};
 
 use crate::fault::NoMemory;
 use std::alloc::Global;
@@ -56,7 +56,8 @@ impl Halves {
 
     /// The next live unit.
     pub fn take(&mut self, seen: Seen) -> Result<(), NoMemory>
-        ensures { OnOk result (TakesIn self.old self.new (seen ∷ [])) }
+        ensures takes { OnOk result (TakesIn self.old self.new (seen ∷ [])) }
+        ensures steps { OnOk result (StepsBy self.old self.new seen) }
     {
         let joined = is_joined(self.last, seen);
         show_last(&mut self.shown, self.last, self.joined, joined)?;

@@ -14,4 +14,5 @@ mod halves;
 mod reading;
 
 pub use fault::NoMemory;
+pub use halves::{Halves, Seen};
 pub use reading::text;

@@ -11,4 +11,4 @@ returns-in-Str c = on_ok_weaker c.take_text.result
 
 pub returns-in_default : goal.returns-in_default
 returns-in_default c = on_ok_weaker c.take.result
-    (other_piece c.args.halves.now c.take.new.self c.args.piece.now c.requires.some c.requires.within c.if-piece.false c.in_default.not-Str) c.take.ensures
+    (other_piece c.args.halves.now c.take.new.self c.args.piece.now c.requires.some c.requires.within c.if-piece.false c.in_default.not-Str) c.take.ensures.takes
