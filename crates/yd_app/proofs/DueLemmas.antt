@@ -2,12 +2,11 @@
 use Rattle.std.proofs.Common.{◌≡◌, ◌⊎◌, ◌∙◌, ℕ, List, Option, Some, None, inl, inr, refl, sym, subst, ap}
 use Rattle.yd_meaning.specs.Document.{document_of}
 use Rattle.yd_updates.specs.Received.{received_set}
-use Rattle.yd_ops.specs.Value.{UpdateValue}
 use Rattle.yd_world.specs.Shelf.{Shelf}
 use Rattle.yd_world.specs.Traffic.{Traffic}
 use Rattle.yd_files.proofs.VerdictLemmas.{files_judged, stand_apart, stand_one, stops_one}
 use Rattle.yd_files.specs.Files.{File}
-use Rattle.yd_files.specs.Verdict.{IsTold, StandFor, StopsAt, Verdict, accepted, missing, refused, too_large}
+use Rattle.yd_files.specs.Verdict.{Inputs, IsTold, StandFor, StopsAt, Verdict, accepted, missing, refused, too_large}
 use Rattle.yd_app.proofs.WordLemmas.{asked_or_not, asks_same}
 use Rattle.yd_app.specs.Command.{Command}
 use Rattle.yd_app.specs.Due.{Due, IsDue, lacking, no_step_2, output, over_limit, refusal, usage}
@@ -33,18 +32,18 @@ due_of file (refused fault) = refusal (refused_line file fault)
 due_of file too_large = over_limit file.name
 due_of file missing = lacking file.name
 
--- a command writes one output of its updates
-output_one : (command : Command) (us : List UpdateValue) (bytes other : List ℕ) → IsOutputOf command us bytes → IsOutputOf command us other → bytes ≡ other
-output_one command us bytes other a b = a.bytes_are ∙ ap (output_of command us) (a.is_document ∙ sym b.is_document) ∙ sym b.bytes_are
+-- a command writes one output of its inputs
+output_one : (command : Command) (inputs : Inputs) (bytes other : List ℕ) → IsOutputOf command inputs bytes → IsOutputOf command inputs other → bytes ≡ other
+output_one command inputs bytes other a b = a.bytes_are ∙ ap (output_of command inputs) (a.is_document ∙ sym b.is_document) ∙ sym b.bytes_are
 
 -- and it writes one
-output_some : (command : Command) (us : List UpdateValue) → (bytes : List ℕ) × IsOutputOf command us bytes
-output_some command us = let document = document_of (received_set us) in (output_of command us document, record { document = document; is_document = refl; bytes_are = refl })
+output_some : (command : Command) (inputs : Inputs) → (bytes : List ℕ) × IsOutputOf command inputs bytes
+output_some command inputs = let document = document_of (received_set inputs.updates) in (output_of command inputs document, record { document = document; is_document = refl; bytes_are = refl })
 
 -- all files are accepted, and the output is due; or one is the first that is not, and what it is
 abbrev Answers : Option Shelf → Due → Command → List File → Type 0
 Answers told due command files =
-    ((us : List UpdateValue) × StandFor told files us × (bytes : List ℕ) × IsOutputOf command us bytes × (due ≡ output bytes))
+    ((inputs : Inputs) × StandFor told files inputs × (bytes : List ℕ) × IsOutputOf command inputs bytes × (due ≡ output bytes))
     ⊎ ((file : File) × (verdict : Verdict) × StopsAt told files file verdict × (due ≡ due_of file verdict))
 
 -- the words are of no form, or ask for one of these
@@ -64,7 +63,7 @@ judged words told traffic (output bytes) d = inr (record { command = d.command; 
 answers_one : (shelf : Shelf) (command : Command) (files : List File) (due other : Due) → Answers (Some shelf) due command files → Answers (Some shelf) other command files → due ≡ other
 answers_one shelf command files due other (inl a) (inl b) =
     let same = stand_one shelf files a.0 b.0 a.1 b.1 in
-    a.4 ∙ ap output (output_one command b.0 a.2 b.2 (subst (λ (us : List UpdateValue). IsOutputOf command us a.2) same a.3) b.3) ∙ sym b.4
+    a.4 ∙ ap output (output_one command b.0 a.2 b.2 (subst (λ (inputs : Inputs). IsOutputOf command inputs a.2) same a.3) b.3) ∙ sym b.4
 answers_one shelf command files due other (inl a) (inr b) = absurd (stand_apart shelf files a.0 b.0 b.1 a.1 b.2)
 answers_one shelf command files due other (inr a) (inl b) = absurd (stand_apart shelf files b.0 a.0 a.1 b.1 a.2)
 answers_one shelf command files due other (inr a) (inr b) =
@@ -99,7 +98,7 @@ due_some words shelf traffic =
     by_first command files asks file missing stops = (lacking file.name, record { command = command; files = files; asks = asks; holds = (file, stops, refl) })
 
     by_files : (command : Command) (files : List File) → Asks words command files
-        → ((us : List UpdateValue) × StandFor (Some shelf) files us) ⊎ ((file : File) × (verdict : Verdict) × StopsAt (Some shelf) files file verdict)
+        → ((inputs : Inputs) × StandFor (Some shelf) files inputs) ⊎ ((file : File) × (verdict : Verdict) × StopsAt (Some shelf) files file verdict)
         → (due : Due) × IsDue words (Some shelf) traffic due
     by_files command files asks (inl read) =
         let made = output_some command read.0 in (output made.0, record { command = command; files = files; asks = asks; holds = (read.0, read.1, made.1) })

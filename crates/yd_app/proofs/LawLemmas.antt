@@ -9,7 +9,7 @@ use Rattle.yd_meaning.specs.Document.{document_of}
 use Rattle.yd_world.specs.Shelf.{Shelf}
 use Rattle.yd_files.proofs.VerdictLemmas.{stand_one, stand_valid}
 use Rattle.yd_files.specs.Files.{File}
-use Rattle.yd_files.specs.Verdict.{StandFor}
+use Rattle.yd_files.specs.Verdict.{Inputs, StandFor}
 use Rattle.yd_app.proofs.WordLemmas.{asks_same}
 use Rattle.yd_app.specs.Law.{AreSameChanges, RunsConverge, Shows, ShowsConverge}
 use Rattle.yd_app.specs.Command.{Command, show_text}
@@ -26,19 +26,19 @@ received_same one other valid other_valid (inr merged) = received_merged one oth
 pub shows_same : ShowsConverge
 shows_same shelf other files others one another root read also contents =
     λ bytes others_bytes a b. a.bytes_are
-    ∙ ap (text_line root) (a.is_document ∙ ap document_of (received_same one another (stand_valid shelf files one read) (stand_valid other others another also) contents)
+    ∙ ap (text_line root) (a.is_document ∙ ap document_of (received_same one.updates another.updates (stand_valid shelf files one read) (stand_valid other others another also) contents)
     ∙ sym b.is_document)
     ∙ sym b.bytes_are
 
 -- what a run that shows a root has written
-written_of : (root : List ℕ) (updates : List UpdateValue) (words : List (List ℕ)) (shelf : Shelf) (taken now : Option (List ℕ)) → Shows root updates words shelf taken now →
-    (bytes : List ℕ) × IsOutputOf (show_text root) updates bytes × TakesAll taken now bytes
-written_of root updates words shelf taken now shows =
+written_of : (root : List ℕ) (inputs : Inputs) (words : List (List ℕ)) (shelf : Shelf) (taken now : Option (List ℕ)) → Shows root inputs words shelf taken now →
+    (bytes : List ℕ) × IsOutputOf (show_text root) inputs bytes × TakesAll taken now bytes
+written_of root inputs words shelf taken now shows =
     let w = shows.writes in
     let same = asks_same words w.command (show_text root) w.files shows.files w.asks shows.asks in
     let read : StandFor (Some shelf) shows.files w.holds.0 = subst (λ (files : List File). StandFor (Some shelf) files w.holds.0) same.1 w.holds.1 in
-    let one : w.holds.0 ≡ updates = stand_one shelf shows.files w.holds.0 updates read shows.stand in
-    (w.holds.2, subst (λ (us : List UpdateValue). IsOutputOf (show_text root) us w.holds.2) one (subst (λ (c : Command). IsOutputOf c w.holds.0 w.holds.2) same.0 w.holds.3), w.holds.4)
+    let one : w.holds.0 ≡ inputs = stand_one shelf shows.files w.holds.0 inputs read shows.stand in
+    (w.holds.2, subst (λ (i : Inputs). IsOutputOf (show_text root) i w.holds.2) one (subst (λ (c : Command). IsOutputOf c w.holds.0 w.holds.2) same.0 w.holds.3), w.holds.4)
 
 -- two runs that show a root of the same changes have written the same
 pub runs_same : RunsConverge

@@ -3,7 +3,6 @@ use Rattle.std.proofs.Common.{◌≡◌, ◌≢◌, ◌⊎◌, ◌∙◌, ℕ, L
 use Rattle.std.specs.Global.{Vec}
 use Rattle.yd_meaning.specs.Document.{Document, IsDocumentOf, document_of}
 use Rattle.yd_updates.specs.Received.{Received, received_set}
-use Rattle.yd_ops.specs.Value.{UpdateValue}
 use Rattle.yd_world.specs.Shelf.{Shelf}
 use Rattle.yd_world.specs.Traffic.{Traffic}
 use Rattle.yd_world.specs.declared.fault.Outage.{Outage}
@@ -14,6 +13,7 @@ use Rattle.yd_files.specs.Reading.{StopsAmong}
 use Rattle.yd_files.specs.Seen.{file_of}
 use Rattle.yd_files.specs.declared.fault.FileFault.{FileFault}
 use Rattle.yd_files.specs.declared.fault.FileFault.TheVariants as faults
+use Rattle.yd_files.specs.Verdict.{Inputs}
 use Rattle.yd_app.proofs.DueLemmas.{weaker}
 use Rattle.yd_app.specs.Asking.{StopsAsking}
 use Rattle.yd_app.specs.Command.{Command}
@@ -27,16 +27,16 @@ use Rattle.yd_app.specs.Writing.{CountsFault, TakesFront}
 use Rattle.yd_app.specs.declared.stop.Stop.{Stop}
 use Rattle.yd_app.specs.declared.stop.Stop.TheVariants.{Usage, Refused, ReadFault, TooLarge, NoMemory, WriteFault}
 
--- ---- what is made of updates
+-- ---- what is made of inputs
 
 -- of a document of what was received
-pub made_of_document : (command : Command) (us : List UpdateValue) (received : Received) (document : Document) (bytes : List ℕ) → received ≡ received_set us → IsDocumentOf document received → StandsForAgain command us → bytes ≡ output_of command us document
-    → IsMadeOf command us bytes
-made_of_document command us received document bytes is of again bytes_are = record { is_output = record { document = document; is_document = subst (IsDocumentOf document) is of; bytes_are = bytes_are }; again = again }
+pub made_of_document : (command : Command) (inputs : Inputs) (received : Received) (document : Document) (bytes : List ℕ) → received ≡ received_set inputs.updates → IsDocumentOf document received → StandsForAgain command inputs → bytes ≡ output_of command inputs document
+    → IsMadeOf command inputs bytes
+made_of_document command inputs received document bytes is of again bytes_are = record { is_output = record { document = document; is_document = subst (IsDocumentOf document) is of; bytes_are = bytes_are }; again = again }
 
--- of the updates alone, whatever the document
-pub made_of_updates : (command : Command) (us : List UpdateValue) (bytes : List ℕ) → StandsForAgain command us → ((document : Document) → bytes ≡ output_of command us document) → IsMadeOf command us bytes
-made_of_updates command us bytes again bytes_are = made_of_document command us (received_set us) (document_of (received_set us)) bytes refl refl again (bytes_are (document_of (received_set us)))
+-- of the inputs alone, whatever the document
+pub made_of_updates : (command : Command) (inputs : Inputs) (bytes : List ℕ) → StandsForAgain command inputs → ((document : Document) → bytes ≡ output_of command inputs document) → IsMadeOf command inputs bytes
+made_of_updates command inputs bytes again bytes_are = made_of_document command inputs (received_set inputs.updates) (document_of (received_set inputs.updates)) bytes refl refl again (bytes_are (document_of (received_set inputs.updates)))
 
 -- ---- what was made
 

@@ -8,11 +8,11 @@ use Rattle.yd_world.specs.Shelf.{Shelf}
 use Rattle.yd_files.proofs.KindLemmas.{read_exactly}
 use Rattle.yd_files.proofs.VerdictLemmas.{stand_one, stand_valid}
 use Rattle.yd_files.specs.Files.{File}
-use Rattle.yd_files.specs.Verdict.{AreRead, Content, StandFor, StandsIn, one_update, updates_in}
+use Rattle.yd_files.specs.Verdict.{AreRead, Content, Inputs, StandFor, StandsIn, one_update, updates_in}
 use Rattle.yd_files.specs.declared.kind.Kind.{Kind}
 use Rattle.yd_app.proofs.LawLemmas.{received_same}
 use Rattle.yd_app.proofs.WordLemmas.{asks_same}
-use Rattle.yd_app.specs.Command.{Command, convert, merge, pack, show_text, vector}
+use Rattle.yd_app.specs.Command.{Command, convert, cut, merge, pack, show_text, vector}
 use Rattle.yd_app.specs.Commands.Convert.{StandsAgain, converted_bytes, converted_output}
 use Rattle.yd_app.specs.Commands.Vector.{vector_bytes}
 use Rattle.yd_grouping.specs.Reach.{reach_of}
@@ -25,10 +25,11 @@ use Rattle.yd_app.specs.declared.format.Format.TheVariants.{V1, V2}
 -- ---- the same changes
 
 -- updates that merge to one have one output
-output_same : (command : Command) (one another : List UpdateValue) (bytes others_bytes : List ℕ) → WritesOfMerge command → merge_of one ≡ merge_of another → IsOutputOf command one bytes → IsOutputOf command another others_bytes → bytes ≡ others_bytes
+output_same : (command : Command) (one another : Inputs) (bytes others_bytes : List ℕ) → WritesOfMerge command → merge_of one.updates ≡ merge_of another.updates → IsOutputOf command one bytes → IsOutputOf command another others_bytes → bytes ≡ others_bytes
 output_same (show_text root) one another bytes others_bytes of same a b = absurd of
 output_same (convert form) one another bytes others_bytes of same a b = absurd of
 output_same pack one another bytes others_bytes of same a b = absurd of
+output_same (cut name) one another bytes others_bytes of same a b = absurd of
 output_same (merge form) one another bytes others_bytes of same a b = a.bytes_are ∙ ap (converted_bytes form) same ∙ sym b.bytes_are
 output_same vector one another bytes others_bytes of same a b = a.bytes_are ∙ ap (λ (u : UpdateValue). vector_bytes (reach_of u)) same ∙ sym b.bytes_are
 
@@ -36,16 +37,16 @@ output_same vector one another bytes others_bytes of same a b = a.bytes_are ∙ 
 pub merges_same : MergesConverge
 merges_same command shelf other files others one another of read also contents =
     λ bytes others_bytes a b.
-    output_same command one another bytes others_bytes of (ap received_grouped (received_same one another (stand_valid shelf files one read) (stand_valid other others another also) contents)) a b
+    output_same command one another bytes others_bytes of (ap received_grouped (received_same one.updates another.updates (stand_valid shelf files one read) (stand_valid other others another also) contents)) a b
 
 -- what a run of a command has written
-written_of : (command : Command) (updates : List UpdateValue) (words : List (List ℕ)) (shelf : Shelf) (taken now : Option (List ℕ)) → Runs command updates words shelf taken now → (bytes : List ℕ) × IsOutputOf command updates bytes × TakesAll taken now bytes
-written_of command updates words shelf taken now runs =
+written_of : (command : Command) (inputs : Inputs) (words : List (List ℕ)) (shelf : Shelf) (taken now : Option (List ℕ)) → Runs command inputs words shelf taken now → (bytes : List ℕ) × IsOutputOf command inputs bytes × TakesAll taken now bytes
+written_of command inputs words shelf taken now runs =
     let w = runs.writes in
     let same = asks_same words w.command command w.files runs.files w.asks runs.asks in
     let read : StandFor (Some shelf) runs.files w.holds.0 = subst (λ (files : List File). StandFor (Some shelf) files w.holds.0) same.1 w.holds.1 in
-    let one : w.holds.0 ≡ updates = stand_one shelf runs.files w.holds.0 updates read runs.stand in
-    (w.holds.2, subst (λ (us : List UpdateValue). IsOutputOf command us w.holds.2) one (subst (λ (c : Command). IsOutputOf c w.holds.0 w.holds.2) same.0 w.holds.3), w.holds.4)
+    let one : w.holds.0 ≡ inputs = stand_one shelf runs.files w.holds.0 inputs read runs.stand in
+    (w.holds.2, subst (λ (i : Inputs). IsOutputOf command i w.holds.2) one (subst (λ (c : Command). IsOutputOf c w.holds.0 w.holds.2) same.0 w.holds.3), w.holds.4)
 
 -- two runs over the same changes have written the same
 pub merge_runs_same : MergeRunsConverge
@@ -78,10 +79,11 @@ read_as shelf form name bytes u (content ∷ []) here stands read =
 
 -- `convert` of a merge is the merge
 pub merges_converted : MergesAreConverted
-merges_converted shelf other files name form to us vs bytes written read made fits here stand converts =
-    let is : bytes ≡ converted_bytes form (merge_of us) = made.is_output.bytes_are in
-    let stands : StandsIn (kind_of form) bytes (one_update (merge_of us)) = stands_in form bytes (merge_of us) (subst (λ (bs : List ℕ). StandsAgain form bs (merge_of us)) (sym is) made.again) fits in
-    let one : vs ≡ merge_of us ∷ [] = stand.updates_are ∙ read_as other form name bytes (merge_of us) stand.contents here stands stand.are_read in
+merges_converted shelf other files name form to inputs others bytes written read made fits here stand converts =
+    let merged = merge_of inputs.updates in
+    let is : bytes ≡ converted_bytes form merged = made.is_output.bytes_are in
+    let stands : StandsIn (kind_of form) bytes (one_update merged) = stands_in form bytes merged (subst (λ (bs : List ℕ). StandsAgain form bs merged) (sym is) made.again) fits in
+    let one : others.updates ≡ merged ∷ [] = ap (λ (i : Inputs). i.updates) stand.inputs_are ∙ read_as other form name bytes merged stand.contents here stands stand.are_read in
     record {
       document = made.is_output.document;
       is_document = made.is_output.is_document;

@@ -3,8 +3,8 @@ use Rattle.std.proofs.Common.{◌≡◌, ◌⊎◌, ◌∙◌, ℕ, List, [], �
 use Rattle.std.proofs.lemmas.Slice.Eq.{bytes_eq-Decides}
 use Rattle.std.specs.Prelude.{codes}
 use Rattle.std.specs.Str.{bytes_eq}
-use Rattle.yd_app.specs.Command.{Command, arguments_of, convert, merge, name_of, pack, show_text, vector, word_of, words_of}
-use Rattle.yd_app.specs.Table.{Begun, Row, command_in, convert_in, convert_to, either, format_in, merge_in, merge_to, pack_in, row_in, show_in, table, vector_in}
+use Rattle.yd_app.specs.Command.{Command, arguments_of, convert, cut, merge, name_of, pack, show_text, vector, word_of, words_of}
+use Rattle.yd_app.specs.Table.{Begun, Row, command_in, convert_in, convert_to, cut_in, either, format_in, merge_in, merge_to, pack_in, row_in, show_in, table, vector_in}
 use Rattle.yd_app.specs.declared.format.Format.{Format}
 use Rattle.yd_app.specs.declared.format.Format.TheVariants.{V1, V2}
 
@@ -90,6 +90,13 @@ vector_sound words command names is =
     let one = read_one vector command words names (Some (vector, words)) refl is in
     subst (λ (c : Command). (codes "vector" ≡ name_of c) × (words ≡ arguments_of c ++ names)) one.0 (refl, one.1)
 
+cut_sound : IsSound (record { name = codes "cut"; arguments = cut_in })
+unfolding IsSound
+cut_sound [] command names is = absurd cc
+cut_sound (word ∷ rest) command names is =
+    let one = read_one (cut word) command rest names (Some (cut word, rest)) refl is in
+    subst (λ (c : Command). (codes "cut" ≡ name_of c) × (word ∷ rest ≡ arguments_of c ++ names)) one.0 (refl, ap (λ (ns : List (List ℕ)). word ∷ ns) one.1)
+
 -- all rows are so
 AreSound : List Row → Type 0
 AreSound [] = Unit {0}
@@ -97,7 +104,7 @@ AreSound (row ∷ rows) = IsSound row × AreSound rows
 
 table_sound : AreSound table
 unfolding AreSound
-table_sound = (show_sound, (convert_sound, (pack_sound, (merge_sound, (vector_sound, tt)))))
+table_sound = (show_sound, (convert_sound, (pack_sound, (merge_sound, (vector_sound, (cut_sound, tt))))))
 
 row_found : (rows : List Row) → AreSound rows → (name : List ℕ) (words : List (List ℕ)) (command : Command) (names : List (List ℕ)) → row_in rows name words ≡ Some (command, names) → name ∷ words ≡ words_of command names
 unfolding AreSound IsSound
@@ -128,3 +135,4 @@ command_read pack names = refl
 command_read (merge V1) names = refl
 command_read (merge V2) names = refl
 command_read vector names = refl
+command_read (cut name) names = refl

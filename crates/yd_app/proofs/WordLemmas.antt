@@ -1,16 +1,17 @@
 -- Words, and the one command that they ask for, if they are of a form.
-use Rattle.std.proofs.Common.{◌≡◌, ◌⊎◌, ◌∙◌, ℕ, List, [], ◌∷◌, map, Option, Some, None, inl, inr, refl, sym, ap, subst, arith}
+use Rattle.std.proofs.Common.{◌≡◌, ◌⊎◌, ◌∙◌, ℕ, List, [], ◌∷◌, ◌++◌, map, Option, Some, None, inl, inr, refl, sym, ap, subst, arith}
 use Rattle.yd_world.specs.Shelf.{Shelf}
+use Rattle.yd_words.specs.Each.{Each}
 use Rattle.yd_files.proofs.NameLemmas.{NameAll, files_or_not, files_same}
 use Rattle.yd_files.specs.Counts.{Count}
-use Rattle.yd_files.specs.Files.{AreOneUpdate, File, file_word}
+use Rattle.yd_files.specs.Files.{AreOneUpdate, File, IsNamed, file_word}
 use Rattle.yd_files.specs.Reading.{ReadsCalmly}
 use Rattle.yd_files.specs.Verdict.{NoneIsMissing}
 use Rattle.yd_files.specs.declared.kind.Kind.{Kind}
 use Rattle.yd_files.specs.declared.kind.Kind.TheVariants as kinds
 use Rattle.yd_app.proofs.TableLemmas.{command_found, command_read, read_one}
 use Rattle.yd_app.specs.Asking.{NameNoFiles}
-use Rattle.yd_app.specs.Command.{AreWanted, Command, wanted_by, words_of}
+use Rattle.yd_app.specs.Command.{AreWanted, Command, own_files, wanted_by, words_of}
 use Rattle.yd_app.specs.Stopping.{ReadsAsked}
 use Rattle.yd_app.specs.Table.{Begun, command_in}
 use Rattle.yd_app.specs.Words.{AreOfNoForm, Asks}
@@ -26,8 +27,9 @@ words_same command other names others e = read_one command other names others (c
 -- words ask for one command of one list of files
 pub asks_same : (words : List (List ℕ)) (command other : Command) (files others : List File) → Asks words command files → Asks words other others → (command ≡ other) × (files ≡ others)
 asks_same words command other files others a b =
-    let same = words_same command other (map file_word files) (map file_word others) (sym a.words_are ∙ b.words_are) in
-    (same.0, files_same files others same.1)
+    let same = words_same command other (map file_word a.named) (map file_word b.named) (sym a.words_are ∙ b.words_are) in
+    let named : a.named ≡ b.named = files_same a.named b.named a.are_named b.are_named same.1 in
+    (same.0, a.files_are ∙ ap (λ (fs : List File). own_files command ++ fs) named ∙ ap (λ (c : Command). own_files c ++ b.named) same.0 ∙ sym b.files_are)
 
 -- what was read calmly is what the words ask for
 pub reads_asked : (words : List (List ℕ)) (command : Command) (files : List File) (told : Option Shelf) (reads : Count) → Asks words command files → ReadsCalmly told files reads → ReadsAsked words told reads
@@ -38,17 +40,17 @@ reads_asked words command files told reads asks calm other others asks_other is_
 
 -- they begin with no command
 pub no_command : (words : List (List ℕ)) → command_in words ≡ None → AreOfNoForm words
-no_command words none command files asks = let read = sym (ap command_in asks.words_are ∙ command_read command (map file_word files)) ∙ none in absurd cc
+no_command words none command files asks = let read = sym (ap command_in asks.words_are ∙ command_read command (map file_word asks.named)) ∙ none in absurd cc
 
 -- they name no files
 pub no_files : (words : List (List ℕ)) (command : Command) (names : List (List ℕ)) → words ≡ words_of command names → NameNoFiles names → AreOfNoForm words
-no_files words command names is never other files asks = never files asks.are_named (words_same command other names (map file_word files) (sym is ∙ asks.words_are)).1
+no_files words command names is never other files asks = never asks.named asks.are_named (words_same command other names (map file_word asks.named) (sym is ∙ asks.words_are)).1
 
 -- the files are not those that are wanted
-pub unwanted : (words : List (List ℕ)) (command : Command) (files : List File) → words ≡ words_of command (map file_word files) → ¬ (AreWanted (wanted_by command) files) → AreOfNoForm words
-unwanted words command files is never other others asks =
-    let both = words_same command other (map file_word files) (map file_word others) (sym is ∙ asks.words_are) in
-    let one : files ≡ others = files_same files others both.1 in
+pub unwanted : (words : List (List ℕ)) (command : Command) (files : List File) → words ≡ words_of command (map file_word files) → Each IsNamed files → ¬ (AreWanted (wanted_by command) files) → AreOfNoForm words
+unwanted words command files is named never other others asks =
+    let both = words_same command other (map file_word files) (map file_word asks.named) (sym is ∙ asks.words_are) in
+    let one : files ≡ asks.named = files_same files asks.named named asks.are_named both.1 in
     never (subst (λ (c : Command). AreWanted (wanted_by c) files) (sym both.0) (subst (λ (fs : List File). AreWanted (wanted_by other) fs) (sym one) asks.are_wanted))
 
 -- ---- of a form, or of none
@@ -58,6 +60,7 @@ one_or_not : (kind : Kind) (name : List ℕ) → AreOneUpdate (record { kind = k
 one_or_not kinds.V1 name = inl tt
 one_or_not kinds.V2 name = inl tt
 one_or_not kinds.Log name = inr (λ one. one)
+one_or_not kinds.Vector name = inr (λ one. one)
 
 wanted_or_not : (wanted : Wanted) (files : List File) → AreWanted wanted files ⊎ (¬ (AreWanted wanted files))
 wanted_or_not Several [] = inr (λ has. omega (arith, has))
@@ -72,8 +75,8 @@ asked_or_not words = by_command (command_in words) refl
   where
     by_wanted : (command : Command) (names : List (List ℕ)) → words ≡ words_of command names → (files : List File) → NameAll names files → AreWanted (wanted_by command) files ⊎ (¬ (AreWanted (wanted_by command) files))
         → ((c : Command) × (fs : List File) × Asks words c fs) ⊎ AreOfNoForm words
-    by_wanted command names is files all (inl wanted) = inl (command, files, record { words_are = is ∙ ap (words_of command) all.1; are_wanted = wanted; are_named = all.0 })
-    by_wanted command names is files all (inr never) = inr (unwanted words command files (is ∙ ap (words_of command) all.1) never)
+    by_wanted command names is files all (inl wanted) = inl (command, own_files command ++ files, record { named = files; words_are = is ∙ ap (words_of command) all.1; are_wanted = wanted; are_named = all.0; files_are = refl })
+    by_wanted command names is files all (inr never) = inr (unwanted words command files (is ∙ ap (words_of command) all.1) all.0 never)
 
     by_names : (command : Command) (names : List (List ℕ)) → words ≡ words_of command names → ((files : List File) × NameAll names files) ⊎ ((files : List File) → ¬ (NameAll names files))
         → ((c : Command) × (fs : List File) × Asks words c fs) ⊎ AreOfNoForm words

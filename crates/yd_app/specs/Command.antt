@@ -1,8 +1,9 @@
 -- The commands: what each is called, how its words go on, and which files it wants (own).
-use Rattle.std.specs.Prelude.{ℕ, ◌<◌, List, [], ◌∷◌, ◌++◌, length, codes}
+use Rattle.std.specs.Prelude.{ℕ, ◌<◌, List, [], ◌∷◌, ◌++◌, length, codes, Option, Some, None}
 use Rattle.yd_files.specs.Files.{AreOneUpdate, File}
+use Rattle.yd_files.specs.declared.kind.Kind.TheVariants as kinds
 use Rattle.yd_app.specs.declared.command.Command.{Command as CommandSeen}
-use Rattle.yd_app.specs.declared.command.Command.TheVariants.{ShowText, Convert, Pack, Merge, Vector}
+use Rattle.yd_app.specs.declared.command.Command.TheVariants.{ShowText, Convert, Pack, Merge, Vector, Cut}
 use Rattle.yd_app.specs.declared.command.Wanted.{Wanted}
 use Rattle.yd_app.specs.declared.command.Wanted.TheVariants.{Several, OneUpdate}
 use Rattle.yd_app.specs.declared.format.Format.{Format}
@@ -13,13 +14,14 @@ abbrev pub usage_line : List ℕ
 usage_line = codes "usage: ydoc show|merge|cut|vector|convert|edit|serve|sync|check|generate|pack\n"
 
 -- what is done with files: a root's text is shown of all that they hold, the one file is written in a format, all updates as one log
--- or as one update in a format, or the vector that all reach together
+-- or as one update in a format, the vector that all reach together, or what the one file has from the vector in a file on
 pub data Command : Type 0 where
   show_text : List ℕ → Command
   convert : Format → Command
   pack : Command
   merge : Format → Command
   vector : Command
+  cut : List ℕ → Command
 
 -- the command that the code has, without where its texts lie in memory
 abbrev pub command_of : CommandSeen → Command
@@ -28,6 +30,7 @@ command_of (Convert form) = convert form
 command_of Pack = pack
 command_of (Merge form) = merge form
 command_of Vector = vector
+command_of (Cut name) = cut name.now
 
 -- its name
 abbrev pub name_of : Command → List ℕ
@@ -36,6 +39,7 @@ name_of (convert form) = codes "convert"
 name_of pack = codes "pack"
 name_of (merge form) = codes "merge"
 name_of vector = codes "vector"
+name_of (cut name) = codes "cut"
 
 -- the word that names a format
 abbrev pub word_of : Format → List ℕ
@@ -49,6 +53,7 @@ arguments_of (convert form) = word_of form ∷ []
 arguments_of pack = []
 arguments_of (merge form) = word_of form ∷ []
 arguments_of vector = []
+arguments_of (cut name) = name ∷ []
 
 -- which files it wants
 abbrev pub wanted_by : Command → Wanted
@@ -57,6 +62,17 @@ wanted_by (convert form) = OneUpdate
 wanted_by pack = Several
 wanted_by (merge form) = Several
 wanted_by vector = Several
+wanted_by (cut name) = OneUpdate
+
+-- the files that its own words name, which are read before all others
+abbrev pub own_files : Command → List File
+own_files (cut name) = record { kind = kinds.Vector; name = name } ∷ []
+own_files command = []
+
+-- a file, if it is given
+abbrev pub given_files : Option File → List File
+given_files None = []
+given_files (Some file) = file ∷ []
 
 -- these are such: one or more, or one that stands for one update
 abbrev pub AreWanted : Wanted → List File → Type 0

@@ -1,5 +1,6 @@
 -- The commands, each in a file of its own.
 pub mod Convert
+pub mod Cut
 pub mod Merge
 pub mod Show
 pub mod Vector

@@ -1,11 +1,10 @@
 -- What is due in a run, by its words, its files and its network: one thing, with its status and its line on err (own).
 use Rattle.std.specs.Prelude.{◌≡◌, ℕ, List, [], ◌∷◌, Option}
-use Rattle.yd_ops.specs.Value.{UpdateValue}
 use Rattle.yd_parts.specs.Fault.{Fault}
 use Rattle.yd_world.specs.Shelf.{Shelf}
 use Rattle.yd_world.specs.Traffic.{Traffic}
 use Rattle.yd_files.specs.Files.{File}
-use Rattle.yd_files.specs.Verdict.{StandFor, StopsAt, missing, refused, too_large}
+use Rattle.yd_files.specs.Verdict.{Inputs, StandFor, StopsAt, missing, refused, too_large}
 use Rattle.yd_app.specs.Command.{usage_line}
 use Rattle.yd_app.specs.Lines.{limit_line, no_step_2_line, read_fault_line, refused_line}
 use Rattle.yd_app.specs.Output.{IsOutputOf}
@@ -30,7 +29,7 @@ IsDue words told traffic (refusal line) = AsksFor words (λ command files. (file
 IsDue words told traffic (over_limit name) = AsksFor words (λ command files. (file : File) × StopsAt told files file too_large × (name ≡ file.name))
 IsDue words told traffic (lacking name) = AsksFor words (λ command files. (file : File) × StopsAt told files file missing × (name ≡ file.name))
 IsDue words told traffic no_step_2 = ⊥
-IsDue words told traffic (output bytes) = AsksFor words (λ command files. (us : List UpdateValue) × StandFor told files us × IsOutputOf command us bytes)
+IsDue words told traffic (output bytes) = AsksFor words (λ command files. (inputs : Inputs) × StandFor told files inputs × IsOutputOf command inputs bytes)
 
 -- its status
 abbrev pub status_of_due : Due → ℕ

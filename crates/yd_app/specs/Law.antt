@@ -8,7 +8,7 @@ use Rattle.yd_v2.specs.Reading.{most_structs}
 use Rattle.yd_world.specs.Shelf.{Shelf}
 use Rattle.yd_world.specs.Traffic.{Traffic}
 use Rattle.yd_files.specs.Files.{File}
-use Rattle.yd_files.specs.Verdict.{StandFor}
+use Rattle.yd_files.specs.Verdict.{Inputs, StandFor}
 use Rattle.yd_files.specs.declared.kind.Kind.{Kind}
 use Rattle.yd_files.specs.declared.kind.Kind.TheVariants as kinds
 use Rattle.yd_app.specs.Command.{Command, convert, merge, show_text, vector}
@@ -46,20 +46,20 @@ AreSameChanges one other = HaveOneContents one other ⊎ SayOneThing one other
 
 -- files in any formats, by any names and in any libraries, show the same text of each root where they are the same changes
 abbrev pub ShowsConverge : Type 0
-ShowsConverge = (shelf other : Shelf) (files others : List File) (one another : List UpdateValue) (root : List ℕ) → StandFor (Some shelf) files one → StandFor (Some other) others another → AreSameChanges one another →
+ShowsConverge = (shelf other : Shelf) (files others : List File) (one another : Inputs) (root : List ℕ) → StandFor (Some shelf) files one → StandFor (Some other) others another → AreSameChanges one.updates another.updates →
     (bytes others_bytes : List ℕ) → IsOutputOf (show_text root) one bytes → IsOutputOf (show_text root) another others_bytes → bytes ≡ others_bytes
 
--- the words ask to show the root of files that are read as these updates, and what is promised for status 0 was written
-pub record Shows (root : List ℕ) (updates : List UpdateValue) (words : List (List ℕ)) (shelf : Shelf) (taken now : Option (List ℕ)) : Type 0 where
+-- the words ask to show the root of files that are read as these inputs, and what is promised for status 0 was written
+pub record Shows (root : List ℕ) (inputs : Inputs) (words : List (List ℕ)) (shelf : Shelf) (taken now : Option (List ℕ)) : Type 0 where
   pub files : List File
   pub asks : Asks words (show_text root) files
-  pub stand : StandFor (Some shelf) files updates
+  pub stand : StandFor (Some shelf) files inputs
   pub writes : Writes words (Some shelf) taken now
 
 -- two runs that show a root of the same changes and answer 0 have written the same
 abbrev pub RunsConverge : Type 0
-RunsConverge = (root : List ℕ) (one another : List UpdateValue) (words others : List (List ℕ)) (shelf other : Shelf) (taken now took took_now : Option (List ℕ)) →
-    Shows root one words shelf taken now → Shows root another others other took took_now → AreSameChanges one another →
+RunsConverge = (root : List ℕ) (one another : Inputs) (words others : List (List ℕ)) (shelf other : Shelf) (taken now took took_now : Option (List ℕ)) →
+    Shows root one words shelf taken now → Shows root another others other took took_now → AreSameChanges one.updates another.updates →
     (written : List ℕ) × TakesAll taken now written × TakesAll took took_now written
 
 -- ---- merges
@@ -72,20 +72,20 @@ WritesOfMerge command = ⊥
 
 -- files in any formats, by any names and in any libraries, have the same merge and the same vector where they are the same changes
 abbrev pub MergesConverge : Type 0
-MergesConverge = (command : Command) (shelf other : Shelf) (files others : List File) (one another : List UpdateValue) → WritesOfMerge command → StandFor (Some shelf) files one → StandFor (Some other) others another → AreSameChanges one another →
+MergesConverge = (command : Command) (shelf other : Shelf) (files others : List File) (one another : Inputs) → WritesOfMerge command → StandFor (Some shelf) files one → StandFor (Some other) others another → AreSameChanges one.updates another.updates →
     (bytes others_bytes : List ℕ) → IsOutputOf command one bytes → IsOutputOf command another others_bytes → bytes ≡ others_bytes
 
--- the words ask for the command of files that are read as these updates, and what is promised for status 0 was written
-pub record Runs (command : Command) (updates : List UpdateValue) (words : List (List ℕ)) (shelf : Shelf) (taken now : Option (List ℕ)) : Type 0 where
+-- the words ask for the command of files that are read as these inputs, and what is promised for status 0 was written
+pub record Runs (command : Command) (inputs : Inputs) (words : List (List ℕ)) (shelf : Shelf) (taken now : Option (List ℕ)) : Type 0 where
   pub files : List File
   pub asks : Asks words command files
-  pub stand : StandFor (Some shelf) files updates
+  pub stand : StandFor (Some shelf) files inputs
   pub writes : Writes words (Some shelf) taken now
 
 -- two runs that merge the same changes in one format, or tell their vector, and answer 0 have written the same
 abbrev pub MergeRunsConverge : Type 0
-MergeRunsConverge = (command : Command) (one another : List UpdateValue) (words others : List (List ℕ)) (shelf other : Shelf) (taken now took took_now : Option (List ℕ)) → WritesOfMerge command →
-    Runs command one words shelf taken now → Runs command another others other took took_now → AreSameChanges one another →
+MergeRunsConverge = (command : Command) (one another : Inputs) (words others : List (List ℕ)) (shelf other : Shelf) (taken now took took_now : Option (List ℕ)) → WritesOfMerge command →
+    Runs command one words shelf taken now → Runs command another others other took took_now → AreSameChanges one.updates another.updates →
     (written : List ℕ) × TakesAll taken now written × TakesAll took took_now written
 
 -- a file in the format
@@ -103,5 +103,5 @@ FitsIn V2 u = structs_in u.blocks ≤ most_structs
 
 -- `convert` of what `merge` wrote in one format is the merge in the other
 abbrev pub MergesAreConverted : Type 0
-MergesAreConverted = (shelf other : Shelf) (files : List File) (name : List ℕ) (form to : Format) (us vs : List UpdateValue) (bytes written : List ℕ) → StandFor (Some shelf) files us → IsMadeOf (merge form) us bytes → FitsIn form (merge_of us) →
-    other.bytes_under name ≡ Some bytes → StandFor (Some other) (file_in form name ∷ []) vs → IsOutputOf (convert to) vs written → IsOutputOf (merge to) us written
+MergesAreConverted = (shelf other : Shelf) (files : List File) (name : List ℕ) (form to : Format) (inputs others : Inputs) (bytes written : List ℕ) → StandFor (Some shelf) files inputs → IsMadeOf (merge form) inputs bytes → FitsIn form (merge_of inputs.updates) →
+    other.bytes_under name ≡ Some bytes → StandFor (Some other) (file_in form name ∷ []) others → IsOutputOf (convert to) others written → IsOutputOf (merge to) inputs written

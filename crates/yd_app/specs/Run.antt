@@ -1,12 +1,11 @@
 -- What a run promises: why each status comes, and what stands on out and on err then (own).
 use Rattle.std.specs.Prelude.{◌≡◌, ◌⊎◌, ℕ, List, [], ◌∷◌, Option}
-use Rattle.yd_ops.specs.Value.{UpdateValue}
 use Rattle.yd_world.specs.Shelf.{Shelf}
 use Rattle.yd_world.specs.Traffic.{Traffic}
 use Rattle.yd_files.specs.Counts.{Count, RoseIn}
 use Rattle.yd_files.specs.Files.{File}
 use Rattle.yd_files.specs.Reading.{FailsAt}
-use Rattle.yd_files.specs.Verdict.{IsTold, NoneIsMissing, StandFor}
+use Rattle.yd_files.specs.Verdict.{Inputs, IsTold, NoneIsMissing, StandFor}
 use Rattle.yd_app.specs.Due.{Due, IsDue, line_of_due, output, status_of_due, statuses_of_due}
 use Rattle.yd_app.specs.Command.{Command}
 use Rattle.yd_app.specs.Lines.{no_memory_line, read_fault_line, write_fault_line}
@@ -49,11 +48,11 @@ pub record Completes (ReadsCalmly WritesCalmly : Type 0) (words : List (List ℕ
 
 -- ---- output
 
--- all that the command makes of the updates that the files stand for was written, whoever made them and however their bytes spell them; what
--- `convert` wrote stands for the update again
+-- all that the command makes of what the files stand for was written, whoever made their updates and however their bytes spell them; what
+-- `convert`, `pack`, `merge`, `vector` and `cut` wrote stands again for what was written
 abbrev pub TakesAllOf : Command → List File → Option Shelf → Option (List ℕ) → Option (List ℕ) → Type 0
 TakesAllOf command files told taken now =
-    (us : List UpdateValue) × StandFor told files us × (bytes : List ℕ) × IsOutputOf command us bytes × TakesAll taken now bytes × StandsForAgain command us
+    (inputs : Inputs) × StandFor told files inputs × (bytes : List ℕ) × IsOutputOf command inputs bytes × TakesAll taken now bytes × StandsForAgain command inputs
 
 -- so it is of what the words ask for
 abbrev pub Writes : List (List ℕ) → Option Shelf → Option (List ℕ) → Option (List ℕ) → Type 0

@@ -1,14 +1,13 @@
 -- What the program makes of what the words ask for, and why it stops.
 use Rattle.std.specs.Prelude.{◌≡◌, ◌⊎◌, ℕ, List, Option, Result, Ok, Err}
 use Rattle.std.specs.Global.{Vec}
-use Rattle.yd_ops.specs.Value.{UpdateValue}
 use Rattle.yd_world.specs.Shelf.{Shelf}
 use Rattle.yd_world.specs.declared.fault.Outage.{Outage}
 use Rattle.yd_world.specs.declared.fault.Outage.TheVariants as outages
 use Rattle.yd_files.specs.Counts.{Count}
 use Rattle.yd_files.specs.Files.{File}
 use Rattle.yd_files.specs.Reading.{ReadsCalmly, StopsAmong}
-use Rattle.yd_files.specs.Verdict.{StandFor}
+use Rattle.yd_files.specs.Verdict.{Inputs, StandFor}
 use Rattle.yd_files.specs.declared.fault.FileFault.{FileFault}
 use Rattle.yd_files.specs.declared.fault.FileFault.TheVariants as faults
 use Rattle.yd_app.specs.Command.{Command}
@@ -30,9 +29,9 @@ abbrev pub stop_of_outage : Outage → Stop
 stop_of_outage outages.NoMemory = NoMemory
 stop_of_outage outages.Failed = WriteFault
 
--- the bytes are what the command makes of the updates that the files stand for
+-- the bytes are what the command makes of what the files stand for
 abbrev pub MakesOf : Command → List File → Option Shelf → List ℕ → Type 0
-MakesOf command files told bytes = (us : List UpdateValue) × StandFor told files us × IsMadeOf command us bytes
+MakesOf command files told bytes = (inputs : Inputs) × StandFor told files inputs × IsMadeOf command inputs bytes
 
 -- reading the files stopped for this reason
 abbrev pub StopsFor : Type 0 → Option Shelf → Option Shelf → List File → Count → Stop → Type 0

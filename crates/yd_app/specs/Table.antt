@@ -1,7 +1,7 @@
 -- The table of commands: a row for each, with its name and how the words behind it are read (own).
 use Rattle.std.specs.Prelude.{ℕ, List, [], ◌∷◌, Bool, true, false, Option, Some, None, codes}
 use Rattle.std.specs.Str.{bytes_eq}
-use Rattle.yd_app.specs.Command.{Command, convert, merge, pack, show_text, vector}
+use Rattle.yd_app.specs.Command.{Command, convert, cut, merge, pack, show_text, vector}
 use Rattle.yd_app.specs.declared.format.Format.{Format}
 use Rattle.yd_app.specs.declared.format.Format.TheVariants.{V1, V2}
 
@@ -57,6 +57,11 @@ merge_in (form ∷ names) = merge_to (format_in form) names
 abbrev pub vector_in : List (List ℕ) → Begun
 vector_in names = Some (vector, names)
 
+-- `cut VECTORFILE`
+abbrev pub cut_in : List (List ℕ) → Begun
+cut_in [] = None
+cut_in (name ∷ names) = Some (cut name, names)
+
 -- ---- the table
 
 abbrev pub table : List Row
@@ -66,6 +71,7 @@ table =
     ∷ record { name = codes "pack"; arguments = pack_in }
     ∷ record { name = codes "merge"; arguments = merge_in }
     ∷ record { name = codes "vector"; arguments = vector_in }
+    ∷ record { name = codes "cut"; arguments = cut_in }
     ∷ []
 
 -- the row of the name reads the words behind it

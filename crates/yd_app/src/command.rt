@@ -1,13 +1,13 @@
 //! The commands: the table of their names, the words that each has, and the files that it wants.
 
-ghost use Rattle.std.specs.Prelude.{◌≡◌, ◌↔◌, IfSome, IfNone, IsTrue, Some, None, map};
+ghost use Rattle.std.specs.Prelude.{◌≡◌, ◌↔◌, IfSome, IfNone, IsTrue, Some, None, map, option_map};
 ghost use Rattle.yd_files.specs.Seen.{file_of};
-ghost use Rattle.yd_app.specs.Command.{AreWanted, command_of as seen, wanted_by};
-ghost use Rattle.yd_app.specs.Table.{command_in, convert_in, merge_in, row_in, show_in, table};
+ghost use Rattle.yd_app.specs.Command.{AreWanted, command_of as seen, given_files, own_files, wanted_by};
+ghost use Rattle.yd_app.specs.Table.{command_in, convert_in, cut_in, merge_in, row_in, show_in, table};
 
 use crate::format::{Format, format_named};
 use crate::word::Word;
-use yd_files::File;
+use yd_files::{File, Kind};
 
 /// How the program is used.
 pub const USAGE: &str =
@@ -26,6 +26,9 @@ pub enum Command<'a> {
     Merge { form: Format },
     /// The clock that each client reaches in all updates together is written.
     Vector,
+    /// What the file's update has from the state vector under this name on is written in the file's
+    /// format.
+    Cut { vector: &'a str },
 }
 
 /// Which files a command wants.
@@ -48,6 +51,20 @@ impl<'a> Command<'a> {
             Command::Pack => Wanted::Several,
             Command::Merge { .. } => Wanted::Several,
             Command::Vector => Wanted::Several,
+            Command::Cut { .. } => Wanted::OneUpdate,
+        }
+    }
+
+    /// The file that its own words name, which is read before all others.
+    pub fn own_file(self) -> Option<File<'a>>
+        ensures { own_files (seen self.entry) ≡ given_files (option_map file_of result) }
+    {
+        match self {
+            Command::Cut { vector } => Some(File {
+                kind: Kind::Vector,
+                name: vector,
+            }),
+            _ => None,
         }
     }
 }
@@ -105,6 +122,9 @@ fn command_named<'a>(name: &str, words: &'a [Word]) -> Option<(Command<'a>, &'a 
     if name == "vector" {
         return Some((Command::Vector, words));
     }
+    if name == "cut" {
+        return cut_of(words);
+    }
     None
 }
 
@@ -148,6 +168,20 @@ fn merge_of(words: &[Word]) -> Option<(Command<'_>, &[Word])>
         [form, names @ ..] => {
             let form = format_named(form.as_str())?;
             Some((Command::Merge { form }, names))
+        }
+        _ => None,
+    }
+}
+
+// `VECTORFILE`
+fn cut_of(words: &[Word]) -> Option<(Command<'_>, &[Word])>
+    ensures found { IfSome result (λ both. cut_in words.now ≡ Some (seen both.0, both.1.now)) }
+    ensures none { IfNone result (cut_in words.now ≡ None) }
+{
+    match words {
+        [vector, names @ ..] => {
+            let vector = vector.as_str();
+            Some((Command::Cut { vector }, names))
         }
         _ => None,
     }

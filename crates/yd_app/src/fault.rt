@@ -2,11 +2,19 @@
 
 ghost use Rattle.std.specs.Prelude.{◌≡◌};
 
-use std::alloc::AllocFailed;
+use std::alloc::{AllocError, AllocFailed};
 
 /// A growth found no memory.
 #[derive(Clone, Copy, Debug, PartialEq, Eq)]
 pub struct NoMemory;
+
+impl From<AllocError> for NoMemory {
+    ghost from_gives = { λ _ e. e ≡ record {} };
+
+    fn from(_refused: AllocError) -> NoMemory {
+        NoMemory
+    }
+}
 
 impl<T: Drop> From<AllocFailed<T>> for NoMemory {
     ghost from_gives = { λ _ e. e ≡ record {} };

@@ -16,9 +16,11 @@ use yd_files::read_files;
 use yd_world::{Library, Sink, Switchboard};
 
 /// Does what the words ask for, and answers the status. The words that run are
-/// `show --text NAME FILE..`, `convert FORM FILE`, `pack FILE..`, `merge FORM FILE..` and
-/// `vector FILE..`. FORM is `v1` or `v2`, and FILE is `v1:NAME` or `v2:NAME`. `FILE..` is one or more, and each may also be `log:NAME`. Files are read and
-/// judged one by one, and nothing is written to out before all are accepted.
+/// `show --text NAME FILE..`, `convert FORM FILE`, `pack FILE..`, `merge FORM FILE..`,
+/// `vector FILE..` and `cut VECTORFILE FILE`. FORM is `v1` or `v2`, and FILE is `v1:NAME` or `v2:NAME`.
+/// `FILE..` is one or more, and each may also be `log:NAME`. VECTORFILE is any word: the name of a state
+/// vector's file. Files are read and judged one by one in the order of the words, and nothing is
+/// written to out before all are accepted.
 pub fn run<L: Library, S: Sink, B: Switchboard>(
     alloc: Global,
     words: &[Word],
@@ -58,7 +60,8 @@ pub fn run<L: Library, S: Sink, B: Switchboard>(
     report(ending, err)
 }
 
-// Makes what the words ask for: all files are read, and the command makes bytes of their updates.
+// Makes what the words ask for: all files are read, and the command makes bytes of what they stand
+// for.
 fn make<'a, L: Library>(
     alloc: Global,
     words: &'a [Word],
@@ -70,7 +73,7 @@ fn make<'a, L: Library>(
         (count_of (L.faults library.old) (L.faults library.new)) }
 {
     let request = request_of(alloc, words)?;
-    let updates = read_files(alloc, library, request.files.as_slice())?;
-    let output = output_of(alloc, request.command, updates.as_slice())?;
+    let inputs = read_files(alloc, library, request.files.as_slice())?;
+    let output = output_of(alloc, request.command, &inputs)?;
     Ok(output)
 }

@@ -1,14 +1,15 @@
 //! What the words ask for.
 
-ghost use Rattle.std.specs.Prelude.{◌≡◌, map, IfOk, IfErr};
+ghost use Rattle.std.specs.Prelude.{◌≡◌, ◌++◌, map, option_map, IfOk, IfErr};
 ghost use Rattle.yd_words.specs.Each.{Each};
 ghost use Rattle.yd_files.specs.Files.{IsNamed, file_word};
 ghost use Rattle.yd_files.specs.Seen.{file_of as seen};
 ghost use Rattle.yd_app.specs.Asking.{StopsAsking, StopsNaming};
-ghost use Rattle.yd_app.specs.Command.{command_of as command_seen};
+ghost use Rattle.yd_app.specs.Command.{command_of as command_seen, given_files};
 ghost use Rattle.yd_app.specs.Words.{Asks};
 
 use crate::command::{Command, are_wanted, command_of};
+use crate::fault::NoMemory;
 use crate::stop::Stop;
 use crate::word::Word;
 use std::alloc::Global;
@@ -32,11 +33,33 @@ pub fn request_of(alloc: Global, words: &[Word]) -> Result<Request<'_>, Stop<'_>
     let Some((command, names)) = command_of(words) else {
         return Err(Stop::Usage);
     };
-    let files = named_files(alloc, names)?;
-    if !are_wanted(command.wants(), files.as_slice()) {
+    let named = named_files(alloc, names)?;
+    if !are_wanted(command.wants(), named.as_slice()) {
         return Err(Stop::Usage);
     }
+    let files = with_own(alloc, command.own_file(), named)?;
     Ok(Request { command, files })
+}
+
+// The files with the command's own in front, if it has one.
+fn with_own<'a>(
+    alloc: Global,
+    own: Option<File<'a>>,
+    named: Vec<File<'a>>,
+) -> Result<Vec<File<'a>>, NoMemory>
+    ensures { IfOk result (λ files. map seen files.items
+        ≡ given_files (option_map seen own.entry) ++ map seen named.entry.items) }
+{
+    match own {
+        None => Ok(named),
+        Some(file) => {
+            let mut rest = named;
+            let mut all = Vec::new(alloc);
+            all.push(file)?;
+            all.append(&mut rest)?;
+            Ok(all)
+        }
+    }
 }
 
 // The files that the words name, if each names one.

@@ -1,28 +1,25 @@
 -- Files of each kind are read exactly.
-use Rattle.std.proofs.Common.{◌≡◌, ◌∙◌, ℕ, List, map, Result, Ok, Err, None, Some, refl, sym, ap, IfOk}
+use Rattle.std.proofs.Common.{◌≡◌, ◌∙◌, ℕ, List, Result, Ok, Err, None, Some, refl, sym, ap, IfOk}
 use Rattle.yd_num.proofs.ReadingLemmas.{ok_value}
 use Rattle.yd_words.specs.Each.{Each}
 use Rattle.yd_reading.specs.Answer.{ReadsWhole}
 use Rattle.yd_reading.specs.Files.{FilesAreRead}
-use Rattle.yd_fields.specs.UpdatePlan.{update_plan}
+use Rattle.yd_fields.specs.UpdatePlan.{update_plan, vector_plan}
 use Rattle.yd_ops.specs.Valid.{IsValidUpdate}
-use Rattle.yd_ops.specs.Value.{UpdateValue}
-use Rattle.yd_ops.specs.View.{update_value}
-use Rattle.yd_ops.specs.declared.updates.Update.{Update}
 use Rattle.yd_parts.specs.Fault.{Fault}
 use Rattle.yd_parts.specs.declared.fault.ReadError.{ReadError}
 use Rattle.yd_parts.specs.declared.fault.ReadError.TheVariants as errors
 use Rattle.yd_v1.proofs.FileLemmas as v1_files
 use Rattle.yd_v1.proofs.LogLemmas.{logs_read}
 use Rattle.yd_v1.specs.Log.{log_reading}
-use Rattle.yd_v1.specs.Reading.{v1_reading}
+use Rattle.yd_v1.specs.Reading.{v1_reading, vector_reading}
 use Rattle.yd_v2.proofs.FileLemmas as v2_files
 use Rattle.yd_v2.specs.Reading.{most_structs, v2_reading}
-use Rattle.yd_files.specs.Reading.{AsOne}
-use Rattle.yd_files.specs.Seen.{content_of}
-use Rattle.yd_files.specs.Verdict.{Content, HasFirstFaultIn, StandsAs, StandsIn, one_update, updates}
+use Rattle.yd_files.specs.Seen.{AsContent, content_of}
+use Rattle.yd_files.specs.Verdict.{Content, HasFirstFaultIn, StandsAs, StandsIn, one_update, updates, updates_of, vector}
+use Rattle.yd_files.specs.declared.content.Content.{Content as ContentSeen}
 use Rattle.yd_files.specs.declared.kind.Kind.{Kind}
-use Rattle.yd_files.specs.declared.kind.Kind.TheVariants.{V1, V2, Log}
+use Rattle.yd_files.specs.declared.kind.Kind.TheVariants.{V1, V2, Log, Vector}
 
 -- ---- readings
 
@@ -36,6 +33,7 @@ abbrev pub reading_in : Kind → List ℕ → Result Content Fault
 reading_in V1 bytes = made_of one_update (v1_reading bytes)
 reading_in V2 bytes = made_of one_update (v2_reading bytes)
 reading_in Log bytes = made_of updates (log_reading bytes)
+reading_in Vector bytes = made_of vector (vector_reading bytes)
 
 -- what is made of a value that is read exactly is read so too
 made_read : {X : Type 0} (made : X → Content) (reading : List ℕ → Result X Fault) (Fills : List ℕ → X → Type 0) (Fails : List ℕ → Fault → Type 0) → FilesAreRead reading Fills Fails
@@ -60,43 +58,29 @@ pub read_exactly : (kind : Kind) → FilesAreRead (reading_in kind) (StandsIn ki
 read_exactly V1 = made_read one_update v1_reading _ _ (v1_files.files_read (update_plan None))
 read_exactly V2 = made_read one_update v2_reading _ _ (v2_files.files_read (update_plan (Some most_structs)))
 read_exactly Log = made_read updates log_reading _ _ logs_read
+read_exactly Vector = made_read vector vector_reading _ _ (v1_files.files_read vector_plan)
 
--- the answer of one update, as a list
-pub one_whole : (Fills : UpdateValue → Type 0) (Fails : Fault → Type 0) (read : Result Update ReadError) (result : Result (List Update) ReadError) → AsOne read result → ReadsWhole update_value Fills Fails read
-    → ReadsWhole content_of (StandsAs one_update Fills) Fails result
-one_whole Fills Fails (Ok update) (Ok list) listed whole = record {
-  rightly = (update_value update, ap content_of listed, whole.rightly);
-  values = λ content stands. ap content_of listed ∙ ap one_update (whole.values stands.0 stands.2) ∙ sym stands.1;
+-- the answer for a value, as that for what is made of it
+pub made_whole : {X Y : Type 0} (seen : X → Y) (made : Y → Content) (Fills : Y → Type 0) (Fails : Fault → Type 0) (read : Result X ReadError) (result : Result ContentSeen ReadError) → AsContent (λ x. made (seen x)) read result → ReadsWhole seen Fills Fails read
+    → ReadsWhole content_of (StandsAs made Fills) Fails result
+made_whole seen made Fills Fails (Ok x) (Ok content) is whole = record {
+  rightly = (seen x, is, whole.rightly);
+  values = λ other stands. is ∙ ap made (whole.values stands.0 stands.2) ∙ sym stands.1;
   faults = λ fault first. whole.faults fault first;
 }
-one_whole Fills Fails (Ok update) (Err errors.NoMemory) listed whole = record { rightly = tt; values = λ content stands. tt; faults = λ fault first. tt }
-one_whole Fills Fails (Ok update) (Err (errors.Fault cause spot)) listed whole = absurd listed
-one_whole Fills Fails (Err errors.NoMemory) result listed whole = rw listed (record { rightly = tt; values = λ content stands. tt; faults = λ fault first. tt })
-one_whole Fills Fails (Err (errors.Fault cause spot)) result listed whole = rw listed (record {
+made_whole seen made Fills Fails (Ok x) (Err errors.NoMemory) is whole = record { rightly = tt; values = λ other stands. tt; faults = λ fault first. tt }
+made_whole seen made Fills Fails (Ok x) (Err (errors.Fault cause spot)) is whole = absurd is
+made_whole seen made Fills Fails (Err errors.NoMemory) result is whole = rw is (record { rightly = tt; values = λ other stands. tt; faults = λ fault first. tt })
+made_whole seen made Fills Fails (Err (errors.Fault cause spot)) result is whole = rw is (record {
   rightly = whole.rightly;
-  values = λ content stands. whole.values stands.0 stands.2;
+  values = λ other stands. whole.values stands.0 stands.2;
   faults = λ fault first. whole.faults fault first;
 })
 
--- it is valid where the update is
-pub one_valid : (read : Result Update ReadError) (result : Result (List Update) ReadError) → AsOne read result → IfOk read (λ update. IsValidUpdate (update_value update))
-    → IfOk result (λ list. Each IsValidUpdate (map update_value list))
-one_valid (Ok update) (Ok list) listed valid = rw listed (valid, tt)
-one_valid (Ok update) (Err errors.NoMemory) listed valid = tt
-one_valid (Ok update) (Err (errors.Fault cause spot)) listed valid = absurd listed
-one_valid (Err error) result listed valid = rw listed tt
-
--- the answer of a log, as a content
-pub all_whole : (Fills : List UpdateValue → Type 0) (Fails : Fault → Type 0) (result : Result (List Update) ReadError) → ReadsWhole (λ list. map update_value list) Fills Fails result
-    → ReadsWhole content_of (StandsAs updates Fills) Fails result
-all_whole Fills Fails (Ok list) whole = record {
-  rightly = (map update_value list, refl, whole.rightly);
-  values = λ content stands. ap updates (whole.values stands.0 stands.2) ∙ sym stands.1;
-  faults = λ fault first. whole.faults fault first;
-}
-all_whole Fills Fails (Err errors.NoMemory) whole = record { rightly = tt; values = λ content stands. tt; faults = λ fault first. tt }
-all_whole Fills Fails (Err (errors.Fault cause spot)) whole = record {
-  rightly = whole.rightly;
-  values = λ content stands. whole.values stands.0 stands.2;
-  faults = λ fault first. whole.faults fault first;
-}
+-- its updates are valid where those that are made are
+pub made_valid : {X : Type 0} (made : X → Content) (Valid : X → Type 0) (read : Result X ReadError) (result : Result ContentSeen ReadError) → ((x : X) → Valid x → Each IsValidUpdate (updates_of (made x))) → AsContent made read result → IfOk read Valid
+    → IfOk result (λ content. Each IsValidUpdate (updates_of (content_of content)))
+made_valid made Valid (Ok x) (Ok content) valid is was = rw is (valid x was)
+made_valid made Valid (Ok x) (Err errors.NoMemory) valid is was = tt
+made_valid made Valid (Ok x) (Err (errors.Fault cause spot)) valid is was = absurd is
+made_valid made Valid (Err error) result valid is was = rw is tt

@@ -5,9 +5,9 @@ use Rattle.std.proofs.lemmas.List.{drop_at, take_at}
 use Rattle.std.proofs.lemmas.Slice.Eq.{bytes_eq-Decides}
 use Rattle.std.specs.Str.{bytes_eq}
 use Rattle.yd_words.specs.Each.{Each}
-use Rattle.yd_files.specs.Files.{File, IsNamed, file_word, prefix_of}
+use Rattle.yd_files.specs.Files.{File, HasPrefix, IsNamed, file_word, prefix_of}
 use Rattle.yd_files.specs.declared.kind.Kind.{Kind}
-use Rattle.yd_files.specs.declared.kind.Kind.TheVariants.{V1, V2, Log}
+use Rattle.yd_files.specs.declared.kind.Kind.TheVariants.{V1, V2, Log, Vector}
 
 -- ---- a word names one file
 
@@ -16,42 +16,47 @@ second_apart : (word other : List ℕ) → word ≡ other → get_or word 1 0 �
 second_apart word other e apart = apart (ap (λ (w : List ℕ). get_or w 1 0) e)
 
 -- its kind and its name
-pub word_same : (kind other : Kind) (name named : List ℕ) → prefix_of kind ++ name ≡ prefix_of other ++ named → (kind ≡ other) × (name ≡ named)
-word_same V1 V1 name named e = (refl, cc)
-word_same V1 V2 name named e = absurd (second_apart (prefix_of V1 ++ name) (prefix_of V2 ++ named) e (omega arith))
-word_same V1 Log name named e = absurd (second_apart (prefix_of V1 ++ name) (prefix_of Log ++ named) e (omega arith))
-word_same V2 V1 name named e = absurd (second_apart (prefix_of V2 ++ name) (prefix_of V1 ++ named) e (omega arith))
-word_same V2 V2 name named e = (refl, cc)
-word_same V2 Log name named e = absurd (second_apart (prefix_of V2 ++ name) (prefix_of Log ++ named) e (omega arith))
-word_same Log V1 name named e = absurd (second_apart (prefix_of Log ++ name) (prefix_of V1 ++ named) e (omega arith))
-word_same Log V2 name named e = absurd (second_apart (prefix_of Log ++ name) (prefix_of V2 ++ named) e (omega arith))
-word_same Log Log name named e = (refl, cc)
+pub word_same : (kind other : Kind) (name named : List ℕ) → HasPrefix kind → HasPrefix other → prefix_of kind ++ name ≡ prefix_of other ++ named → (kind ≡ other) × (name ≡ named)
+word_same V1 V1 name named has had e = (refl, cc)
+word_same V1 V2 name named has had e = absurd (second_apart (prefix_of V1 ++ name) (prefix_of V2 ++ named) e (omega arith))
+word_same V1 Log name named has had e = absurd (second_apart (prefix_of V1 ++ name) (prefix_of Log ++ named) e (omega arith))
+word_same V1 Vector name named has had e = absurd had
+word_same V2 V1 name named has had e = absurd (second_apart (prefix_of V2 ++ name) (prefix_of V1 ++ named) e (omega arith))
+word_same V2 V2 name named has had e = (refl, cc)
+word_same V2 Log name named has had e = absurd (second_apart (prefix_of V2 ++ name) (prefix_of Log ++ named) e (omega arith))
+word_same V2 Vector name named has had e = absurd had
+word_same Log V1 name named has had e = absurd (second_apart (prefix_of Log ++ name) (prefix_of V1 ++ named) e (omega arith))
+word_same Log V2 name named has had e = absurd (second_apart (prefix_of Log ++ name) (prefix_of V2 ++ named) e (omega arith))
+word_same Log Log name named has had e = (refl, cc)
+word_same Log Vector name named has had e = absurd had
+word_same Vector other name named has had e = absurd has
 
 abbrev file_in : Kind → List ℕ → File
 file_in kind name = record { kind = kind; name = name }
 
-file_same : (file other : File) → file_word file ≡ file_word other → file ≡ other
-file_same file other e =
-    let same = word_same file.kind other.kind file.name other.name e in
+file_same : (file other : File) → IsNamed file → IsNamed other → file_word file ≡ file_word other → file ≡ other
+file_same file other named also e =
+    let same = word_same file.kind other.kind file.name other.name named.0 also.0 e in
     ap (λ (k : Kind). file_in k file.name) same.0 ∙ ap (file_in other.kind) same.1
 
 -- words name one list of files
-pub files_same : (files others : List File) → map file_word files ≡ map file_word others → files ≡ others
-files_same [] [] e = refl
-files_same [] (other ∷ others) e = absurd cc
-files_same (file ∷ files) [] e = absurd cc
-files_same (file ∷ files) (other ∷ others) e =
+pub files_same : (files others : List File) → Each IsNamed files → Each IsNamed others → map file_word files ≡ map file_word others → files ≡ others
+files_same [] [] named also e = refl
+files_same [] (other ∷ others) named also e = absurd cc
+files_same (file ∷ files) [] named also e = absurd cc
+files_same (file ∷ files) (other ∷ others) named also e =
     let first : file_word file ≡ file_word other = cc in
     let rest : map file_word files ≡ map file_word others = cc in
-    let same : file ≡ other = file_same file other first in
-    let more : files ≡ others = files_same files others rest in cc
+    let same : file ≡ other = file_same file other named.0 also.0 first in
+    let more : files ≡ others = files_same files others named.1 also.1 rest in cc
 
 -- a word with no name behind the prefix names no file
-pub nameless : (word : List ℕ) (kind : Kind) (name : List ℕ) → word ≡ prefix_of kind ++ name → length name ≤ 0 → (file : File) → IsNamed file → word ≢ file_word file
-nameless word kind name is none file named e =
-    let same : name ≡ file.name = (word_same kind file.kind name file.name (sym is ∙ e)).1 in
+pub nameless : (word : List ℕ) (kind : Kind) (name : List ℕ) → HasPrefix kind → word ≡ prefix_of kind ++ name → length name ≤ 0 → (file : File) → IsNamed file → word ≢ file_word file
+nameless word kind name has is none file named e =
+    let same : name ≡ file.name = (word_same kind file.kind name file.name has named.0 (sym is ∙ e)).1 in
     let len : length name ≡ length file.name = ap length same in
-    omega (arith, none, named, len)
+    let some : 0 < length file.name = named.1 in
+    omega (arith, none, some, len)
 
 -- ---- a word names a file, or none
 
@@ -89,23 +94,24 @@ abbrev Names : List ℕ → Type 0
 Names word = (file : File) × IsNamed file × (word ≡ file_word file)
 
 -- it names one of a kind
-of_kind : (kind : Kind) (word : List ℕ) → IsOfPrefix (prefix_of kind) word → Names word
-of_kind kind word of = (record { kind = kind; name = of.0 }, of.1, of.2)
+of_kind : (kind : Kind) (word : List ℕ) → HasPrefix kind → IsOfPrefix (prefix_of kind) word → Names word
+of_kind kind word has of = (record { kind = kind; name = of.0 }, (has, of.1), of.2)
 
 names_or_not : (word : List ℕ) → Names word ⊎ (¬ (Names word))
 names_or_not word = by_kinds (of_prefix (prefix_of V1) word) (of_prefix (prefix_of V2) word) (of_prefix (prefix_of Log) word)
   where
-    none : ¬ (IsOfPrefix (prefix_of V1) word) → ¬ (IsOfPrefix (prefix_of V2) word) → ¬ (IsOfPrefix (prefix_of Log) word) → (kind : Kind) → ¬ (IsOfPrefix (prefix_of kind) word)
-    none first second third V1 = first
-    none first second third V2 = second
-    none first second third Log = third
+    none : ¬ (IsOfPrefix (prefix_of V1) word) → ¬ (IsOfPrefix (prefix_of V2) word) → ¬ (IsOfPrefix (prefix_of Log) word) → (kind : Kind) → HasPrefix kind → ¬ (IsOfPrefix (prefix_of kind) word)
+    none first second third V1 has = first
+    none first second third V2 has = second
+    none first second third Log has = third
+    none first second third Vector has = absurd has
 
     by_kinds : IsOfPrefix (prefix_of V1) word ⊎ (¬ (IsOfPrefix (prefix_of V1) word)) → IsOfPrefix (prefix_of V2) word ⊎ (¬ (IsOfPrefix (prefix_of V2) word)) → IsOfPrefix (prefix_of Log) word ⊎ (¬ (IsOfPrefix (prefix_of Log) word))
         → Names word ⊎ (¬ (Names word))
-    by_kinds (inl a) second third = inl (of_kind V1 word a)
-    by_kinds (inr first) (inl b) third = inl (of_kind V2 word b)
-    by_kinds (inr first) (inr second) (inl c) = inl (of_kind Log word c)
-    by_kinds (inr first) (inr second) (inr third) = inr (λ names. none first second third names.0.kind (names.0.name, names.1, names.2))
+    by_kinds (inl a) second third = inl (of_kind V1 word tt a)
+    by_kinds (inr first) (inl b) third = inl (of_kind V2 word tt b)
+    by_kinds (inr first) (inr second) (inl c) = inl (of_kind Log word tt c)
+    by_kinds (inr first) (inr second) (inr third) = inr (λ names. none first second third names.0.kind names.1.0 (names.0.name, names.1.1, names.2))
 
 -- ---- lemmas for callers
 

@@ -1,21 +1,21 @@
 -- What was read of files so far, and why reading stops.
 use Rattle.std.proofs.Common.{◌≡◌, ◌+◌, ◌<◌, ◌≤◌, ℕ, List, [], ◌∷◌, ◌++◌, length, map, take, drop, get_or, Option, Result, Ok, Err, IfErr, IsErr, IsErrAnd, refl, sym, ap, subst, ◌∙◌, append-nil, append_assoc, arith}
-use Rattle.std.proofs.lemmas.List.{drop_more, get_or-map, length-map, take-append-drop, take_more}
+use Rattle.std.proofs.lemmas.List.{drop_more, get_or-map, length-map, map-append, take-append-drop, take_more}
 use Rattle.yd_words.proofs.EachLemmas.{each_append}
 use Rattle.yd_words.specs.Each.{Each}
 use Rattle.yd_ops.specs.Valid.{IsValidUpdate}
-use Rattle.yd_ops.specs.Value.{UpdateValue}
 use Rattle.yd_world.specs.Shelf.{HasName, Shelf}
 use Rattle.yd_files.proofs.ToldLemmas.{accepted_here, keeps_all, keeps_more, named_here, stops_before, verdict_before}
 use Rattle.yd_files.specs.Counts.{Count, count_of}
 use Rattle.yd_files.specs.Files.{File}
 use Rattle.yd_files.specs.Loading.{KeepsFiles}
-use Rattle.yd_files.specs.Reading.{ReadsOne, StopsAmong, StopsReading}
+use Rattle.yd_files.specs.Reading.{ReadsOne, StopsAmong, StopsReading, no_inputs, with_content}
 use Rattle.yd_files.specs.Seen.{file_of}
-use Rattle.yd_files.specs.Verdict.{AreRead, Content, HasVerdict, IsReached, IsTold, NoneIsMissing, StandFor, accepted, updates_in, updates_of}
+use Rattle.yd_files.specs.Verdict.{AreRead, Content, HasVerdict, Inputs, IsReached, IsTold, NoneIsMissing, StandFor, accepted, inputs_in, updates_in, updates_of, vectors_in, vectors_of}
 use Rattle.yd_files.specs.declared.fault.FileFault.{FileFault}
 use Rattle.yd_files.specs.declared.fault.FileFault.TheVariants.{Refused, ReadFault, TooLarge, NoMemory}
 use Rattle.yd_files.specs.declared.file.File.{File as FileSeen}
+use Rattle.yd_files.specs.declared.kind.Kind.{Kind}
 
 -- ---- contents
 
@@ -30,7 +30,22 @@ read_more told (f ∷ fs) file (c ∷ cs) content read has = (read.0, read_more 
 -- and its updates stand behind the others
 updates_more : (contents : List Content) (content : Content) → updates_in (contents ++ content ∷ []) ≡ updates_in contents ++ updates_of content
 updates_more [] content = append-nil (updates_of content)
-updates_more (c ∷ cs) content = ap (λ (us : List UpdateValue). updates_of c ++ us) (updates_more cs content) ∙ sym (append_assoc (updates_of c) (updates_in cs) (updates_of content))
+updates_more (c ∷ cs) content = ap (λ us. updates_of c ++ us) (updates_more cs content) ∙ sym (append_assoc (updates_of c) (updates_in cs) (updates_of content))
+
+-- and its state vectors
+vectors_more : (contents : List Content) (content : Content) → vectors_in (contents ++ content ∷ []) ≡ vectors_in contents ++ vectors_of content
+vectors_more [] content = append-nil (vectors_of content)
+vectors_more (c ∷ cs) content = ap (λ vs. vectors_of c ++ vs) (vectors_more cs content) ∙ sym (append_assoc (vectors_of c) (vectors_in cs) (vectors_of content))
+
+-- and so what all stand for
+inputs_more : (files : List File) (file : File) (contents : List Content) (content : Content) → inputs_in (files ++ file ∷ []) (contents ++ content ∷ []) ≡ with_content (inputs_in files contents) file.kind content
+inputs_more files file contents content =
+    let kinds : map (λ (f : File). f.kind) (files ++ file ∷ []) ≡ map (λ (f : File). f.kind) files ++ file.kind ∷ [] = map-append (λ (f : File). f.kind) files (file ∷ []) in
+    let vectors = vectors_more contents content in
+    let updates = updates_more contents content in
+    ap (λ (ks : List Kind). record { kinds = ks; vectors = vectors_in (contents ++ content ∷ []); updates = updates_in (contents ++ content ∷ []) }) kinds
+    ∙ ap (λ vs. record { kinds = map (λ (f : File). f.kind) files ++ file.kind ∷ []; vectors = vs; updates = updates_in (contents ++ content ∷ []) }) vectors
+    ∙ ap (λ us. record { kinds = map (λ (f : File). f.kind) files ++ file.kind ∷ []; vectors = vectors_in contents ++ vectors_of content; updates = us }) updates
 
 -- ---- why reading stops
 
@@ -49,17 +64,17 @@ stops_among Calm told next files file reads NoMemory reached s = tt
 
 -- the files in front of this one are accepted, and their updates were read; the library tells the same files, its count did not
 -- fall, and where it was calm, it is so
-pub record SoFar (told now : Option Shelf) (faults faults_now : ℕ) (Calm CalmNow : Type 0) (files : List File) (index : ℕ) (us : List UpdateValue) : Type 0 where
-  pub stand : StandFor told (take index files) us
-  pub valid : Each IsValidUpdate us
+pub record SoFar (told now : Option Shelf) (faults faults_now : ℕ) (Calm CalmNow : Type 0) (files : List File) (index : ℕ) (inputs : Inputs) : Type 0 where
+  pub stand : StandFor told (take index files) inputs
+  pub valid : Each IsValidUpdate inputs.updates
   pub keeps : KeepsFiles told now
   pub counts : faults ≤ faults_now
   pub calm : Calm → IsTold told → CalmNow × (faults_now ≡ faults)
 
--- before the first file there are no updates
-pub so_far_none : (told : Option Shelf) (faults : ℕ) (Calm : Type 0) (files : List File) → SoFar told told faults faults Calm Calm files 0 []
+-- before the first file there is nothing
+pub so_far_none : (told : Option Shelf) (faults : ℕ) (Calm : Type 0) (files : List File) → SoFar told told faults faults Calm Calm files 0 no_inputs
 so_far_none told faults Calm files = record {
-  stand = record { contents = []; are_read = tt; updates_are = refl };
+  stand = record { contents = []; are_read = tt; inputs_are = refl };
   valid = tt;
   keeps = keeps_all told;
   counts = omega arith;
@@ -71,7 +86,7 @@ item_at : (seen : List FileSeen) (index : ℕ) (any : FileSeen) → index < leng
 item_at seen index any lt = get_or-map file_of seen index any (file_of any) lt
 
 -- it is reached
-reached_at : {told now : Option Shelf} {faults faults_now : ℕ} {Calm CalmNow : Type 0} {us : List UpdateValue} (seen : List FileSeen) (index : ℕ) (any : FileSeen) → index < length seen
+reached_at : {told now : Option Shelf} {faults faults_now : ℕ} {Calm CalmNow : Type 0} {us : Inputs} (seen : List FileSeen) (index : ℕ) (any : FileSeen) → index < length seen
     → SoFar told now faults faults_now Calm CalmNow (map file_of seen) index us → IsReached told (map file_of seen) (file_of (get_or seen index any))
 reached_at seen index any lt s =
     let files = map file_of seen in
@@ -86,7 +101,7 @@ reached_at seen index any lt s =
     }
 
 -- why reading stopped there
-pub stops_at : {told now : Option Shelf} {faults faults_now : ℕ} {Calm CalmNow : Type 0} {us : List UpdateValue} (next : Option Shelf) (seen : List FileSeen) (index : ℕ) (any : FileSeen) (later : ℕ) (fault : FileFault) → index < length seen
+pub stops_at : {told now : Option Shelf} {faults faults_now : ℕ} {Calm CalmNow : Type 0} {us : Inputs} (next : Option Shelf) (seen : List FileSeen) (index : ℕ) (any : FileSeen) (later : ℕ) (fault : FileFault) → index < length seen
     → SoFar told now faults faults_now Calm CalmNow (map file_of seen) index us → faults_now ≤ later → StopsReading CalmNow now next (file_of (get_or seen index any)) (count_of faults_now later) fault → StopsAmong Calm told next (map file_of seen) (count_of faults later) fault
 stops_at {told} {now} {faults} {faults_now} {Calm} {CalmNow} next seen index any later fault lt s more stops =
     let file = file_of (get_or seen index any) in
@@ -94,12 +109,12 @@ stops_at {told} {now} {faults} {faults_now} {Calm} {CalmNow} next seen index any
     (stops_before Calm CalmNow told now next file faults faults_now later fault s.keeps s.counts more (λ calmly is_told. (s.calm calmly is_told).0) stops)
 
 -- where none is missing, it is there
-pub named_at : {told now : Option Shelf} {faults faults_now : ℕ} {Calm CalmNow : Type 0} {us : List UpdateValue} (seen : List FileSeen) (index : ℕ) (any : FileSeen) → index < length seen
+pub named_at : {told now : Option Shelf} {faults faults_now : ℕ} {Calm CalmNow : Type 0} {us : Inputs} (seen : List FileSeen) (index : ℕ) (any : FileSeen) → index < length seen
     → SoFar told now faults faults_now Calm CalmNow (map file_of seen) index us → IsTold told → NoneIsMissing told (map file_of seen) → HasName now (file_of (get_or seen index any)).name
 named_at {told} {now} seen index any lt s is_told none = named_here told now (map file_of seen) (file_of (get_or seen index any)) s.keeps is_told none (reached_at seen index any lt s)
 
 -- behind the file of this number
-pub so_far_more : {told now next : Option Shelf} {faults faults_now later : ℕ} {Calm CalmNow CalmNext : Type 0} {old new : List UpdateValue} (seen : List FileSeen) (index : ℕ) (any : FileSeen) → index < length seen
+pub so_far_more : {told now next : Option Shelf} {faults faults_now later : ℕ} {Calm CalmNow CalmNext : Type 0} {old new : Inputs} (seen : List FileSeen) (index : ℕ) (any : FileSeen) → index < length seen
     → SoFar told now faults faults_now Calm CalmNow (map file_of seen) index old → ReadsOne now (file_of (get_or seen index any)) old new → KeepsFiles now next → faults_now ≤ later
     → (CalmNow → HasName now (file_of (get_or seen index any)).name → CalmNext × (later ≡ faults_now)) → SoFar told next faults later Calm CalmNext (map file_of seen) (index + 1) new
 so_far_more {told} {now} {next} {old = old} seen index any lt s one keeps counts calm =
@@ -112,9 +127,9 @@ so_far_more {told} {now} {next} {old = old} seen index any lt s one keeps counts
       stand = record {
         contents = contents;
         are_read = subst (λ (fs : List File). AreRead told fs contents) (sym longer) (read_more told (take index files) (file_of (get_or seen index any)) s.stand.contents one.content s.stand.are_read (verdict_before told now (file_of (get_or seen index any)) (accepted one.content) s.keeps one.is_read));
-        updates_are = one.appended ∙ ap (λ (us : List UpdateValue). us ++ updates_of one.content) s.stand.updates_are ∙ sym (updates_more s.stand.contents one.content);
+        inputs_are = one.appended ∙ ap (λ (i : Inputs). with_content i file.kind one.content) s.stand.inputs_are ∙ sym (inputs_more (take index files) file s.stand.contents one.content) ∙ ap (λ (fs : List File). inputs_in fs contents) (sym longer);
       };
-      valid = rw one.appended (each_append IsValidUpdate old (updates_of one.content) s.valid one.valid);
+      valid = rw one.appended (each_append IsValidUpdate old.updates (updates_of one.content) s.valid one.valid);
       keeps = keeps_more told now next s.keeps keeps;
       counts = omega (arith, counts, s.counts);
       calm = λ calmly is_told.

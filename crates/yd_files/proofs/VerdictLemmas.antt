@@ -5,12 +5,11 @@ use Rattle.yd_words.proofs.EachLemmas.{each_append}
 use Rattle.yd_words.specs.Each.{Each}
 use Rattle.yd_parts.specs.Fault.{Fault}
 use Rattle.yd_ops.specs.Valid.{IsValidUpdate}
-use Rattle.yd_ops.specs.Value.{UpdateValue}
 use Rattle.yd_world.specs.Shelf.{Shelf}
 use Rattle.yd_files.proofs.KindLemmas.{read_exactly, reading_in}
 use Rattle.yd_files.proofs.ValidLemmas.{stands_valid}
 use Rattle.yd_files.specs.Law.{FilesAreJudged}
-use Rattle.yd_files.specs.Verdict.{AreRead, Content, HasVerdict, IsNotAccepted, IsReached, StandFor, StopsAt, Verdict, accepted, missing, refused, too_large, updates_in, updates_of}
+use Rattle.yd_files.specs.Verdict.{AreRead, Content, HasVerdict, Inputs, IsNotAccepted, IsReached, StandFor, StopsAt, Verdict, accepted, inputs_in, missing, refused, too_large, updates_in, updates_of}
 use Rattle.yd_files.specs.Files.{File}
 use Rattle.yd_files.specs.declared.kind.Kind.{Kind}
 
@@ -172,22 +171,22 @@ read_valid shelf (file ∷ files) (c ∷ cs) a = each_append IsValidUpdate (upda
 
 -- ---- lemmas for callers
 
--- files stand for one list of updates
-pub stand_one : (shelf : Shelf) (files : List File) (us others : List UpdateValue) → StandFor (Some shelf) files us → StandFor (Some shelf) files others → us ≡ others
-stand_one shelf files us others a b = a.updates_are ∙ ap updates_in (contents_one shelf files a.contents b.contents a.are_read b.are_read) ∙ sym b.updates_are
+-- files stand for one thing
+pub stand_one : (shelf : Shelf) (files : List File) (inputs others : Inputs) → StandFor (Some shelf) files inputs → StandFor (Some shelf) files others → inputs ≡ others
+stand_one shelf files inputs others a b = a.inputs_are ∙ ap (inputs_in files) (contents_one shelf files a.contents b.contents a.are_read b.are_read) ∙ sym b.inputs_are
 
--- and for valid ones
-pub stand_valid : (shelf : Shelf) (files : List File) (us : List UpdateValue) → StandFor (Some shelf) files us → Each IsValidUpdate us
-stand_valid shelf files us a = subst (Each IsValidUpdate) (sym a.updates_are) (read_valid shelf files a.contents a.are_read)
+-- and for valid updates
+pub stand_valid : (shelf : Shelf) (files : List File) (inputs : Inputs) → StandFor (Some shelf) files inputs → Each IsValidUpdate inputs.updates
+stand_valid shelf files inputs a = subst (λ (i : Inputs). Each IsValidUpdate i.updates) (sym a.inputs_are) (read_valid shelf files a.contents a.are_read)
 
--- files that stand for updates have none that is not accepted
-pub stand_apart : (shelf : Shelf) (files : List File) (us : List UpdateValue) (file : File) (verdict : Verdict) → StandFor (Some shelf) files us → StopsAt (Some shelf) files file verdict → ⊥
-stand_apart shelf files us file verdict a stops = stops_apart shelf files a.contents file verdict a.are_read stops
+-- files that stand for something have none that is not accepted
+pub stand_apart : (shelf : Shelf) (files : List File) (inputs : Inputs) (file : File) (verdict : Verdict) → StandFor (Some shelf) files inputs → StopsAt (Some shelf) files file verdict → ⊥
+stand_apart shelf files inputs file verdict a stops = stops_apart shelf files a.contents file verdict a.are_read stops
 
--- all files stand for updates, or one is the first that is not accepted
-stand_or_stop : (shelf : Shelf) (files : List File) → ((us : List UpdateValue) × StandFor (Some shelf) files us) ⊎ ((file : File) × (verdict : Verdict) × StopsAt (Some shelf) files file verdict)
+-- all files stand for something, or one is the first that is not accepted
+stand_or_stop : (shelf : Shelf) (files : List File) → ((inputs : Inputs) × StandFor (Some shelf) files inputs) ⊎ ((file : File) × (verdict : Verdict) × StopsAt (Some shelf) files file verdict)
 stand_or_stop shelf files = elim (judged shelf files) [
-  | inl read ↦ inl (updates_in read.0, record { contents = read.0; are_read = read.1; updates_are = refl })
+  | inl read ↦ inl (inputs_in files read.0, record { contents = read.0; are_read = read.1; inputs_are = refl })
   | inr stops ↦ inr stops
 ]
 
@@ -197,7 +196,7 @@ files_judged = record {
   file = verdict_has;
   one = verdict_one;
   files = stand_or_stop;
-  updates = stand_one;
+  inputs = stand_one;
   valid = stand_valid;
   first = stops_one;
   apart = stand_apart;

@@ -1,35 +1,33 @@
 -- What reading files answers, and why it stops (own).
-use Rattle.std.specs.Prelude.{◌≡◌, List, [], ◌∷◌, ◌++◌, Option, Result, Ok, Err}
+use Rattle.std.specs.Prelude.{◌≡◌, List, [], ◌∷◌, ◌++◌, Option}
 use Rattle.yd_words.specs.Each.{Each}
 use Rattle.yd_ops.specs.Valid.{IsValidUpdate}
-use Rattle.yd_ops.specs.Value.{UpdateValue}
-use Rattle.yd_ops.specs.declared.updates.Update.{Update}
-use Rattle.yd_parts.specs.declared.fault.ReadError.{ReadError}
-use Rattle.yd_parts.specs.declared.fault.ReadError.TheVariants as errors
 use Rattle.yd_world.specs.Shelf.{Shelf}
 use Rattle.yd_files.specs.Counts.{Count, RoseIn}
 use Rattle.yd_files.specs.Files.{File}
 use Rattle.yd_files.specs.Loading.{BeginsLast}
 use Rattle.yd_files.specs.Seen.{file_of}
-use Rattle.yd_files.specs.Verdict.{Content, HasVerdict, IsReached, IsTold, NoneIsMissing, StopsAt, accepted, missing, refused, too_large, updates_of}
+use Rattle.yd_files.specs.Verdict.{Content, HasVerdict, Inputs, IsReached, IsTold, NoneIsMissing, StopsAt, accepted, missing, refused, too_large, updates_of, vectors_of}
+use Rattle.yd_files.specs.declared.kind.Kind.{Kind}
 use Rattle.yd_files.specs.declared.fault.FileFault.{FileFault}
 use Rattle.yd_files.specs.declared.fault.FileFault.TheVariants.{Refused, ReadFault, TooLarge, NoMemory}
 
 -- ---- one file
 
--- the one update that was read, as a list; or the error; or memory was wanted
-abbrev pub AsOne : Result Update ReadError → Result (List Update) ReadError → Type 0
-AsOne (Ok update) (Ok list) = list ≡ update ∷ []
-AsOne (Ok update) (Err errors.NoMemory) = Unit {0}
-AsOne (Ok update) (Err (errors.Fault cause spot)) = ⊥
-AsOne (Err error) result = result ≡ Err error
+-- those of no file
+abbrev pub no_inputs : Inputs
+no_inputs = record { kinds = []; vectors = []; updates = [] }
 
--- the file is accepted, and its updates, which are valid, stand behind those of before
-pub record ReadsOne (told : Option Shelf) (file : File) (old new : List UpdateValue) : Type 0 where
+-- inputs with one more content behind them, of a file of the kind
+abbrev pub with_content : Inputs → Kind → Content → Inputs
+with_content inputs kind content = record { kinds = inputs.kinds ++ kind ∷ []; vectors = inputs.vectors ++ vectors_of content; updates = inputs.updates ++ updates_of content }
+
+-- the file is accepted, and what it stands for, with valid updates, stands behind what was there before
+pub record ReadsOne (told : Option Shelf) (file : File) (old new : Inputs) : Type 0 where
   pub content : Content
   pub is_read : HasVerdict told file (accepted content)
   pub valid : Each IsValidUpdate (updates_of content)
-  pub appended : new ≡ old ++ updates_of content
+  pub appended : new ≡ with_content old file.kind content
 
 -- why reading a file stopped: it is refused or too large, or the library failed at it; want of memory has no reason
 abbrev pub StopsReading : Type 0 → Option Shelf → Option Shelf → File → Count → FileFault → Type 0

@@ -1,20 +1,23 @@
 -- What a file is, and which of several is the first that is not accepted (own).
-use Rattle.std.specs.Prelude.{◌≡◌, ℕ, ◌^◌, ◌<◌, ◌≤◌, List, ◌++◌, ◌∷◌, [], length, Option, Some, None}
+use Rattle.std.specs.Prelude.{◌≡◌, ℕ, ◌^◌, ◌<◌, ◌≤◌, List, ◌++◌, ◌∷◌, [], length, map, Option, Some, None}
+use Rattle.yd_fields.specs.UpdatePlan.{vector_plan}
+use Rattle.yd_ids.specs.declared.id.Client.{Client}
 use Rattle.yd_parts.specs.Fault.{Fault}
-use Rattle.yd_v1.specs.Grammar.{HasFirstFaultV1, StandsForV1}
+use Rattle.yd_v1.specs.Grammar.{FailsV1, FillsV1, HasFirstFaultV1, StandsForV1}
 use Rattle.yd_v1.specs.Log.{HasFirstFaultLog, StandsForLog}
 use Rattle.yd_v2.specs.Grammar.{HasFirstFaultV2, StandsForV2}
 use Rattle.yd_ops.specs.Value.{UpdateValue}
 use Rattle.yd_world.specs.Shelf.{Shelf}
 use Rattle.yd_files.specs.Files.{File}
 use Rattle.yd_files.specs.declared.kind.Kind.{Kind}
-use Rattle.yd_files.specs.declared.kind.Kind.TheVariants.{V1, V2, Log}
+use Rattle.yd_files.specs.declared.kind.Kind.TheVariants.{V1, V2, Log, Vector}
 
 -- ---- bytes
 
--- what a file stands for: updates in order. A further kind of file brings what it stands for
+-- what a file stands for: updates in order, or a state vector. A further kind of file brings what it stands for
 pub data Content : Type 0 where
   updates : List UpdateValue → Content
+  vector : List (Client × ℕ) → Content
 
 -- one update
 abbrev pub one_update : UpdateValue → Content
@@ -29,12 +32,14 @@ abbrev pub StandsIn : Kind → List ℕ → Content → Type 0
 StandsIn V1 bytes = StandsAs one_update (StandsForV1 bytes)
 StandsIn V2 bytes = StandsAs one_update (StandsForV2 bytes)
 StandsIn Log bytes = StandsAs updates (StandsForLog bytes)
+StandsIn Vector bytes = StandsAs vector (FillsV1 vector_plan bytes)
 
 -- the fault is the first in them, by the grammar of the kind
 abbrev pub HasFirstFaultIn : Kind → List ℕ → Fault → Type 0
 HasFirstFaultIn V1 bytes = HasFirstFaultV1 bytes
 HasFirstFaultIn V2 bytes = HasFirstFaultV2 bytes
 HasFirstFaultIn Log bytes = HasFirstFaultLog bytes
+HasFirstFaultIn Vector bytes = FailsV1 vector_plan bytes
 
 -- they are at most 256 MiB
 abbrev pub IsWithin : List ℕ → Type 0
@@ -47,11 +52,32 @@ IsTooLarge bytes = 2 ^ 28 < length bytes
 -- the updates of a content
 abbrev pub updates_of : Content → List UpdateValue
 updates_of (updates us) = us
+updates_of (vector v) = []
 
 -- the updates of contents, in order
 abbrev pub updates_in : List Content → List UpdateValue
 updates_in [] = []
 updates_in (content ∷ contents) = updates_of content ++ updates_in contents
+
+-- the state vectors of a content
+abbrev pub vectors_of : Content → List (List (Client × ℕ))
+vectors_of (updates us) = []
+vectors_of (vector v) = v ∷ []
+
+-- the state vectors of contents, in order
+abbrev pub vectors_in : List Content → List (List (Client × ℕ))
+vectors_in [] = []
+vectors_in (content ∷ contents) = vectors_of content ++ vectors_in contents
+
+-- what files stand for together: of which kinds they are, their state vectors and their updates, each in order
+pub record Inputs : Type 0 where
+  pub kinds : List Kind
+  pub vectors : List (List (Client × ℕ))
+  pub updates : List UpdateValue
+
+-- the files' kinds, and what is in their contents
+abbrev pub inputs_in : List File → List Content → Inputs
+inputs_in files contents = record { kinds = map (λ (file : File). file.kind) files; vectors = vectors_in contents; updates = updates_in contents }
 
 -- ---- what a library tells
 
@@ -100,11 +126,11 @@ AreRead told [] (content ∷ contents) = ⊥
 AreRead told (file ∷ files) [] = ⊥
 AreRead told (file ∷ files) (content ∷ contents) = HasVerdict told file (accepted content) × AreRead told files contents
 
--- all files are accepted, and these are their updates, in order
-pub record StandFor (told : Option Shelf) (files : List File) (us : List UpdateValue) : Type 0 where
+-- all files are accepted, and this is what they stand for
+pub record StandFor (told : Option Shelf) (files : List File) (inputs : Inputs) : Type 0 where
   pub contents : List Content
   pub are_read : AreRead told files contents
-  pub updates_are : us ≡ updates_in contents
+  pub inputs_are : inputs ≡ inputs_in files contents
 
 -- the file is one of these, and all before it are accepted
 pub record IsReached (told : Option Shelf) (files : List File) (file : File) : Type 0 where

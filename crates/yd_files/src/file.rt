@@ -1,7 +1,7 @@
 //! Files, as the words name them.
 
 ghost use Rattle.std.specs.Prelude.{◌≡◌, ◌≢◌, ◌++◌, ℕ, List, IfSome, IfNone};
-ghost use Rattle.yd_files.specs.Files.{File as FileValue, IsNamed, file_word, prefix_of};
+ghost use Rattle.yd_files.specs.Files.{File as FileValue, HasPrefix, IsNamed, file_word, prefix_of};
 ghost use Rattle.yd_files.specs.Seen.{file_of as seen};
 ghost use Rattle.yd_files.specs.declared.kind.Kind.{Kind as KindValue};
 
@@ -32,8 +32,9 @@ pub fn file_of(word: &str) -> Option<File<'_>>
 // The kind, and what stands behind its prefix.
 fn kind_and_name(word: &str) -> Option<(Kind, &str)>
     ensures found { IfSome result (λ both. word.now ≡ prefix_of both.0 ++ both.1.now) }
+    ensures prefixed { IfSome result (λ both. HasPrefix both.0) }
     ensures none { IfNone result ((kind : KindValue) (name : List ℕ)
-        → word.now ≢ prefix_of kind ++ name) }
+        → HasPrefix kind → word.now ≢ prefix_of kind ++ name) }
 {
     if let Some(name) = word.strip_prefix("v1:") {
         return Some((Kind::V1, name));

@@ -6,14 +6,15 @@ ghost use Rattle.yd_ops.specs.Valid.{IsValidUpdate};
 ghost use Rattle.yd_ops.specs.View.{update_value};
 ghost use Rattle.yd_reading.specs.Answer.{ReadsWhole};
 ghost use Rattle.yd_files.specs.Files.{IsOneUpdate, prefix_of};
-ghost use Rattle.yd_files.specs.Reading.{AsOne};
-ghost use Rattle.yd_files.specs.Seen.{content_of};
-ghost use Rattle.yd_files.specs.Verdict.{HasFirstFaultIn, StandsIn};
+ghost use Rattle.yd_files.specs.Seen.{AsContent, content_of};
+ghost use Rattle.yd_files.specs.Verdict.{HasFirstFaultIn, StandsIn, one_update, updates, updates_of, vector};
 
+use crate::content::Content;
 use std::alloc::Global;
+use yd_ids::Vector;
 use yd_ops::Update;
 use yd_parts::ReadError;
-use yd_v1::{UpdateList, read_log, read_v1};
+use yd_v1::{UpdateList, read_log, read_v1, read_vector};
 use yd_v2::read_v2;
 
 /// How a file is spelled.
@@ -25,6 +26,8 @@ pub enum Kind {
     V2,
     /// Updates in V1, one behind the other.
     Log,
+    /// A state vector.
+    Vector,
 }
 
 impl Kind {
@@ -34,12 +37,13 @@ impl Kind {
     {
         match self {
             Kind::V1 | Kind::V2 => true,
-            Kind::Log => false,
+            Kind::Log | Kind::Vector => false,
         }
     }
 }
 
-/// What stands before the name of a file of this kind, in a word.
+/// What stands before the name of a file of this kind, in a word: nothing before that of a state
+/// vector.
 pub fn prefix(kind: Kind) -> &'static str
     ensures { result.now ≡ prefix_of kind }
 {
@@ -47,31 +51,48 @@ pub fn prefix(kind: Kind) -> &'static str
         Kind::V1 => "v1:",
         Kind::V2 => "v2:",
         Kind::Log => "log:",
+        Kind::Vector => "",
     }
 }
 
-/// Reads the bytes of a file of this kind: the updates that they stand for, or the first fault in
-/// them.
-pub(crate) fn read_in(alloc: Global, kind: Kind, bytes: &[u8]) -> Result<UpdateList, ReadError>
+/// Reads the bytes of a file of this kind: what they stand for, or the first fault in them.
+pub(crate) fn read_in(alloc: Global, kind: Kind, bytes: &[u8]) -> Result<Content, ReadError>
     ensures exact { ReadsWhole content_of (StandsIn kind bytes.now)
         (HasFirstFaultIn kind bytes.now) result }
-    ensures valid { IfOk result (λ list. Each IsValidUpdate (map update_value list)) }
+    ensures valid { IfOk result (λ content. Each IsValidUpdate (updates_of (content_of content))) }
 {
     match kind {
         Kind::V1 => as_one(alloc, read_v1(alloc, bytes)),
         Kind::V2 => as_one(alloc, read_v2(alloc, bytes)),
-        Kind::Log => read_log(alloc, bytes),
+        Kind::Log => as_updates(read_log(alloc, bytes)),
+        Kind::Vector => as_vector(read_vector(alloc, bytes)),
     }
 }
 
-// The one update as a list.
-fn as_one(alloc: Global, read: Result<Update, ReadError>) -> Result<UpdateList, ReadError>
-    ensures { AsOne read result }
+// The one update as a content.
+fn as_one(alloc: Global, read: Result<Update, ReadError>) -> Result<Content, ReadError>
+    ensures { AsContent (λ update. one_update (update_value update)) read result }
 {
     let update = read?;
     let mut list = UpdateList::new(alloc);
     if list.push(update).is_err() {
         return Err(ReadError::NoMemory);
     }
-    Ok(list)
+    Ok(Content::Updates(list))
+}
+
+// The updates as a content.
+fn as_updates(read: Result<UpdateList, ReadError>) -> Result<Content, ReadError>
+    ensures { AsContent (λ list. updates (map update_value list)) read result }
+{
+    let list = read?;
+    Ok(Content::Updates(list))
+}
+
+// The state vector as a content.
+fn as_vector(read: Result<Vector, ReadError>) -> Result<Content, ReadError>
+    ensures { AsContent vector read result }
+{
+    let reached = read?;
+    Ok(Content::Vector(reached))
 }

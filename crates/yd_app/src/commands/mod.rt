@@ -1,13 +1,14 @@
-//! The commands, each in a file of its own: bytes made of the updates of files.
+//! The commands, each in a file of its own: bytes made of what files stand for.
 
-ghost use Rattle.std.specs.Prelude.{map, IfOk};
+ghost use Rattle.std.specs.Prelude.{IfOk};
 ghost use Rattle.yd_words.specs.Each.{Each};
 ghost use Rattle.yd_ops.specs.Valid.{IsValidUpdate};
-ghost use Rattle.yd_ops.specs.View.{update_value};
+ghost use Rattle.yd_files.specs.Seen.{inputs_of};
 ghost use Rattle.yd_app.specs.Command.{command_of};
 ghost use Rattle.yd_app.specs.Output.{IsMadeOf};
 
 mod convert;
+mod cut;
 mod merge;
 mod pack;
 mod show;
@@ -16,23 +17,20 @@ mod vector;
 use crate::command::Command;
 use crate::fault::NoMemory;
 use std::alloc::Global;
-use yd_ops::Update;
+use yd_files::Inputs;
 
-/// What the command makes of the updates.
-pub fn output_of(
-    alloc: Global,
-    command: Command<'_>,
-    updates: &[Update],
-) -> Result<Vec<u8>, NoMemory>
-    requires { Each IsValidUpdate (map update_value updates.now) }
+/// What the command makes of what its files stand for.
+pub fn output_of(alloc: Global, command: Command<'_>, inputs: &Inputs) -> Result<Vec<u8>, NoMemory>
+    requires { Each IsValidUpdate (inputs_of inputs.now).updates }
     ensures { IfOk result (λ bytes.
-        IsMadeOf (command_of command.entry) (map update_value updates.now) bytes.items) }
+        IsMadeOf (command_of command.entry) (inputs_of inputs.now) bytes.items) }
 {
     match command {
-        Command::ShowText { root } => show::show(alloc, root, updates),
-        Command::Convert { form } => convert::convert(alloc, form, updates),
-        Command::Pack => pack::pack(alloc, updates),
-        Command::Merge { form } => merge::merge(alloc, form, updates),
-        Command::Vector => vector::vector(alloc, updates),
+        Command::ShowText { root } => show::show(alloc, root, inputs),
+        Command::Convert { form } => convert::convert(alloc, form, inputs),
+        Command::Pack => pack::pack(alloc, inputs),
+        Command::Merge { form } => merge::merge(alloc, form, inputs),
+        Command::Vector => vector::vector(alloc, inputs),
+        Command::Cut { .. } => cut::cut(alloc, inputs),
     }
 }

@@ -1,10 +1,10 @@
 //! `show`: what a reader of a root sees.
 
-ghost use Rattle.std.specs.Prelude.{◌≡◌, map, IfOk};
+ghost use Rattle.std.specs.Prelude.{◌≡◌, IfOk};
 ghost use Rattle.yd_words.specs.Each.{Each};
 ghost use Rattle.yd_doc.specs.Kept.{own_document};
 ghost use Rattle.yd_ops.specs.Valid.{IsValidUpdate};
-ghost use Rattle.yd_ops.specs.View.{update_value};
+ghost use Rattle.yd_files.specs.Seen.{inputs_of};
 ghost use Rattle.yd_app.specs.Command.{show_text};
 ghost use Rattle.yd_app.specs.Commands.Show.{root_list, text_line};
 ghost use Rattle.yd_app.specs.Output.{IsMadeOf};
@@ -15,16 +15,17 @@ use std::alloc::Global;
 use yd_any::Text;
 use yd_doc::Replica;
 use yd_doc::law::own_document_is_defined;
-use yd_ops::{List, Parent, Update};
+use yd_files::Inputs;
+use yd_ops::{List, Parent};
 use yd_view::text;
 
 /// The text that the root shows in the document of all updates, and a line feed.
-pub fn show(alloc: Global, root: &str, updates: &[Update]) -> Result<Vec<u8>, NoMemory>
-    requires { Each IsValidUpdate (map update_value updates.now) }
+pub fn show(alloc: Global, root: &str, inputs: &Inputs) -> Result<Vec<u8>, NoMemory>
+    requires { Each IsValidUpdate (inputs_of inputs.now).updates }
     ensures { IfOk result (λ line.
-        IsMadeOf (show_text root.now) (map update_value updates.now) line.items) }
+        IsMadeOf (show_text root.now) (inputs_of inputs.now) line.items) }
 {
-    let replica = receive_all(alloc, updates)?;
+    let replica = receive_all(alloc, inputs.updates.as_slice())?;
     own_document_is_defined(&replica);
     let line = line_of_root(alloc, &replica, root)?;
     Ok(line)

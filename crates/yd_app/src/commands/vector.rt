@@ -1,25 +1,25 @@
 //! `vector`: the clock that each client reaches.
 
-ghost use Rattle.std.specs.Prelude.{map, IfOk};
+ghost use Rattle.std.specs.Prelude.{IfOk};
 ghost use Rattle.yd_words.specs.Each.{Each};
 ghost use Rattle.yd_ops.specs.Valid.{IsValidUpdate};
-ghost use Rattle.yd_ops.specs.View.{update_value};
+ghost use Rattle.yd_files.specs.Seen.{inputs_of};
 ghost use Rattle.yd_app.specs.Command.{vector as vectors};
 ghost use Rattle.yd_app.specs.Output.{IsMadeOf};
 
 use crate::fault::NoMemory;
 use std::alloc::Global;
+use yd_files::Inputs;
 use yd_merge::{merge, vector_of};
-use yd_ops::Update;
 use yd_v1::write_vector;
 
 /// The bytes of the state vector of the merge of the updates.
-pub fn vector(alloc: Global, updates: &[Update]) -> Result<Vec<u8>, NoMemory>
-    requires { Each IsValidUpdate (map update_value updates.now) }
+pub fn vector(alloc: Global, inputs: &Inputs) -> Result<Vec<u8>, NoMemory>
+    requires { Each IsValidUpdate (inputs_of inputs.now).updates }
     ensures { IfOk result (λ bytes.
-        IsMadeOf vectors (map update_value updates.now) bytes.items) }
+        IsMadeOf vectors (inputs_of inputs.now) bytes.items) }
 {
-    let merged = merge(alloc, updates)?;
+    let merged = merge(alloc, inputs.updates.as_slice())?;
     let reached = vector_of(alloc, &merged)?;
     let written = write_vector(alloc, &reached)?;
     Ok(written)

@@ -6,7 +6,7 @@ use Rattle.yd_files.specs.Seen.{file_of}
 use Rattle.yd_files.proofs.reading.read_files.Goals as goal
 
 pub loop-file-init : goal.loop-file-init
-loop-file-init g c = rw c.new-updates.ensures (so_far_none _ _ _ _)
+loop-file-init g c = rw c.new-inputs.ensures (so_far_none _ _ _ _)
 
 pub returns-in_err-read_next-clause-stops : goal.returns-in_err-read_next-clause-stops
 returns-in_err-read_next-clause-stops g c =
