@@ -36,10 +36,10 @@ pub(crate) const SYNC_CHANGE: u8 = 2;
 pub(crate) fn sync_kind(inner: u64) -> Kind
     ensures { result ≡ sync_kind inner }
 {
-    match inner {
-        0 => Kind::Step1,
-        1 => Kind::Step2,
-        2 => Kind::Change,
+    match u8::try_from(inner) {
+        Ok(SYNC_STEP1) => Kind::Step1,
+        Ok(SYNC_STEP2) => Kind::Step2,
+        Ok(SYNC_CHANGE) => Kind::Change,
         _ => Kind::Other(inner),
     }
 }
@@ -48,10 +48,10 @@ pub(crate) fn sync_kind(inner: u64) -> Kind
 pub(crate) fn outer_kind(outer: u64) -> Kind
     ensures { result ≡ outer_kind outer }
 {
-    match outer {
-        1 => Kind::Aware,
-        2 => Kind::Auth,
-        3 => Kind::Query,
+    match u8::try_from(outer) {
+        Ok(OUTER_AWARE) => Kind::Aware,
+        Ok(OUTER_AUTH) => Kind::Auth,
+        Ok(OUTER_QUERY) => Kind::Query,
         _ => Kind::Other(outer),
     }
 }

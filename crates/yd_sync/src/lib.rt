@@ -3,7 +3,7 @@
 //! A message asks for what one lacks, tells an update, or tells who is there (y-protocols, in the
 //! envelope of y-websocket). [`read_message`] answers the one message that bytes stand for, or their
 //! first deviation; [`write_message`] answers bytes that stand for the message again. What entries
-//! make of a table of who is there is defined, with its laws ([`law`]); no code keeps a table yet.
+//! make of a table of who is there is defined, with its laws ([`law`]).
 //!
 //! ```rust
 //! let message = read_message(alloc, &[3])?;
@@ -27,5 +27,6 @@ pub use entry::{AwareEntry, AwareList};
 pub use fault::{MessageError, MessageFault};
 pub use message::Message;
 pub use reading::read_message;
+pub use seat::Seat;
 pub use writing::write_message;
 pub use yd_parts::{Cause, Column, NoMemory, Spot};

@@ -4,7 +4,7 @@ use yd_any::Text;
 
 /// What is known of a client: its clock and state, when they were taken or set, and from whom.
 #[derive(Drop)]
-pub(crate) struct Seat {
+pub struct Seat {
     /// The client's clock, below 2^53.
     pub clock: u64,
     /// Its state, where it has one.
