@@ -2,3 +2,4 @@ pub mod ListsLemmas
 pub mod UnitsLemmas
 pub mod ArenaLemmas
 pub mod GrowthLemmas
+pub mod BesideLemmas

@@ -4,8 +4,10 @@ ghost use Rattle.std.specs.Prelude.{◌≡◌, ◌<◌, ◌≤◌, ◌⊎◌, �
 ghost use Rattle.yd_ids.specs.Id.{IsClock};
 ghost use Rattle.yd_words.specs.Member.{IsIn};
 ghost use Rattle.yd_scan.specs.Stretches.{stretch_at, IsNoLater, EndsLeft};
+ghost use Rattle.yd_arena.specs.Lists.{AreLists};
 ghost use Rattle.yd_arena.specs.Arena.{runs_of, count_of, places_in, next_clock, room_for, IsArena, HasUnit, IsSame, CutsRun, CutsAt, GrowsByRun, AddsLoose};
 
+use crate::beside::{Beside, cut_both};
 use crate::growing::add_entry;
 use crate::lists::Lists;
 use std::alloc::{AllocError, Global};
@@ -59,8 +61,10 @@ impl Arena {
 
     /// The runs and their lists.
     pub fn lists(&self) -> &Lists
-        ensures { result.now ≡ self.now.linked }
+        ensures value { result.now ≡ self.now.linked }
+        ensures lists { AreLists self.now.linked }
     {
+        self.lists.are_lists();
         &self.lists
     }
 
@@ -101,6 +105,7 @@ impl Arena {
     pub fn reserve(&mut self, client: Client, more: usize) -> Result<(), AllocError>
         ensures same { IsSame self.old self.new }
         ensures room { OnOk result (more ≤ room_for self.new client.0) }
+        ensures succeeds { 0 < more → more ≤ room_for self.old client.0 → IsOk result }
         ensures kept { (other : ℕ) → room_for self.old other ≤ room_for self.new other }
     {
         self.lists.reserve(more)?;
@@ -125,6 +130,36 @@ impl Arena {
             clock: first.clock + n,
         };
         self.index.cut(id, more)?;
+        Ok(self.lists.cut(place, n))
+    }
+
+    /// Cuts a run in two behind so many units, and what lies beside it, or neither. The second part
+    /// goes behind the first in its list, if it is in one, and its place is answered.
+    pub fn cut_with<B: Beside>(
+        &mut self,
+        place: usize,
+        n: u64,
+        beside: &mut B,
+    ) -> Result<usize, AllocError>
+        requires place { place < length (runs_of self.old) }
+        requires before { 0 < n }
+        requires within { n < (stretch_at (runs_of self.old) place).len }
+        requires can { B.can_cut beside.old place n }
+        requires same { B.keeps beside.old beside.old }
+        ensures place { IfOk result (λ more. more ≡ length (runs_of self.old)) }
+        ensures done { OnOk result (CutsRun self.old self.new place n) }
+        ensures beside { OnOk result (B.cuts beside.old beside.new place n) }
+        ensures unchanged { OnErr result (IsSame self.old self.new) }
+        ensures kept { OnErr result (B.keeps beside.old beside.new) }
+    {
+        self.lists.reserve(1)?;
+        let more = self.lists.len();
+        let first = self.lists.stretch(place).id;
+        let id = Id {
+            client: first.client,
+            clock: first.clock + n,
+        };
+        cut_both(&mut self.index, beside, id, more, place, n)?;
         Ok(self.lists.cut(place, n))
     }
 
@@ -161,7 +196,7 @@ impl Arena {
         requires room { 0 < room_for self.old new.id.client.0 }
         ensures place { result ≡ length (runs_of self.old) }
         ensures done { GrowsByRun self.old self.new list new }
-        ensures room { room_for self.old new.id.client.0 ≤ room_for self.new new.id.client.0 + 1 }
+        ensures rooms { (client : ℕ) → room_for self.old client ≤ room_for self.new client + 1 }
     {
         let behind = self.lists.scan(&self.index, list, &new, after);
         let place = self.lists.len();
@@ -178,7 +213,7 @@ impl Arena {
         requires room { 0 < room_for self.old new.id.client.0 }
         ensures place { result ≡ length (runs_of self.old) }
         ensures done { AddsLoose self.old self.new new }
-        ensures room { room_for self.old new.id.client.0 ≤ room_for self.new new.id.client.0 + 1 }
+        ensures rooms { (client : ℕ) → room_for self.old client ≤ room_for self.new client + 1 }
     {
         let place = self.lists.len();
         add_entry(&mut self.index, &new, place);

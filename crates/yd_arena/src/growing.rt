@@ -146,8 +146,7 @@ pub fn add_entry(index: &mut Index, new: &Stretch, place: usize)
     requires fits { next_of index.old new.now.id.client.0 + new.now.len < 2 ^ 64 }
     requires room { 0 < room_of index.old new.now.id.client.0 }
     ensures done { Adds index.old index.new new.now.id.client.0 place new.now.len }
-    ensures room { room_of index.old new.now.id.client.0 ≤
-        room_of index.new new.now.id.client.0 + 1 }
+    ensures rooms { (k : ℕ) → room_of index.old k ≤ room_of index.new k + 1 }
 {
     let _ = index.add(new.id.client, place, new.len);
 }

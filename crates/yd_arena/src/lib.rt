@@ -16,9 +16,11 @@
 #![tactic(auto)]
 
 mod arena;
+mod beside;
 mod growing;
 pub mod law;
 mod lists;
 
 pub use arena::{Arena, Found};
+pub use beside::Beside;
 pub use lists::Lists;

@@ -69,6 +69,13 @@ impl Lists {
         self.stretches.len()
     }
 
+    /// That no list has a place twice, and no two lists share one, as a fact for callers.
+    pub fn are_lists(&self)
+        ensures { AreLists self.now }
+    {
+        let _ = self.chains.len();
+    }
+
     /// The run at a place.
     pub fn stretch(&self, place: usize) -> Stretch
         requires { place < length self.now.stretches }

@@ -1,11 +1,11 @@
 -- Lines of several clients.
-use Rattle.std.proofs.Common.{◌≡◌, ◌≢◌, ℕ, zero, suc, ◌-◌, ◌<◌, ◌≤◌, ◌⊎◌, inl, inr, Bool, true, false, nat_eq, nat_lt, List, [], ◌∷◌, Some, None, Result, Ok, Err, length, get_or, set, refl, sym, ap, ◌∙◌, subst, arith, tests}
+use Rattle.std.proofs.Common.{◌≡◌, ◌≢◌, ℕ, zero, suc, ◌-◌, ◌<◌, ◌≤◌, ◌⊎◌, inl, inr, Bool, true, false, nat_eq, nat_lt, List, [], ◌∷◌, ◌++◌, Some, None, Result, Ok, Err, length, get_or, set, refl, sym, ap, ◌∙◌, subst, arith, tests}
 use Rattle.std.specs.Prelude.{HoldsAt, OnErr, insert}
 use Rattle.std.proofs.lemmas.List.Edits.{length-insert, get_or-insert_at}
 use Rattle.yd_pieces.specs.Pieces.{IsBoundary}
 use Rattle.yd_index.specs.declared.line.Entry.{Entry}
 use Rattle.yd_index.specs.Line.{Lined}
-use Rattle.yd_index.specs.Lines.{AreLines, IsOther, line_of, entries_in, next_in, room_in, entries_of, next_of, room_of, Changes, KeepsLines, IsSeat}
+use Rattle.yd_index.specs.Lines.{Pops, AreLines, IsOther, line_of, entries_in, next_in, room_in, entries_of, next_of, room_of, Changes, KeepsLines, IsSeat}
 use Rattle.yd_index.proofs.LineLemmas.{is_lt, is_ge}
 
 pub eq_says : (a b : ℕ) → ((nat_eq a b ≡ true) × (a ≡ b)) ⊎ ((nat_eq a b ≡ false) × (a ≢ b))
@@ -222,6 +222,16 @@ module _ {old ls : List Lined} {i k : ℕ} (s : IsSeat old ls i k) {line : Lined
           | inl x ↦ subst (λ m. room_of old m ≤ room_of (set ls i new) m) (sym x.1) (omega (arith, h, room_seen, put_room new e))
           | inr x ↦ put_other_room new e j x.1
         ];
+      }
+
+  pub put_pops : (new : Lined) (last : Entry) → new.client ≡ line.client → line.entries ≡ new.entries ++ last ∷ [] → new.next ≡ last.clock → Pops old (set ls i new) k last
+  put_pops new last e f g =
+      let ch = put_changes new new.entries new.next e refl refl in
+      record {
+        entries_are = sym entries_seen ∙ f ∙ ap (λ es. es ++ last ∷ []) (sym ch.entries_are);
+        next_is = ch.next_is ∙ g;
+        other_entries = ch.other_entries;
+        other_nexts = ch.other_nexts;
       }
 
   -- no client loses room

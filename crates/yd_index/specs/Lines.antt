@@ -78,6 +78,13 @@ Cuts old new id place =
 abbrev pub Uncuts : List Lined → List Lined → Id → Type 0
 Uncuts old new id = Changes old new id.client.0 (without_cut (entries_of old id.client.0) id.clock) (next_of old id.client.0)
 
+-- a client's last entry is taken out, and the clock where it began is the next one
+pub record Pops (old new : List Lined) (client : ℕ) (last : Entry) : Type 0 where
+  pub entries_are : entries_of old client ≡ entries_of new client ++ last ∷ []
+  pub next_is : next_of new client ≡ last.clock
+  pub other_entries : (k : ℕ) → k ≢ client → entries_of new k ≡ entries_of old k
+  pub other_nexts : (k : ℕ) → k ≢ client → next_of new k ≡ next_of old k
+
 -- all entries and next clocks are the old ones, and there is no less room
 pub record KeepsLines (old new : List Lined) : Type 0 where
   pub entries : (k : ℕ) → entries_of new k ≡ entries_of old k

@@ -2,7 +2,7 @@
 
 ghost use Rattle.std.specs.Prelude.{◌≡◌, ◌≢◌, ◌<◌, ◌≤◌, ◌+◌, ◌^◌, [], ℕ, OnOk, OnErr, IsOk};
 ghost use Rattle.yd_index.specs.Line.{IsInside, Begins};
-ghost use Rattle.yd_index.specs.Lines.{entries_of, next_of, room_of, entry_at, Adds, Cuts, Uncuts, Stays, KeepsLines};
+ghost use Rattle.yd_index.specs.Lines.{entries_of, next_of, room_of, entry_at, Adds, Cuts, Uncuts, Pops, Stays, KeepsLines};
 
 use crate::line::{Entry, Line};
 use crate::lines::{seat, seat_made};
@@ -62,6 +62,7 @@ impl Index {
     pub fn reserve(&mut self, client: Client, more: usize) -> Result<(), AllocError>
         ensures kept { KeepsLines self.old self.new }
         ensures room { OnOk result (more ≤ room_of self.new client.0) }
+        ensures succeeds { 0 < more → more ≤ room_of self.old client.0 → IsOk result }
     {
         let i = seat_made(&mut self.lines, client)?;
         self.lines[i].reserve(more)?;
@@ -110,5 +111,18 @@ impl Index {
             unreachable!();
         };
         self.lines[i].uncut(id.clock);
+    }
+
+    /// Takes the client's last run out, and answers its entry. Its first clock is the client's next one
+    /// again. It takes no memory, and no room is lost.
+    pub fn pop(&mut self, client: Client) -> Entry
+        requires { 0 < next_of self.old client.0 }
+        ensures done { Pops self.old self.new client.0 result }
+        ensures rooms { (k : ℕ) → room_of self.old k ≤ room_of self.new k }
+    {
+        let Some(i) = seat(&self.lines, client) else {
+            unreachable!();
+        };
+        self.lines[i].pop()
     }
 }

@@ -109,6 +109,7 @@ impl Line {
         ensures same { IsSame self.old self.new }
         ensures room { OnOk result (more ≤ self.new.room) }
         ensures kept { self.old.room ≤ self.new.room }
+        ensures succeeds { more ≤ self.old.room → IsOk result }
     {
         self.entries.reserve(more)
     }
@@ -159,5 +160,20 @@ impl Line {
     {
         let n = begun(&self.entries, clock);
         let _ = self.entries.remove(n - 1);
+    }
+
+    /// Takes the last run out, and answers its entry. Its first clock is the next one again. It takes
+    /// no memory.
+    pub fn pop(&mut self) -> Entry
+        requires { 0 < self.old.next }
+        ensures client { self.new.client ≡ self.old.client }
+        ensures entries { self.old.entries ≡ self.new.entries ++ result ∷ [] }
+        ensures next { self.new.next ≡ result.clock }
+        ensures room { self.old.room ≤ self.new.room }
+    {
+        let n = self.entries.len();
+        let last = self.entries.remove(n - 1);
+        self.next = last.clock;
+        last
     }
 }

@@ -1,6 +1,6 @@
 //! The marks of an arena's runs, and the counts of its lists.
 
-ghost use Rattle.std.specs.Prelude.{◌≡◌, ◌<◌, ◌≤◌, ◌+◌, ◌^◌, ◌++◌, ◌∷◌, [], length, IfSome, OnOk, OnErr, IsOk, get_or, slice_set};
+ghost use Rattle.std.specs.Prelude.{◌≡◌, ◌<◌, ◌≤◌, ◌+◌, ◌-◌, ◌^◌, ◌++◌, ◌∷◌, [], length, take, IfSome, OnOk, OnErr, IsOk, get_or, slice_set};
 ghost use Rattle.yd_index.specs.Lines.{next_of};
 ghost use Rattle.yd_arena.specs.Arena.{runs_of, next_clock};
 ghost use Rattle.yd_marks.specs.Marks.{mark_at, as_deleted, live_of as live_number, with_more, AreCounted, IsBorder, MarksSpan};
@@ -74,6 +74,16 @@ impl Marks {
     {
         self.live.push(0)?;
         Ok(())
+    }
+
+    /// Takes the last list's count away.
+    pub fn drop_list(&mut self)
+        ensures live { self.new.live ≡ take (length self.old.live - 1) self.old.live }
+        ensures rows { self.new.rows ≡ self.old.rows }
+        ensures room { self.new.room ≡ self.old.room }
+    {
+        let n = self.live.len();
+        self.live.truncate(n.saturating_sub(1));
     }
 
     /// Makes room for the marks of so many runs, or finds no memory for it. No room is lost.

@@ -17,7 +17,7 @@ loop-left-preserved c =
     let place = c.in-Some.found.place in
     let next : IsNext runs client clock place = next_run runs c.args.span.client clock place c.in-Some.found.before c.loop-left.invariant.border c.in-Some.ensures.found in
     let len : c.stretch-len.result.len ≡ (stretch_at runs place).len =
-    ap (λ (r : Stretch). r.len) c.stretch-len.ensures ∙ ap (λ (it : Linked). (stretch_at it.stretches place).len) c.lists-in-loop-left.ensures in
+    ap (λ (r : Stretch). r.len) c.stretch-len.ensures ∙ ap (λ (it : Linked). (stretch_at it.stretches place).len) c.lists-in-loop-left.ensures.value in
     let by : clock + (stretch_at runs place).len ≤ c.args.span.clock + c.args.span.len =
     ends_by runs client clock (c.args.span.clock + c.args.span.len) place next c.requires.back (omega (arith, c.loop-left.invariant.sum, c.loop-left-test.true)) in
     let each : length c.loop-left.self.rows ≡ length runs = c.loop-left.invariant.counted.each in
@@ -25,7 +25,7 @@ loop-left-preserved c =
       low = omega (arith, c.loop-left.invariant.low);
       sum = omega (arith, c.loop-left.invariant.sum, len, by);
       border = subst (λ n. IsBorder runs client (clock + n)) (sym len) (next_border lines runs c.find.ensures.arena client place clock next.within next.own next.begins next.filled);
-      counted = subst (λ it. AreCounted it c.mark_run.new.self.rows c.mark_run.new.self.live) c.lists.ensures c.mark_run.ensures.counted;
+      counted = subst (λ it. AreCounted it c.mark_run.new.self.rows c.mark_run.new.self.live) c.lists.ensures.value c.mark_run.ensures.counted;
       marked = subst (λ n. MarksClocks runs c.args.self.now.rows c.mark_run.new.self.rows client c.args.span.clock (clock + n)) (sym len)
           (subst (λ rows. MarksClocks runs c.args.self.now.rows rows client c.args.span.clock (clock + (stretch_at runs place).len)) (sym c.mark_run.ensures.rows)
           (marks_more lines runs c.args.self.now.rows c.loop-left.self.rows client c.args.span.clock clock place c.find.ensures.arena c.loop-left.invariant.marked each c.loop-left.invariant.low next.within next.own next.begins next.filled));
