@@ -1,6 +1,6 @@
 //! Scripts: which edits their lines ask for (own).
 //!
-//! A script is a text with a line for each edit. A line is a JSON array, of a word and what goes with
+//! A script is a text with a line for each edit ([`read_script`] reads its file). A line is a JSON array, of a word and what goes with
 //! it ([`Line`]). [`Lines`] gives the lines that are not empty, in order and with their numbers, and
 //! [`read_line`] what a line asks for, or that it is none.
 //!
@@ -13,11 +13,13 @@
 
 mod arguments;
 mod fault;
+mod file;
 mod line;
 mod lines;
 mod reading;
 
 pub use fault::LineFault;
+pub use file::read_script;
 pub use line::Line;
 pub use lines::{Lines, NumberedLine};
 pub use reading::read_line;
