@@ -9,6 +9,8 @@ use Rattle.yd_ops.specs.Valid.{IsValidUpdate}
 use Rattle.yd_parts.specs.Fault.{Fault}
 use Rattle.yd_parts.specs.declared.fault.ReadError.{ReadError}
 use Rattle.yd_parts.specs.declared.fault.ReadError.TheVariants as errors
+use Rattle.yd_script.proofs.FileLemmas.{scripts_read}
+use Rattle.yd_script.specs.File.{script_reading}
 use Rattle.yd_v1.proofs.FileLemmas as v1_files
 use Rattle.yd_v1.proofs.LogLemmas.{logs_read}
 use Rattle.yd_v1.specs.Log.{log_reading}
@@ -16,10 +18,10 @@ use Rattle.yd_v1.specs.Reading.{v1_reading, vector_reading}
 use Rattle.yd_v2.proofs.FileLemmas as v2_files
 use Rattle.yd_v2.specs.Reading.{most_structs, v2_reading}
 use Rattle.yd_files.specs.Seen.{AsContent, content_of}
-use Rattle.yd_files.specs.Verdict.{Content, HasFirstFaultIn, StandsAs, StandsIn, one_update, updates, updates_of, vector}
+use Rattle.yd_files.specs.Verdict.{Content, HasFirstFaultIn, StandsAs, StandsIn, one_update, script, updates, updates_of, vector}
 use Rattle.yd_files.specs.declared.content.Content.{Content as ContentSeen}
 use Rattle.yd_files.specs.declared.kind.Kind.{Kind}
-use Rattle.yd_files.specs.declared.kind.Kind.TheVariants.{V1, V2, Log, Vector}
+use Rattle.yd_files.specs.declared.kind.Kind.TheVariants.{V1, V2, Log, Vector, Script}
 
 -- ---- readings
 
@@ -34,6 +36,7 @@ reading_in V1 bytes = made_of one_update (v1_reading bytes)
 reading_in V2 bytes = made_of one_update (v2_reading bytes)
 reading_in Log bytes = made_of updates (log_reading bytes)
 reading_in Vector bytes = made_of vector (vector_reading bytes)
+reading_in Script bytes = made_of script (script_reading bytes)
 
 -- what is made of a value that is read exactly is read so too
 made_read : {X : Type 0} (made : X → Content) (reading : List ℕ → Result X Fault) (Fills : List ℕ → X → Type 0) (Fails : List ℕ → Fault → Type 0) → FilesAreRead reading Fills Fails
@@ -59,6 +62,7 @@ read_exactly V1 = made_read one_update v1_reading _ _ (v1_files.files_read (upda
 read_exactly V2 = made_read one_update v2_reading _ _ (v2_files.files_read (update_plan (Some most_structs)))
 read_exactly Log = made_read updates log_reading _ _ logs_read
 read_exactly Vector = made_read vector vector_reading _ _ (v1_files.files_read vector_plan)
+read_exactly Script = made_read script script_reading _ _ scripts_read
 
 -- the answer for a value, as that for what is made of it
 pub made_whole : {X Y : Type 0} (seen : X → Y) (made : Y → Content) (Fills : Y → Type 0) (Fails : Fault → Type 0) (read : Result X ReadError) (result : Result ContentSeen ReadError) → AsContent (λ x. made (seen x)) read result → ReadsWhole seen Fills Fails read
@@ -84,3 +88,8 @@ made_valid made Valid (Ok x) (Ok content) valid is was = rw is (valid x was)
 made_valid made Valid (Ok x) (Err errors.NoMemory) valid is was = tt
 made_valid made Valid (Ok x) (Err (errors.Fault cause spot)) valid is was = absurd is
 made_valid made Valid (Err error) result valid is was = rw is tt
+
+-- nothing is asked of what has no updates
+pub nothing_asked : {X : Type 0} (read : Result X ReadError) → IfOk read (λ x. Unit {0})
+nothing_asked (Ok x) = tt
+nothing_asked (Err error) = tt

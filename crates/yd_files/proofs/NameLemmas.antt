@@ -7,7 +7,7 @@ use Rattle.std.specs.Str.{bytes_eq}
 use Rattle.yd_words.specs.Each.{Each}
 use Rattle.yd_files.specs.Files.{File, HasPrefix, IsNamed, file_word, prefix_of}
 use Rattle.yd_files.specs.declared.kind.Kind.{Kind}
-use Rattle.yd_files.specs.declared.kind.Kind.TheVariants.{V1, V2, Log, Vector}
+use Rattle.yd_files.specs.declared.kind.Kind.TheVariants.{V1, V2, Log, Vector, Script}
 
 -- ---- a word names one file
 
@@ -21,15 +21,19 @@ word_same V1 V1 name named has had e = (refl, cc)
 word_same V1 V2 name named has had e = absurd (second_apart (prefix_of V1 ++ name) (prefix_of V2 ++ named) e (omega arith))
 word_same V1 Log name named has had e = absurd (second_apart (prefix_of V1 ++ name) (prefix_of Log ++ named) e (omega arith))
 word_same V1 Vector name named has had e = absurd had
+word_same V1 Script name named has had e = absurd had
 word_same V2 V1 name named has had e = absurd (second_apart (prefix_of V2 ++ name) (prefix_of V1 ++ named) e (omega arith))
 word_same V2 V2 name named has had e = (refl, cc)
 word_same V2 Log name named has had e = absurd (second_apart (prefix_of V2 ++ name) (prefix_of Log ++ named) e (omega arith))
 word_same V2 Vector name named has had e = absurd had
+word_same V2 Script name named has had e = absurd had
 word_same Log V1 name named has had e = absurd (second_apart (prefix_of Log ++ name) (prefix_of V1 ++ named) e (omega arith))
 word_same Log V2 name named has had e = absurd (second_apart (prefix_of Log ++ name) (prefix_of V2 ++ named) e (omega arith))
 word_same Log Log name named has had e = (refl, cc)
 word_same Log Vector name named has had e = absurd had
+word_same Log Script name named has had e = absurd had
 word_same Vector other name named has had e = absurd has
+word_same Script other name named has had e = absurd has
 
 abbrev file_in : Kind → List ℕ → File
 file_in kind name = record { kind = kind; name = name }
@@ -105,6 +109,7 @@ names_or_not word = by_kinds (of_prefix (prefix_of V1) word) (of_prefix (prefix_
     none first second third V2 has = second
     none first second third Log has = third
     none first second third Vector has = absurd has
+    none first second third Script has = absurd has
 
     by_kinds : IsOfPrefix (prefix_of V1) word ⊎ (¬ (IsOfPrefix (prefix_of V1) word)) → IsOfPrefix (prefix_of V2) word ⊎ (¬ (IsOfPrefix (prefix_of V2) word)) → IsOfPrefix (prefix_of Log) word ⊎ (¬ (IsOfPrefix (prefix_of Log) word))
         → Names word ⊎ (¬ (Names word))

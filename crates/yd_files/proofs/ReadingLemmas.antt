@@ -11,7 +11,7 @@ use Rattle.yd_files.specs.Files.{File}
 use Rattle.yd_files.specs.Loading.{KeepsFiles}
 use Rattle.yd_files.specs.Reading.{ReadsOne, StopsAmong, StopsReading, no_inputs, with_content}
 use Rattle.yd_files.specs.Seen.{file_of}
-use Rattle.yd_files.specs.Verdict.{AreRead, Content, HasVerdict, Inputs, IsReached, IsTold, NoneIsMissing, StandFor, accepted, inputs_in, updates_in, updates_of, vectors_in, vectors_of}
+use Rattle.yd_files.specs.Verdict.{AreRead, Content, HasVerdict, Inputs, IsReached, IsTold, NoneIsMissing, StandFor, accepted, inputs_in, scripts_in, scripts_of, updates_in, updates_of, vectors_in, vectors_of}
 use Rattle.yd_files.specs.declared.fault.FileFault.{FileFault}
 use Rattle.yd_files.specs.declared.fault.FileFault.TheVariants.{Refused, ReadFault, TooLarge, NoMemory}
 use Rattle.yd_files.specs.declared.file.File.{File as FileSeen}
@@ -37,15 +37,22 @@ vectors_more : (contents : List Content) (content : Content) → vectors_in (con
 vectors_more [] content = append-nil (vectors_of content)
 vectors_more (c ∷ cs) content = ap (λ vs. vectors_of c ++ vs) (vectors_more cs content) ∙ sym (append_assoc (vectors_of c) (vectors_in cs) (vectors_of content))
 
+-- and its scripts
+scripts_more : (contents : List Content) (content : Content) → scripts_in (contents ++ content ∷ []) ≡ scripts_in contents ++ scripts_of content
+scripts_more [] content = append-nil (scripts_of content)
+scripts_more (c ∷ cs) content = ap (λ ss. scripts_of c ++ ss) (scripts_more cs content) ∙ sym (append_assoc (scripts_of c) (scripts_in cs) (scripts_of content))
+
 -- and so what all stand for
 inputs_more : (files : List File) (file : File) (contents : List Content) (content : Content) → inputs_in (files ++ file ∷ []) (contents ++ content ∷ []) ≡ with_content (inputs_in files contents) file.kind content
 inputs_more files file contents content =
     let kinds : map (λ (f : File). f.kind) (files ++ file ∷ []) ≡ map (λ (f : File). f.kind) files ++ file.kind ∷ [] = map-append (λ (f : File). f.kind) files (file ∷ []) in
     let vectors = vectors_more contents content in
+    let scripts = scripts_more contents content in
     let updates = updates_more contents content in
-    ap (λ (ks : List Kind). record { kinds = ks; vectors = vectors_in (contents ++ content ∷ []); updates = updates_in (contents ++ content ∷ []) }) kinds
-    ∙ ap (λ vs. record { kinds = map (λ (f : File). f.kind) files ++ file.kind ∷ []; vectors = vs; updates = updates_in (contents ++ content ∷ []) }) vectors
-    ∙ ap (λ us. record { kinds = map (λ (f : File). f.kind) files ++ file.kind ∷ []; vectors = vectors_in contents ++ vectors_of content; updates = us }) updates
+    ap (λ (ks : List Kind). record { kinds = ks; vectors = vectors_in (contents ++ content ∷ []); scripts = scripts_in (contents ++ content ∷ []); updates = updates_in (contents ++ content ∷ []) }) kinds
+    ∙ ap (λ vs. record { kinds = map (λ (f : File). f.kind) files ++ file.kind ∷ []; vectors = vs; scripts = scripts_in (contents ++ content ∷ []); updates = updates_in (contents ++ content ∷ []) }) vectors
+    ∙ ap (λ ss. record { kinds = map (λ (f : File). f.kind) files ++ file.kind ∷ []; vectors = vectors_in contents ++ vectors_of content; scripts = ss; updates = updates_in (contents ++ content ∷ []) }) scripts
+    ∙ ap (λ us. record { kinds = map (λ (f : File). f.kind) files ++ file.kind ∷ []; vectors = vectors_in contents ++ vectors_of content; scripts = scripts_in contents ++ scripts_of content; updates = us }) updates
 
 -- ---- why reading stops
 

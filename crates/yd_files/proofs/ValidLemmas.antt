@@ -26,7 +26,7 @@ use Rattle.yd_v1.specs.Log.{AreEntries}
 use Rattle.yd_v2.specs.Grammar.{StandsForV2}
 use Rattle.yd_files.specs.Verdict.{Content, StandsIn, updates_of}
 use Rattle.yd_files.specs.declared.kind.Kind.{Kind}
-use Rattle.yd_files.specs.declared.kind.Kind.TheVariants.{V1, V2, Log, Vector}
+use Rattle.yd_files.specs.declared.kind.Kind.TheVariants.{V1, V2, Log, Vector, Script}
 
 -- a file in V2 leads to a sound reader
 begins_sound : (bytes : List ℕ) (start : V2Now) → BeginsV2 bytes start → IsSoundV2 start
@@ -62,3 +62,4 @@ stands_valid V1 bytes content stands = rw stands.1 (v1_valid bytes stands.0 stan
 stands_valid V2 bytes content stands = rw stands.1 (v2_valid bytes stands.0 stands.2, tt)
 stands_valid Log bytes content stands = rw stands.1 (entries_valid stands.0 (all_of Whole bytes) stands.2)
 stands_valid Vector bytes content stands = rw stands.1 tt
+stands_valid Script bytes content stands = rw stands.1 tt

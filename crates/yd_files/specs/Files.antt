@@ -1,14 +1,15 @@
 -- Files, as the words name them: a kind, and the name of the bytes (own).
 use Rattle.std.specs.Prelude.{ℕ, ◌<◌, List, [], ◌∷◌, ◌++◌, length, codes}
 use Rattle.yd_files.specs.declared.kind.Kind.{Kind}
-use Rattle.yd_files.specs.declared.kind.Kind.TheVariants.{V1, V2, Log, Vector}
+use Rattle.yd_files.specs.declared.kind.Kind.TheVariants.{V1, V2, Log, Vector, Script}
 
--- what stands before the name of a file of the kind; a state vector's name stands alone
+-- what stands before the name of a file of the kind; the name of a state vector or of a script stands alone
 abbrev pub prefix_of : Kind → List ℕ
 prefix_of V1 = codes "v1:"
 prefix_of V2 = codes "v2:"
 prefix_of Log = codes "log:"
 prefix_of Vector = []
+prefix_of Script = []
 
 -- a word tells by its prefix that its file is of the kind
 abbrev pub HasPrefix : Kind → Type 0
@@ -16,6 +17,7 @@ HasPrefix V1 = Unit {0}
 HasPrefix V2 = Unit {0}
 HasPrefix Log = Unit {0}
 HasPrefix Vector = ⊥
+HasPrefix Script = ⊥
 
 -- a file: how its bytes are spelled, and their name
 pub record File : Type 0 where
@@ -36,6 +38,7 @@ IsOneUpdate V1 = Unit {0}
 IsOneUpdate V2 = Unit {0}
 IsOneUpdate Log = ⊥
 IsOneUpdate Vector = ⊥
+IsOneUpdate Script = ⊥
 
 -- they are one file, which stands for one update
 abbrev pub AreOneUpdate : List File → Type 0

@@ -7,7 +7,7 @@ use Rattle.yd_files.specs.Counts.{Count, RoseIn}
 use Rattle.yd_files.specs.Files.{File}
 use Rattle.yd_files.specs.Loading.{BeginsLast}
 use Rattle.yd_files.specs.Seen.{file_of}
-use Rattle.yd_files.specs.Verdict.{Content, HasVerdict, Inputs, IsReached, IsTold, NoneIsMissing, StopsAt, accepted, missing, refused, too_large, updates_of, vectors_of}
+use Rattle.yd_files.specs.Verdict.{Content, HasVerdict, Inputs, IsReached, IsTold, NoneIsMissing, StopsAt, accepted, missing, refused, scripts_of, too_large, updates_of, vectors_of}
 use Rattle.yd_files.specs.declared.kind.Kind.{Kind}
 use Rattle.yd_files.specs.declared.fault.FileFault.{FileFault}
 use Rattle.yd_files.specs.declared.fault.FileFault.TheVariants.{Refused, ReadFault, TooLarge, NoMemory}
@@ -16,11 +16,11 @@ use Rattle.yd_files.specs.declared.fault.FileFault.TheVariants.{Refused, ReadFau
 
 -- those of no file
 abbrev pub no_inputs : Inputs
-no_inputs = record { kinds = []; vectors = []; updates = [] }
+no_inputs = record { kinds = []; vectors = []; scripts = []; updates = [] }
 
 -- inputs with one more content behind them, of a file of the kind
 abbrev pub with_content : Inputs → Kind → Content → Inputs
-with_content inputs kind content = record { kinds = inputs.kinds ++ kind ∷ []; vectors = inputs.vectors ++ vectors_of content; updates = inputs.updates ++ updates_of content }
+with_content inputs kind content = record { kinds = inputs.kinds ++ kind ∷ []; vectors = inputs.vectors ++ vectors_of content; scripts = inputs.scripts ++ scripts_of content; updates = inputs.updates ++ updates_of content }
 
 -- the file is accepted, and what it stands for, with valid updates, stands behind what was there before
 pub record ReadsOne (told : Option Shelf) (file : File) (old new : Inputs) : Type 0 where

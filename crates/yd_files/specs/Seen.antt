@@ -4,7 +4,7 @@ use Rattle.yd_ops.specs.View.{update_value}
 use Rattle.yd_parts.specs.declared.fault.ReadError.{ReadError}
 use Rattle.yd_parts.specs.declared.fault.ReadError.TheVariants as errors
 use Rattle.yd_files.specs.Files.{File}
-use Rattle.yd_files.specs.Verdict.{Content, Inputs, updates, vector}
+use Rattle.yd_files.specs.Verdict.{Content, Inputs, script, updates, vector}
 use Rattle.yd_files.specs.declared.content.Content.{Content as ContentSeen}
 use Rattle.yd_files.specs.declared.content.Content.TheVariants as seen
 use Rattle.yd_files.specs.declared.content.Inputs.{Inputs as InputsSeen}
@@ -18,6 +18,7 @@ file_of file = record { kind = file.kind; name = file.name.now }
 abbrev pub content_of : ContentSeen → Content
 content_of (seen.Updates list) = updates (map update_value list)
 content_of (seen.Vector v) = vector v
+content_of (seen.Script text) = script text
 
 -- the answer for a value that was read: what the file stands for is made of it; or the error; or memory was wanted
 abbrev pub AsContent : {X : Type 0} → (X → Content) → Result X ReadError → Result ContentSeen ReadError → Type 0
@@ -28,4 +29,4 @@ AsContent made (Err error) result = result ≡ Err error
 
 -- what files stand for together
 abbrev pub inputs_of : InputsSeen → Inputs
-inputs_of inputs = record { kinds = inputs.kinds.items; vectors = inputs.vectors.items; updates = map update_value inputs.updates }
+inputs_of inputs = record { kinds = inputs.kinds.items; vectors = inputs.vectors.items; scripts = inputs.scripts.items; updates = map update_value inputs.updates }

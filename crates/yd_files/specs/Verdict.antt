@@ -3,6 +3,7 @@ use Rattle.std.specs.Prelude.{◌≡◌, ℕ, ◌^◌, ◌<◌, ◌≤◌, List,
 use Rattle.yd_fields.specs.UpdatePlan.{vector_plan}
 use Rattle.yd_ids.specs.declared.id.Client.{Client}
 use Rattle.yd_parts.specs.Fault.{Fault}
+use Rattle.yd_script.specs.File.{HasFirstFaultScript, StandsForScript}
 use Rattle.yd_v1.specs.Grammar.{FailsV1, FillsV1, HasFirstFaultV1, StandsForV1}
 use Rattle.yd_v1.specs.Log.{HasFirstFaultLog, StandsForLog}
 use Rattle.yd_v2.specs.Grammar.{HasFirstFaultV2, StandsForV2}
@@ -10,14 +11,15 @@ use Rattle.yd_ops.specs.Value.{UpdateValue}
 use Rattle.yd_world.specs.Shelf.{Shelf}
 use Rattle.yd_files.specs.Files.{File}
 use Rattle.yd_files.specs.declared.kind.Kind.{Kind}
-use Rattle.yd_files.specs.declared.kind.Kind.TheVariants.{V1, V2, Log, Vector}
+use Rattle.yd_files.specs.declared.kind.Kind.TheVariants.{V1, V2, Log, Vector, Script}
 
 -- ---- bytes
 
--- what a file stands for: updates in order, or a state vector. A further kind of file brings what it stands for
+-- what a file stands for: updates in order, a state vector, or the text of a script. A further kind of file brings what it stands for
 pub data Content : Type 0 where
   updates : List UpdateValue → Content
   vector : List (Client × ℕ) → Content
+  script : List ℕ → Content
 
 -- one update
 abbrev pub one_update : UpdateValue → Content
@@ -33,6 +35,7 @@ StandsIn V1 bytes = StandsAs one_update (StandsForV1 bytes)
 StandsIn V2 bytes = StandsAs one_update (StandsForV2 bytes)
 StandsIn Log bytes = StandsAs updates (StandsForLog bytes)
 StandsIn Vector bytes = StandsAs vector (FillsV1 vector_plan bytes)
+StandsIn Script bytes = StandsAs script (StandsForScript bytes)
 
 -- the fault is the first in them, by the grammar of the kind
 abbrev pub HasFirstFaultIn : Kind → List ℕ → Fault → Type 0
@@ -40,6 +43,7 @@ HasFirstFaultIn V1 bytes = HasFirstFaultV1 bytes
 HasFirstFaultIn V2 bytes = HasFirstFaultV2 bytes
 HasFirstFaultIn Log bytes = HasFirstFaultLog bytes
 HasFirstFaultIn Vector bytes = FailsV1 vector_plan bytes
+HasFirstFaultIn Script bytes = HasFirstFaultScript bytes
 
 -- they are at most 256 MiB
 abbrev pub IsWithin : List ℕ → Type 0
@@ -53,6 +57,7 @@ IsTooLarge bytes = 2 ^ 28 < length bytes
 abbrev pub updates_of : Content → List UpdateValue
 updates_of (updates us) = us
 updates_of (vector v) = []
+updates_of (script text) = []
 
 -- the updates of contents, in order
 abbrev pub updates_in : List Content → List UpdateValue
@@ -63,21 +68,34 @@ updates_in (content ∷ contents) = updates_of content ++ updates_in contents
 abbrev pub vectors_of : Content → List (List (Client × ℕ))
 vectors_of (updates us) = []
 vectors_of (vector v) = v ∷ []
+vectors_of (script text) = []
 
 -- the state vectors of contents, in order
 abbrev pub vectors_in : List Content → List (List (Client × ℕ))
 vectors_in [] = []
 vectors_in (content ∷ contents) = vectors_of content ++ vectors_in contents
 
--- what files stand for together: of which kinds they are, their state vectors and their updates, each in order
+-- the scripts of a content
+abbrev pub scripts_of : Content → List (List ℕ)
+scripts_of (updates us) = []
+scripts_of (vector v) = []
+scripts_of (script text) = text ∷ []
+
+-- the scripts of contents, in order
+abbrev pub scripts_in : List Content → List (List ℕ)
+scripts_in [] = []
+scripts_in (content ∷ contents) = scripts_of content ++ scripts_in contents
+
+-- what files stand for together: of which kinds they are, their state vectors, their scripts and their updates, each in order
 pub record Inputs : Type 0 where
   pub kinds : List Kind
   pub vectors : List (List (Client × ℕ))
+  pub scripts : List (List ℕ)
   pub updates : List UpdateValue
 
 -- the files' kinds, and what is in their contents
 abbrev pub inputs_in : List File → List Content → Inputs
-inputs_in files contents = record { kinds = map (λ (file : File). file.kind) files; vectors = vectors_in contents; updates = updates_in contents }
+inputs_in files contents = record { kinds = map (λ (file : File). file.kind) files; vectors = vectors_in contents; scripts = scripts_in contents; updates = updates_in contents }
 
 -- ---- what a library tells
 

@@ -4,10 +4,11 @@ ghost use Rattle.std.specs.Prelude.{◌≡◌, ◌++◌, map, OnOk};
 ghost use Rattle.yd_ops.specs.View.{update_value};
 ghost use Rattle.yd_files.specs.Reading.{no_inputs, with_content};
 ghost use Rattle.yd_files.specs.Seen.{content_of, inputs_of};
-ghost use Rattle.yd_files.specs.Verdict.{updates_of, vectors_of};
+ghost use Rattle.yd_files.specs.Verdict.{scripts_of, updates_of, vectors_of};
 
 use crate::kind::Kind;
 use std::alloc::Global;
+use yd_any::Text;
 use yd_ids::Vector;
 use yd_parts::NoMemory;
 use yd_v1::UpdateList;
@@ -19,6 +20,8 @@ pub enum Content {
     Updates(UpdateList),
     /// A state vector.
     Vector(Vector),
+    /// The text of a script.
+    Script(Text),
 }
 
 /// What files stand for together, in the order of the files.
@@ -28,6 +31,8 @@ pub struct Inputs {
     pub kinds: Vec<Kind>,
     /// The state vectors.
     pub vectors: Vec<Vector>,
+    /// The texts of the scripts.
+    pub scripts: Vec<Text>,
     /// The updates.
     pub updates: UpdateList,
 }
@@ -40,6 +45,7 @@ impl Inputs {
         Inputs {
             kinds: Vec::new(alloc),
             vectors: Vec::new(alloc),
+            scripts: Vec::new(alloc),
             updates: UpdateList::new(alloc),
         }
     }
@@ -51,7 +57,12 @@ impl Inputs {
             ≡ with_content (inputs_of self.old) kind (content_of content)) }
     {
         self.kinds.push(kind)?;
-        put(&mut self.vectors, &mut self.updates, content)?;
+        put(
+            &mut self.vectors,
+            &mut self.scripts,
+            &mut self.updates,
+            content,
+        )?;
         Ok(())
     }
 }
@@ -59,11 +70,14 @@ impl Inputs {
 // Puts a content behind those of its kind.
 fn put(
     vectors: &mut Vec<Vector>,
+    scripts: &mut Vec<Text>,
     updates: &mut UpdateList,
     content: Content,
 ) -> Result<(), NoMemory>
     ensures vectors { OnOk result (vectors.new.items
         ≡ vectors.old.items ++ vectors_of (content_of content)) }
+    ensures scripts { OnOk result (scripts.new.items
+        ≡ scripts.old.items ++ scripts_of (content_of content)) }
     ensures updates { OnOk result (map update_value updates.new
         ≡ map update_value updates.old ++ updates_of (content_of content)) }
 {
@@ -74,6 +88,10 @@ fn put(
         }
         Content::Vector(vector) => {
             vectors.push(vector)?;
+            Ok(())
+        }
+        Content::Script(text) => {
+            scripts.push(text)?;
             Ok(())
         }
     }

@@ -7,13 +7,15 @@ ghost use Rattle.yd_ops.specs.View.{update_value};
 ghost use Rattle.yd_reading.specs.Answer.{ReadsWhole};
 ghost use Rattle.yd_files.specs.Files.{IsOneUpdate, prefix_of};
 ghost use Rattle.yd_files.specs.Seen.{AsContent, content_of};
-ghost use Rattle.yd_files.specs.Verdict.{HasFirstFaultIn, StandsIn, one_update, updates, updates_of, vector};
+ghost use Rattle.yd_files.specs.Verdict.{HasFirstFaultIn, StandsIn, one_update, script, updates, updates_of, vector};
 
 use crate::content::Content;
 use std::alloc::Global;
+use yd_any::Text;
 use yd_ids::Vector;
 use yd_ops::Update;
 use yd_parts::ReadError;
+use yd_script::read_script;
 use yd_v1::{UpdateList, read_log, read_v1, read_vector};
 use yd_v2::read_v2;
 
@@ -28,6 +30,8 @@ pub enum Kind {
     Log,
     /// A state vector.
     Vector,
+    /// A script.
+    Script,
 }
 
 impl Kind {
@@ -37,13 +41,13 @@ impl Kind {
     {
         match self {
             Kind::V1 | Kind::V2 => true,
-            Kind::Log | Kind::Vector => false,
+            Kind::Log | Kind::Vector | Kind::Script => false,
         }
     }
 }
 
 /// What stands before the name of a file of this kind, in a word: nothing before that of a state
-/// vector.
+/// vector or of a script.
 pub fn prefix(kind: Kind) -> &'static str
     ensures { result.now ≡ prefix_of kind }
 {
@@ -51,7 +55,7 @@ pub fn prefix(kind: Kind) -> &'static str
         Kind::V1 => "v1:",
         Kind::V2 => "v2:",
         Kind::Log => "log:",
-        Kind::Vector => "",
+        Kind::Vector | Kind::Script => "",
     }
 }
 
@@ -66,6 +70,7 @@ pub(crate) fn read_in(alloc: Global, kind: Kind, bytes: &[u8]) -> Result<Content
         Kind::V2 => as_one(alloc, read_v2(alloc, bytes)),
         Kind::Log => as_updates(read_log(alloc, bytes)),
         Kind::Vector => as_vector(read_vector(alloc, bytes)),
+        Kind::Script => as_script(read_script(alloc, bytes)),
     }
 }
 
@@ -95,4 +100,12 @@ fn as_vector(read: Result<Vector, ReadError>) -> Result<Content, ReadError>
 {
     let reached = read?;
     Ok(Content::Vector(reached))
+}
+
+// The script as a content.
+fn as_script(read: Result<Text, ReadError>) -> Result<Content, ReadError>
+    ensures { AsContent script read result }
+{
+    let text = read?;
+    Ok(Content::Script(text))
 }

@@ -4,11 +4,12 @@ use Rattle.yd_fields.specs.UpdatePlan.{vector_plan}
 use Rattle.yd_ids.specs.Vector.{IsVector}
 use Rattle.yd_ops.specs.Valid.{IsValidUpdate}
 use Rattle.yd_ops.specs.View.{update_value}
+use Rattle.yd_script.specs.File.{HasFirstFaultScript, StandsForScript}
 use Rattle.yd_v1.specs.Grammar.{FailsV1, FillsV1, HasFirstFaultV1, StandsForV1}
 use Rattle.yd_v1.specs.Log.{HasFirstFaultLog, StandsForLog}
 use Rattle.yd_v2.specs.Grammar.{HasFirstFaultV2, StandsForV2}
-use Rattle.yd_files.specs.Verdict.{one_update, updates, vector}
-use Rattle.yd_files.proofs.KindLemmas.{made_valid, made_whole}
+use Rattle.yd_files.specs.Verdict.{one_update, script, updates, vector}
+use Rattle.yd_files.proofs.KindLemmas.{made_valid, made_whole, nothing_asked}
 use Rattle.yd_files.proofs.kind.read_in.Goals as goal
 
 pub returns-in-V1-clause-exact : goal.returns-in-V1-clause-exact
@@ -38,3 +39,10 @@ returns-in-Vector-clause-exact c =
 
 pub returns-in-Vector-clause-valid : goal.returns-in-Vector-clause-valid
 returns-in-Vector-clause-valid c = made_valid vector IsVector c.read_vector.result c.as_vector.result (λ v valid. tt) c.as_vector.ensures c.read_vector.ensures.vector
+
+pub returns-in-Script-clause-exact : goal.returns-in-Script-clause-exact
+returns-in-Script-clause-exact c =
+    rw c.in-Script.is (made_whole (λ text. text) script (StandsForScript c.args.bytes.now) (HasFirstFaultScript c.args.bytes.now) c.read_script.result c.as_script.result c.as_script.ensures c.read_script.ensures)
+
+pub returns-in-Script-clause-valid : goal.returns-in-Script-clause-valid
+returns-in-Script-clause-valid c = made_valid script (λ text. Unit {0}) c.read_script.result c.as_script.result (λ text valid. tt) c.as_script.ensures (nothing_asked c.read_script.result)
