@@ -1,2 +1,3 @@
+pub mod GroupableLemmas
 pub mod KeysLemmas
 pub mod UsedLemmas

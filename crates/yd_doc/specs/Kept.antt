@@ -1,6 +1,7 @@
 -- What contracts see of a replica.
-use Rattle.std.specs.Prelude.{Bool}
+use Rattle.std.specs.Prelude.{Bool, List}
 use Rattle.yd_ids.specs.declared.id.Client.{Client}
+use Rattle.yd_ids.specs.declared.id.Span.{Span}
 use Rattle.yd_ids.specs.Id.{IsClient}
 use Rattle.yd_updates.specs.Received.{Received}
 use Rattle.yd_meaning.specs.Document.{Document}
@@ -19,6 +20,10 @@ received_of r = received_in r.state
 -- the document that it has, in its own order and with its own delete set
 abbrev pub own_document : Kept → Document
 own_document r = document_in r.state
+
+-- its own delete set, as maximal spans
+abbrev pub own_deletes : Kept → List Span
+own_deletes r = r.state.deletes
 
 -- all that it keeps is what it received defines
 pub record IsReplica (r : Kept) : Type 0 where

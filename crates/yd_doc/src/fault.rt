@@ -26,6 +26,26 @@ impl From<yd_any::NoMemory> for NoMemory {
     }
 }
 
+impl From<yd_ids::NoMemory> for NoMemory {
+    ghost use Rattle.std.specs.Prelude.{◌≡◌};
+
+    ghost from_gives = { λ _ e. e ≡ record {} };
+
+    fn from(_error: yd_ids::NoMemory) -> NoMemory {
+        NoMemory
+    }
+}
+
+impl From<yd_merge::NoMemory> for NoMemory {
+    ghost use Rattle.std.specs.Prelude.{◌≡◌};
+
+    ghost from_gives = { λ _ e. e ≡ record {} };
+
+    fn from(_error: yd_merge::NoMemory) -> NoMemory {
+        NoMemory
+    }
+}
+
 impl From<AllocError> for NoMemory {
     ghost use Rattle.std.specs.Prelude.{◌≡◌};
 

@@ -1,9 +1,16 @@
 //! The laws of replicas, each the contract of a function that does nothing.
 
+ghost use Rattle.std.specs.Prelude.{◌≤◌, ℕ};
+ghost use Rattle.yd_ids.specs.Vector.{clock_of};
+ghost use Rattle.yd_updates.specs.Received.{received_after};
 ghost use Rattle.yd_meaning.specs.Document.{IsDocumentOf};
-ghost use Rattle.yd_doc.specs.Kept.{received_of, own_document};
+ghost use Rattle.yd_meaning.specs.Held.{held_clock, held_set};
+ghost use Rattle.yd_meaning.specs.Law.{IsCompleted};
+ghost use Rattle.yd_grouping.specs.Merged.{reply_of};
+ghost use Rattle.yd_doc.specs.Kept.{received_of, own_deletes, own_document};
 
 use crate::replica::Replica;
+use yd_ids::Vector;
 
 /// The document of a replica is the one that what it received defines.
 pub fn own_document_is_defined(replica: &Replica)
@@ -11,4 +18,19 @@ pub fn own_document_is_defined(replica: &Replica)
 {
     // What is kept is looked at, since its invariant says this.
     let _state = &replica.state;
+}
+
+/// A reply leaves the asker with an operation of each id, and with each deletion, that the answerer
+/// received, waiting ones too. The vector that was asked with is nowhere above the asker's own. The
+/// asker may have received anything before, and neither of them needs to agree with the other.
+pub fn replies_complete(answerer: &Replica, asker: &Replica, vector: &Vector)
+    ensures { ((client : ℕ) → clock_of vector.now client
+        ≤ held_clock (held_set (received_of asker.now).operations) client)
+        → IsCompleted (received_of answerer.now) (received_after (received_of asker.now)
+        (reply_of (received_of answerer.now) (own_deletes answerer.now) (clock_of vector.now)))
+        (clock_of vector.now) }
+{
+    // What is kept is looked at, since its invariant says that this is of valid updates.
+    let _answering = &answerer.state;
+    let _asking = &asker.state;
 }

@@ -11,9 +11,10 @@ ghost use Rattle.yd_meaning.specs.Held.{held_set, held_clock, waiting_counts};
 ghost use Rattle.yd_meaning.specs.Document.{AreDeletedIn};
 ghost use Rattle.yd_updates.specs.Law.{ArePaired};
 ghost use Rattle.yd_ops.specs.Operation.{Operation};
+ghost use Rattle.yd_grouping.specs.Merged.{reply_of};
 ghost use Rattle.yd_state.specs.Brings.{BringsSomething};
 ghost use Rattle.yd_state.specs.Lent.{lent_units, units_left, last_unit};
-ghost use Rattle.yd_doc.specs.Kept.{received_of, own_document};
+ghost use Rattle.yd_doc.specs.Kept.{received_of, own_deletes, own_document};
 ghost use Rattle.yd_doc.specs.Waiting.{counts_of};
 
 use crate::fault::NoMemory;
@@ -21,6 +22,7 @@ use crate::waiting::Waiting;
 use std::alloc::Global;
 use std::marker::Model;
 use yd_ids::{Client, Id, IdSet, Vector};
+use yd_merge::write_cut;
 use yd_ops::{List, Update};
 use yd_state::{ListView, State};
 
@@ -29,6 +31,7 @@ use yd_state::{ListView, State};
 /// operations and deletions define, with no history of arrivals (`law::own_document_is_defined`).
 #[derive(Drop)]
 pub struct Replica {
+    alloc: Global,
     client: Client,
     is_behind: bool,
     pub(crate) state: State,
@@ -66,6 +69,7 @@ impl Replica {
         ensures caught_up { IfOk result (λ replica. replica.is_behind ≡ false) }
     {
         Ok(Replica {
+            alloc,
             client,
             is_behind: false,
             state: State::new(alloc),
@@ -131,7 +135,8 @@ impl Replica {
 
     /// The delete set: the held ids that are deleted.
     pub fn deletes(&self) -> &IdSet
-        ensures { AreDeletedIn result.now (own_document self.now) }
+        ensures deleted { AreDeletedIn result.now (own_document self.now) }
+        ensures own { result.now ≡ own_deletes self.now }
     {
         self.state.deletes()
     }
@@ -145,6 +150,23 @@ impl Replica {
             structs: self.state.waiting_units(),
             deletes: self.state.waiting_ids(),
         }
+    }
+
+    /// The answer to whoever has this state vector (Yjs 13, encodeStateAsUpdate): all that was received
+    /// from there on, held or waiting, as one grouped update. Its deletions are the delete set and all
+    /// received deletions, waiting ones too, also where no operation is new to the asker. A pair stays
+    /// whole, so a reply may begin one unit below the vector. Once the asker takes it, it has what this
+    /// replica received (`law::replies_complete`). It takes a look-up for each part of a run that was
+    /// received, and the time and memory of what it answers.
+    pub fn reply(&self, vector: &Vector) -> Result<Update, NoMemory>
+        ensures replies { IfOk result (λ update. update_value update
+            ≡ reply_of (received_of self.now) (own_deletes self.now) (clock_of vector.now)) }
+        ensures valid { IfOk result (λ update. IsValidUpdate (update_value update)) }
+    {
+        let mut deletes = self.state.deletes().copy()?;
+        deletes.union(self.state.named())?;
+        let update = write_cut(self.alloc, self.state.received(), vector, deletes)?;
+        Ok(update)
     }
 
     /// The units of a list in order, deleted ones too; lost ones are in no list. It takes time with the

@@ -47,7 +47,7 @@ deleted_valid : (n : ℕ) → Each IsValidUnitContent (deleted_units n)
 deleted_valid zero = tt
 deleted_valid (suc n) = (tt, deleted_valid n)
 
-content_valid : (content : ContentValue) → IsValidContent content → Each IsValidUnitContent (units_of_content content)
+pub content_valid : (content : ContentValue) → IsValidContent content → Each IsValidUnitContent (units_of_content content)
 content_valid (json values) valid = json_valid values valid
 content_valid (binary blob) valid = (tt, tt)
 content_valid (string units) valid = units_valid units valid.0
@@ -59,7 +59,7 @@ content_valid (deleted count) valid = deleted_valid count
 
 -- ---- operations of valid updates
 
-from_valid : (id : Id) (left right : Option Id) (list : Option DocList) (units : List UnitContent) → IsClient id.client → IsClock (id.clock + length units) →
+pub from_valid : (id : Id) (left right : Option Id) (list : Option DocList) (units : List UnitContent) → IsClient id.client → IsClock (id.clock + length units) →
     IfSome left IsId → IfSome right IsId → CarriesList left right list → Each IsValidUnitContent units →
     ((o : Operation) → IsIn o (operations_from id left right list units) → level_of o.content ≡ 0 → o ≡ gone_operation o.id) →
     Each IsValidOperation (operations_from id left right list units)
@@ -78,7 +78,7 @@ from_valid id left right list (unit ∷ units) client end is_left is_right carri
       tt each.1 (λ o i. bare o (inr i)),
 )
 
-gone_valid : (count : ℕ) (id : Id) → IsClient id.client → IsClock (id.clock + count) → Each IsValidOperation (gone_from id count)
+pub gone_valid : (count : ℕ) (id : Id) → IsClient id.client → IsClock (id.clock + count) → Each IsValidOperation (gone_from id count)
 gone_valid zero id client end = tt
 gone_valid (suc count) id client end = (
   record { client = client; end = omega (arith, end); left = tt; right = tt; list = λ some. absurd (omega (arith, some)); bare = λ e. refl; content = tt },

@@ -126,9 +126,17 @@ impl State {
 
     /// The delete set: the held ids that are deleted.
     pub fn deletes(&self) -> &IdSet
-        ensures { AreDeletedIn result.now (document_in self.now) }
+        ensures deleted { AreDeletedIn result.now (document_in self.now) }
+        ensures own { result.now ≡ self.now.deletes }
     {
         &self.deletes
+    }
+
+    /// The ids that received updates delete by name, held or not.
+    pub fn named(&self) -> &IdSet
+        ensures { result.now ≡ self.now.named }
+    {
+        &self.named
     }
 
     /// The units of a list in order, deleted ones too; lost ones are in no list. It takes time with the

@@ -4,6 +4,6 @@ use Rattle.yd_state.specs.State.{document_in}
 use Rattle.yd_state.proofs.NamedLemmas.{has_named, named_has}
 use Rattle.yd_state.proofs.state.State.deletes.Goals as goal
 
-pub returns : goal.returns
-returns c = subst (λ s. AreDeletedIn c.self.inside.deletes (document_in s)) c.self.view_is
+pub returns-clause-deleted : goal.returns-clause-deleted
+returns-clause-deleted c = subst (λ s. AreDeletedIn c.self.inside.deletes (document_in s)) c.self.view_is
     (λ x. (has_named c.self.inside.deletes x, named_has c.self.inside.deletes x))
