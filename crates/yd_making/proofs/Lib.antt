@@ -1,0 +1,9 @@
+pub mod AskedLemmas
+pub mod FindingLemmas
+pub mod GivenLemmas
+pub mod PlaceLemmas
+pub mod RightsLemmas
+pub mod StructLemmas
+pub mod TypeLemmas
+pub mod UpdateLemmas
+pub mod WaitingLemmas
