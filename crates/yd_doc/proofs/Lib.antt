@@ -1,3 +1,5 @@
+pub mod CauseLemmas
+pub mod CountedLemmas
 pub mod GroupableLemmas
 pub mod KeysLemmas
 pub mod UsedLemmas

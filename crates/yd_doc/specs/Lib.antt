@@ -1,3 +1,5 @@
-pub mod Keys
+pub mod Counted
+pub mod Editing
 pub mod Kept
+pub mod Keys
 pub mod Waiting

@@ -12,13 +12,18 @@
 //! ```
 #![tactic(auto)]
 
+mod asking;
+mod editing;
 mod fault;
+mod indexing;
 mod keys;
 pub mod law;
 mod replica;
 mod waiting;
 
 pub use fault::NoMemory;
+pub use indexing::counted_len;
 pub use replica::Replica;
 pub use waiting::Waiting;
+pub use yd_making::{EditFault, Step, StepList};
 pub use yd_state::{ListView, RunView};

@@ -32,7 +32,7 @@ use yd_state::{ListView, State};
 #[derive(Drop)]
 pub struct Replica {
     alloc: Global,
-    client: Client,
+    pub(crate) client: Client,
     is_behind: bool,
     pub(crate) state: State,
 }
