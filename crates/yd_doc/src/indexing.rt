@@ -1,6 +1,7 @@
 //! Indexes of units: how many a list has, and which unit has an index.
 
-ghost use Rattle.std.specs.Prelude.{◌≡◌, ◌≤◌, length};
+ghost use Rattle.std.specs.Prelude.{◌≡◌, ◌≤◌, length, IfSome};
+ghost use Rattle.yd_ids.specs.Id.{IsId};
 ghost use Rattle.yd_editing.specs.TextEdit.{counted_units, unit_at};
 ghost use Rattle.yd_ops.specs.View.{content_value};
 ghost use Rattle.yd_state.specs.Lent.{units_of_view, IsWithin};
@@ -33,7 +34,8 @@ impl Replica {
     /// the length. It takes time as reading the list by pieces does up to that unit, and copies
     /// nothing.
     pub fn unit_at(&self, list: &List, index: u64) -> Option<Id>
-        ensures { result ≡ unit_at (counted_units (own_document self.now) list.now) index }
+        ensures unit { result ≡ unit_at (counted_units (own_document self.now) list.now) index }
+        ensures in_range { IfSome result IsId }
     {
         let mut view = self.list(list);
         let mut left = index;

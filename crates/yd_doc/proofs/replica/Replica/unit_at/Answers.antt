@@ -9,8 +9,8 @@ use Rattle.yd_doc.proofs.replica.Replica.unit_at.Goals as goal
 pub loop-piece-smaller : goal.loop-piece-smaller
 loop-piece-smaller c = fewer_left c.in-Some.piece (units_left c.loop-piece.view) (units_left c.next.new.self) c.in-Some.ensures.some c.in-Some.ensures.within c.in-Some.ensures.lends
 
-pub returns-then-left-len : goal.returns-then-left-len
-returns-then-left-len c =
+pub returns-then-left-len-clause-unit : goal.returns-then-left-len-clause-unit
+returns-then-left-len-clause-unit c =
     sym (at_in_piece (units_left c.loop-piece.view) (units_left c.next.new.self) (units_of_view c.in-Some.piece) c.in-Some.piece.id c.counted_len-len.result c.loop-piece.left
     c.in-Some.ensures.lends c.counted_len-len.ensures.ids c.if-left-len.true)
     ∙ c.loop-piece.invariant ∙ ap (λ us. slice_get (counted_ids us) c.args.index) c.list-view.ensures.units
@@ -22,7 +22,7 @@ loop-piece-preserved c =
     (c.loop-piece.left - c.counted_len-len.result) c.in-Some.ensures.lends c.counted_len-len.ensures.ids c.if-left-len.false (omega (arith, c.if-left-len.false)))
     ∙ c.loop-piece.invariant
 
-pub returns : goal.returns
-returns c = ap (λ us. slice_get (counted_ids us) c.loop-piece.left) (sym c.in_default.ensures.lends) ∙ c.loop-piece.invariant
+pub returns-clause-unit : goal.returns-clause-unit
+returns-clause-unit c = ap (λ us. slice_get (counted_ids us) c.loop-piece.left) (sym c.in_default.ensures.lends) ∙ c.loop-piece.invariant
     ∙ ap (λ us. slice_get (counted_ids us) c.args.index) c.list-view.ensures.units
     ∙ counted_at (own_document c.args.self.now) c.args.list.now c.args.index
