@@ -1,0 +1,86 @@
+//! What the runs of a store hold.
+
+ghost use Rattle.std.specs.Prelude.{◌≡◌, ◌<◌, ◌≤◌, ◌+◌, ◌++◌, ◌∷◌, [], length, OnOk, OnErr, IsOk, option_copied};
+ghost use Rattle.yd_store.specs.Contents.{told, told_of, run_at, CanCut, CutsTold, KeepsTold};
+
+use crate::cutting::{cut_told, push_told};
+use std::alloc::{AllocError, Global};
+use std::marker::Model;
+use yd_arena::Beside;
+use yd_ops::Run;
+
+/// The run of each place, where it is told. A gone one has none.
+///
+/// Contracts see what each place tells, `rows`, and `room`: how many more cannot fail.
+#[derive(Drop)]
+pub struct Contents {
+    runs: Vec<Option<Run>>,
+}
+
+impl Model for Contents {
+    ghost use Rattle.std.specs.Prelude.{◌-◌, length, vec_capacity};
+    ghost use Rattle.yd_store.specs.Contents.{Contented};
+    ghost use Rattle.yd_any.specs.contracts.any_value.AnyList as any_list;
+    ghost use Rattle.yd_any.specs.contracts.json_value.Json as json;
+    ghost use Rattle.std.specs.Coded.{codes};
+
+    ghost Value = { Contented };
+
+    ghost coded = { Prim.hlevel (codes, json.the_row.coded, any_list.the_row.coded) };
+
+    ghost view = { λ it. record {
+      rows = it.runs.items;
+      room = vec_capacity it.runs - length it.runs.items;
+    } };
+}
+
+impl Contents {
+    /// No run. It takes no memory.
+    pub fn new(alloc: Global) -> Contents
+        ensures { result.rows ≡ [] }
+    {
+        Contents {
+            runs: Vec::new(alloc),
+        }
+    }
+
+    /// The run at a place, lent, or None where it is gone.
+    pub fn run(&self, place: usize) -> Option<&Run>
+        requires { place < length self.now.rows }
+        ensures { told (option_copied result) ≡ run_at (told_of self.now) place }
+    {
+        self.runs[place].as_ref()
+    }
+
+    /// Makes room for so many runs, or finds no memory for it. No room is lost.
+    pub fn reserve(&mut self, more: usize) -> Result<(), AllocError>
+        ensures rows { self.new.rows ≡ self.old.rows }
+        ensures room { OnOk result (more ≤ self.new.room) }
+        ensures kept { self.old.room ≤ self.new.room }
+        ensures succeeds { more ≤ self.old.room → IsOk result }
+    {
+        self.runs.reserve(more)?;
+        Ok(())
+    }
+
+    /// Adds what the next place tells, where there is room. It takes no memory.
+    pub fn add(&mut self, run: Option<Run>)
+        requires { 0 < self.old.room }
+        ensures rows { self.new.rows ≡ self.old.rows ++ run ∷ [] }
+        ensures room { self.old.room ≤ self.new.room + 1 }
+    {
+        push_told(&mut self.runs, run);
+    }
+}
+
+impl Beside for Contents {
+    ghost can_cut = { λ it place n. CanCut it place n };
+
+    ghost cuts = { λ old new place n. CutsTold old new place n };
+
+    ghost keeps = { λ old new. KeepsTold old new };
+
+    fn cut_beside(&mut self, place: usize, n: u64) -> Result<(), AllocError> {
+        cut_told(&mut self.runs, place, n)
+    }
+}

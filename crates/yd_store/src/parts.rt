@@ -1,0 +1,75 @@
+//! Changes of all parts of a store together.
+
+ghost use Rattle.std.specs.Prelude.{◌≡◌, ◌<◌, ◌≤◌, ◌++◌, ◌∷◌, [], ℕ, length, take, IfSome, IfNone, IfOk, OnOk, OnErr, IsOk};
+ghost use Rattle.yd_arena.specs.Lists.{AreLists};
+ghost use Rattle.yd_arena.specs.Arena.{runs_of, room_for, count_of, next_clock, IsArena, IsSame, HasUnit};
+
+use crate::contents::Contents;
+use std::alloc::AllocError;
+use yd_arena::{Arena, Found};
+use yd_ids::{Client, Id};
+use yd_marks::Marks;
+
+/// Makes room for so many runs of a client in all parts, or finds no memory for it.
+pub fn reserve_parts(
+    arena: &mut Arena,
+    marks: &mut Marks,
+    contents: &mut Contents,
+    client: Client,
+    more: usize,
+) -> Result<(), AllocError>
+    ensures arena { IsSame arena.old arena.new }
+    ensures rows { marks.new.rows ≡ marks.old.rows }
+    ensures live { marks.new.live ≡ marks.old.live }
+    ensures contents { contents.new.rows ≡ contents.old.rows }
+    ensures rooms { (k : ℕ) → room_for arena.old k ≤ room_for arena.new k }
+    ensures marks_kept { marks.old.room ≤ marks.new.room }
+    ensures contents_kept { contents.old.room ≤ contents.new.room }
+    ensures arena_room { OnOk result (more ≤ room_for arena.new client.0) }
+    ensures marks_room { OnOk result (more ≤ marks.new.room) }
+    ensures contents_room { OnOk result (more ≤ contents.new.room) }
+    ensures lists { AreLists arena.old.linked }
+    ensures succeeds { 0 < more → more ≤ room_for arena.old client.0 → more ≤ marks.old.room →
+        more ≤ contents.old.room → IsOk result }
+{
+    // What this reads is a fact for callers: no list has a place twice.
+    let _ = arena.lists();
+    arena.reserve(client, more)?;
+    marks.reserve(more)?;
+    contents.reserve(more)?;
+    Ok(())
+}
+
+/// Adds a list, without units, to the arena and to the counts, or to neither.
+pub fn add_list_parts(arena: &mut Arena, marks: &mut Marks) -> Result<usize, AllocError>
+    ensures number { IfOk result (λ list. list ≡ count_of arena.old) }
+    ensures lists { OnOk result (arena.new.linked.lists ≡ arena.old.linked.lists ++ [] ∷ []) }
+    ensures live { OnOk result (marks.new.live ≡ marks.old.live ++ 0 ∷ []) }
+    ensures no_list { OnErr result (arena.new.linked.lists ≡ arena.old.linked.lists) }
+    ensures no_count { OnErr result (marks.new.live ≡ marks.old.live) }
+    ensures runs { arena.new.linked.stretches ≡ arena.old.linked.stretches }
+    ensures lines { arena.new.lines ≡ arena.old.lines }
+    ensures room { arena.new.linked.room ≡ arena.old.linked.room }
+    ensures rows { marks.new.rows ≡ marks.old.rows }
+    ensures marks_room { marks.new.room ≡ marks.old.room }
+{
+    marks.add_list()?;
+    match arena.add_list() {
+        Ok(list) => Ok(list),
+        Err(fault) => {
+            marks.drop_list();
+            Err(fault)
+        }
+    }
+}
+
+/// Where a unit stands, with what its run can be cut by.
+pub fn seek(arena: &Arena, id: Id) -> Option<Found>
+    ensures found { IfSome result (λ at. HasUnit (runs_of arena.now) at.place at.before id) }
+    ensures missing { IfNone result (next_clock arena.now id.client.0 ≤ id.clock) }
+    ensures arena { IsArena arena.now.lines (runs_of arena.now) }
+    ensures lists { AreLists arena.now.linked }
+{
+    let _ = arena.lists();
+    arena.find(id)
+}

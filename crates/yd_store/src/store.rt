@@ -1,0 +1,359 @@
+//! The store.
+
+ghost use Rattle.std.specs.Prelude.{◌≡◌, ◌⊎◌, ◌<◌, ◌≤◌, ◌+◌, ◌++◌, ◌∷◌, [], ℕ, Some, None, true, length, get_or, IfSome, IfNone, IfOk, IfErr, OnOk, OnErr, IsOk, option_copied};
+ghost use Rattle.yd_ids.specs.Id.{IsClock};
+ghost use Rattle.yd_words.specs.Member.{IsIn};
+ghost use Rattle.yd_chains.specs.Chain.{first_of, last_of, behind, before};
+ghost use Rattle.yd_ops.specs.Value.{len_of};
+ghost use Rattle.yd_ops.specs.View.{content_value, run_value};
+ghost use Rattle.yd_scan.specs.Stretches.{IsNoLater, EndsLeft};
+ghost use Rattle.yd_arena.specs.Lists.{IsLoose, list_at};
+ghost use Rattle.yd_arena.specs.Arena.{runs_of, count_of, places_in, next_clock, HasUnit};
+ghost use Rattle.yd_marks.specs.Marks.{mark_at, IsBorder, MarksSpan};
+ghost use Rattle.yd_store.specs.Contents.{told, told_of, run_at};
+ghost use Rattle.yd_store.specs.Store.{spare_of, stretch_of, gone_stretch, IsKept, SplitsAt, AddsRun, AddsOutside};
+
+use crate::contents::Contents;
+use crate::counted::counts;
+use crate::fault::Unplaced;
+use crate::parts::{add_list_parts, reserve_parts, seek};
+use crate::rights::kept_right;
+use std::alloc::Global;
+use std::marker::Model;
+use yd_arena::{Arena, Found};
+use yd_ids::{Client, Id, Span};
+use yd_marks::{Mark, Marks};
+use yd_ops::{NoMemory, Run};
+use yd_scan::Stretch;
+
+/// The runs that are held, at places: in lists by their numbers, or in none where they are gone or
+/// lost. Each has a mark of deletion and, unless it is gone, what it holds.
+///
+/// Contracts see its three parts: `placed`, the runs as the order sees them with their lists and their
+/// index, `marks`, and `contents`. Where a call speaks of spare, that is how many more runs of a client
+/// cannot fail.
+#[derive(Drop)]
+pub struct Store {
+    arena: Arena,
+    marks: Marks,
+    contents: Contents,
+}
+
+impl Model for Store {
+    ghost use Rattle.yd_store.specs.Store.{Stored, IsStore};
+    ghost use Rattle.yd_any.specs.contracts.any_value.AnyList as any_list;
+    ghost use Rattle.yd_any.specs.contracts.json_value.Json as json;
+    ghost use Rattle.std.specs.Coded.{codes};
+
+    ghost Value = { Stored };
+
+    ghost coded = { Prim.hlevel (codes, json.the_row.coded, any_list.the_row.coded) };
+
+    ghost view = { λ it. record { placed = it.arena; marks = it.marks; contents = it.contents } };
+
+    ghost invariant = { λ it. IsStore it.arena it.marks it.contents };
+}
+
+impl Store {
+    /// No run, and no list. It takes no memory.
+    pub fn new(alloc: Global) -> Store
+        ensures runs { runs_of result.placed ≡ [] }
+        ensures lists { count_of result.placed ≡ 0 }
+        ensures clocks { (client : ℕ) → next_clock result.placed client ≡ 0 }
+    {
+        Store {
+            arena: Arena::new(alloc),
+            marks: Marks::new(alloc),
+            contents: Contents::new(alloc),
+        }
+    }
+
+    /// The clock of the client's next unit.
+    pub fn next_clock(&self, client: Client) -> u64
+        ensures value { result ≡ next_clock self.now.placed client.0 }
+        ensures bound { IsClock result }
+    {
+        self.arena.next_clock(client)
+    }
+
+    /// The place of the run with a unit, and how many of its units stand before it. None is just from
+    /// the client's next clock on.
+    pub fn find(&self, id: Id) -> Option<Found>
+        ensures found { IfSome result (λ at. HasUnit (runs_of self.now.placed) at.place at.before id) }
+        ensures missing { IfNone result (next_clock self.now.placed id.client.0 ≤ id.clock) }
+    {
+        self.arena.find(id)
+    }
+
+    /// The first place of a list, or None where it is empty.
+    pub fn first(&self, list: usize) -> Option<usize>
+        requires { list < count_of self.now.placed }
+        ensures { result ≡ first_of (places_in self.now.placed list) }
+    {
+        self.arena.lists().first(list)
+    }
+
+    /// The last place of a list, or None where it is empty.
+    pub fn last(&self, list: usize) -> Option<usize>
+        requires { list < count_of self.now.placed }
+        ensures { result ≡ last_of (places_in self.now.placed list) }
+    {
+        self.arena.lists().last(list)
+    }
+
+    /// The place behind another in its list. None is at the end, and behind a place in no list.
+    pub fn next(&self, place: usize) -> Option<usize>
+        requires { place < length (runs_of self.now.placed) }
+        ensures loose { IsLoose self.now.placed.linked place → result ≡ None }
+        ensures value { (k : ℕ) → k < count_of self.now.placed → IsIn place (places_in self.now.placed k) →
+            result ≡ first_of (behind (Some place) (places_in self.now.placed k)) }
+    {
+        self.arena.lists().next(place)
+    }
+
+    /// The place before another in its list. None is at the front, and before a place in no list.
+    pub fn prev(&self, place: usize) -> Option<usize>
+        requires { place < length (runs_of self.now.placed) }
+        ensures loose { IsLoose self.now.placed.linked place → result ≡ None }
+        ensures value { (k : ℕ) → k < count_of self.now.placed → IsIn place (places_in self.now.placed k) →
+            result ≡ last_of (before place (places_in self.now.placed k)) }
+    {
+        self.arena.lists().prev(place)
+    }
+
+    /// The number of the list that has a place, or None where none has it.
+    pub fn list_of(&self, place: usize) -> Option<usize>
+        requires { place < length (runs_of self.now.placed) }
+        ensures member { (k : ℕ) → k < count_of self.now.placed →
+            IsIn place (places_in self.now.placed k) → result ≡ Some k }
+        ensures found { IfSome result (λ k. (k < count_of self.now.placed) ×
+            IsIn place (places_in self.now.placed k)) }
+    {
+        self.arena.lists().list_of(place)
+    }
+
+    /// The run at a place, lent, or None where it is gone.
+    pub fn run_of(&self, place: usize) -> Option<&Run>
+        requires { place < length (runs_of self.now.placed) }
+        ensures { told (option_copied result) ≡ run_at (told_of self.now.contents) place }
+    {
+        self.contents.run(place)
+    }
+
+    /// Whether the units of the run at a place are deleted.
+    pub fn is_deleted(&self, place: usize) -> bool
+        requires { place < length (runs_of self.now.placed) }
+        ensures { result ≡ (mark_at self.now.marks.rows place).deleted }
+    {
+        self.marks.mark(place).deleted
+    }
+
+    /// How many units of a list are live: those that count in lengths and are not deleted.
+    pub fn live(&self, list: usize) -> u128
+        requires { list < count_of self.now.placed }
+        ensures { result ≡ get_or self.now.marks.live list 0 }
+    {
+        self.marks.live(list)
+    }
+
+    /// One list more, which is empty. Its number is how many there were before.
+    pub fn add_list(&mut self) -> Result<usize, NoMemory>
+        ensures number { IfOk result (λ list. list ≡ count_of self.old.placed) }
+        ensures lists { OnOk result (self.new.placed.linked.lists ≡
+            self.old.placed.linked.lists ++ [] ∷ []) }
+        ensures live { OnOk result (self.new.marks.live ≡ self.old.marks.live ++ 0 ∷ []) }
+        ensures unchanged { OnErr result (self.new.placed.linked.lists ≡ self.old.placed.linked.lists) }
+        ensures runs { runs_of self.new.placed ≡ runs_of self.old.placed }
+        ensures lines { self.new.placed.lines ≡ self.old.placed.lines }
+        ensures rows { self.new.marks.rows ≡ self.old.marks.rows }
+        ensures contents { self.new.contents ≡ self.old.contents }
+        ensures spare { (client : ℕ) → spare_of self.new client ≡ spare_of self.old client }
+    {
+        let list = add_list_parts(&mut self.arena, &mut self.marks)?;
+        Ok(list)
+    }
+
+    /// Makes room for so many runs of a client, or finds no memory for it. No spare is lost.
+    pub fn reserve(&mut self, client: Client, more: usize) -> Result<(), NoMemory>
+        ensures kept { IsKept self.old self.new }
+        ensures spare { OnOk result (more ≤ spare_of self.new client.0) }
+        ensures spares { (other : ℕ) → spare_of self.old other ≤ spare_of self.new other }
+    {
+        reserve_parts(
+            &mut self.arena,
+            &mut self.marks,
+            &mut self.contents,
+            client,
+            more,
+        )?;
+        Ok(())
+    }
+
+    /// Lets a run begin with a unit that is held: the run that has it is cut in front of it, if it is
+    /// not its first. The place of the run is answered. Nothing is said of spare after it.
+    pub fn split(&mut self, id: Id) -> Result<usize, NoMemory>
+        requires held { id.clock < next_clock self.old.placed id.client.0 }
+        ensures begins { IfOk result (λ place. HasUnit (runs_of self.new.placed) place 0 id) }
+        ensures done { OnOk result (IsKept self.old self.new ⊎ SplitsAt self.old self.new id) }
+        ensures unchanged { OnErr result (IsKept self.old self.new) }
+    {
+        let Some(found) = seek(&self.arena, id) else {
+            unreachable!();
+        };
+        if found.before == 0 {
+            return Ok(found.place);
+        }
+        self.marks.reserve(1)?;
+        let place = self
+            .arena
+            .cut_with(found.place, found.before, &mut self.contents)?;
+        self.marks.cut(found.place);
+        Ok(place)
+    }
+
+    /// Adds the next run of its client to a list, live, where the integration scan of its first unit
+    /// puts it. Its left origin ends the run at `after`, or is absent at the front, and its right origin
+    /// begins a run, if it stands in the list. Its place is answered. While the client has spare, this
+    /// takes no memory; where it finds none, the run comes back, and nothing has changed.
+    pub fn add_run(
+        &mut self,
+        run: Run,
+        list: usize,
+        after: Option<usize>,
+    ) -> Result<usize, Unplaced>
+        requires list { list < count_of self.old.placed }
+        requires after { IfSome after (λ p. IsIn p (places_in self.old.placed list)) }
+        requires left { EndsLeft (runs_of self.old.placed) run.left after }
+        requires right { IsNoLater (runs_of self.old.placed) (places_in self.old.placed list) run.right }
+        requires next { run.id.clock ≡ next_clock self.old.placed run.id.client.0 }
+        requires filled { 0 < len_of (content_value run.content) }
+        requires fits { IsClock (run.id.clock + len_of (content_value run.content)) }
+        ensures place { IfOk result (λ place. place ≡ length (runs_of self.old.placed)) }
+        ensures done { OnOk result (AddsRun self.old self.new list (run_value run)) }
+        ensures value_returned { IfErr result (λ fault. run_value fault.0 ≡ run_value run) }
+        ensures unchanged { OnErr result (IsKept self.old self.new) }
+        ensures spares { (client : ℕ) → spare_of self.old client ≤ spare_of self.new client + 1 }
+        ensures succeeds { 0 < spare_of self.old run.id.client.0 → IsOk result }
+    {
+        let right = kept_right(&self.arena, list, run.right);
+        let room = reserve_parts(
+            &mut self.arena,
+            &mut self.marks,
+            &mut self.contents,
+            run.id.client,
+            1,
+        );
+        if room.is_err() {
+            return Err(Unplaced(run));
+        }
+        let len = run.len();
+        let mark = Mark {
+            deleted: false,
+            counted: counts(&run.content),
+        };
+        let place = self.arena.add_run(
+            list,
+            after,
+            Stretch {
+                id: run.id,
+                len,
+                left: run.left,
+                right,
+            },
+        );
+        self.marks.add(Some(list), len, mark);
+        self.contents.add(Some(run));
+        Ok(place)
+    }
+
+    /// Adds units of which only the ids are known, the next ones of their client, in no list. They are
+    /// deleted. The place of their run is answered. While the client has spare, this takes no memory.
+    pub fn add_gone(&mut self, span: Span) -> Result<usize, NoMemory>
+        requires next { span.clock ≡ next_clock self.old.placed span.client.0 }
+        requires filled { 0 < span.len }
+        requires fits { IsClock (span.clock + span.len) }
+        ensures place { IfOk result (λ place. place ≡ length (runs_of self.old.placed)) }
+        ensures done { OnOk result (AddsOutside self.old self.new (gone_stretch span) None) }
+        ensures unchanged { OnErr result (IsKept self.old self.new) }
+        ensures spares { (client : ℕ) → spare_of self.old client ≤ spare_of self.new client + 1 }
+        ensures succeeds { 0 < spare_of self.old span.client.0 → IsOk result }
+    {
+        reserve_parts(
+            &mut self.arena,
+            &mut self.marks,
+            &mut self.contents,
+            span.client,
+            1,
+        )?;
+        let place = self.arena.add_loose(Stretch {
+            id: Id {
+                client: span.client,
+                clock: span.clock,
+            },
+            len: span.len,
+            left: None,
+            right: None,
+        });
+        self.marks.add(None, span.len, OUTSIDE);
+        self.contents.add(None);
+        Ok(place)
+    }
+
+    /// Adds the next run of its client in no list, as one whose units are lost. They are deleted. Its
+    /// place is answered. While the client has spare, this takes no memory; where it finds none, the
+    /// run comes back, and nothing has changed.
+    pub fn add_lost(&mut self, run: Run) -> Result<usize, Unplaced>
+        requires next { run.id.clock ≡ next_clock self.old.placed run.id.client.0 }
+        requires filled { 0 < len_of (content_value run.content) }
+        requires fits { IsClock (run.id.clock + len_of (content_value run.content)) }
+        ensures place { IfOk result (λ place. place ≡ length (runs_of self.old.placed)) }
+        ensures done { OnOk result (AddsOutside self.old self.new
+            (stretch_of (run_value run) None) (Some (run_value run))) }
+        ensures value_returned { IfErr result (λ fault. run_value fault.0 ≡ run_value run) }
+        ensures unchanged { OnErr result (IsKept self.old self.new) }
+        ensures spares { (client : ℕ) → spare_of self.old client ≤ spare_of self.new client + 1 }
+        ensures succeeds { 0 < spare_of self.old run.id.client.0 → IsOk result }
+    {
+        let room = reserve_parts(
+            &mut self.arena,
+            &mut self.marks,
+            &mut self.contents,
+            run.id.client,
+            1,
+        );
+        if room.is_err() {
+            return Err(Unplaced(run));
+        }
+        let len = run.len();
+        let place = self.arena.add_loose(Stretch {
+            id: run.id,
+            len,
+            left: run.left,
+            right: None,
+        });
+        self.marks.add(None, len, OUTSIDE);
+        self.contents.add(Some(run));
+        Ok(place)
+    }
+
+    /// Marks the units of a span as deleted, run by run. The span is held, and parts no run: see
+    /// `split`. What was marked stays so, and nothing else is marked. It takes no memory.
+    pub fn mark_deleted(&mut self, span: Span)
+        requires held { span.clock + span.len ≤ next_clock self.old.placed span.client.0 }
+        requires front { IsBorder (runs_of self.old.placed) span.client.0 span.clock }
+        requires back { IsBorder (runs_of self.old.placed) span.client.0 (span.clock + span.len) }
+        ensures marked { MarksSpan (runs_of self.old.placed)
+            self.old.marks.rows self.new.marks.rows span }
+        ensures placed { self.new.placed ≡ self.old.placed }
+        ensures contents { self.new.contents ≡ self.old.contents }
+        ensures spare { (client : ℕ) → spare_of self.new client ≡ spare_of self.old client }
+    {
+        self.marks.mark_deleted(&self.arena, span);
+    }
+}
+
+/// The mark of units in no list.
+const OUTSIDE: Mark = Mark {
+    deleted: true,
+    counted: false,
+};
