@@ -1,0 +1,11 @@
+use Rattle.std.proofs.Common.{ap, is_some, sym, ◌∙◌}
+use Rattle.yd_aware.specs.Rows.{standing_of_seat}
+use Rattle.yd_aware.proofs.SeatLemmas.{standing_in-seat}
+use Rattle.yd_aware.proofs.own.has_state.Goals as goal
+
+pub returns-in-None : goal.returns-in-None
+returns-in-None c = sym (ap (λ s. is_some s.state) (standing_in-seat c.args.rows.now.entries c.args.client.0 ∙ ap standing_of_seat (sym c.in-None.ensures)))
+
+pub returns-in-Some : goal.returns-in-Some
+returns-in-Some c =
+    c.is_some.ensures ∙ sym (ap (λ s. is_some s.state) (standing_in-seat c.args.rows.now.entries c.args.client.0 ∙ ap standing_of_seat (sym c.in-Some.ensures)))
