@@ -1,0 +1,24 @@
+-- The first refusal of an edit at an index, where its place is not refused.
+use Rattle.std.proofs.Common.{◌≡◌, ℕ, Bool, nat_lt, List, Option, Some, None, refl, sym, ap, ap₂, ◌∙◌}
+use Rattle.yd_ops.specs.declared.lists.List.{List as DocList}
+use Rattle.yd_ops.specs.Value.{ContentValue, len_of}
+use Rattle.yd_editing.specs.Basis.{Basis}
+use Rattle.yd_editing.specs.Refused.{refusal_of}
+use Rattle.yd_editing.specs.Step.{Step, Refusal, first_or}
+use Rattle.yd_editing.specs.TextEdit.{counted_units, insert_steps, list_refusal, end_refusal, index_refusal, insert_refusal}
+
+first_three : (l e i r : Option Refusal) → l ≡ None → first_or e i ≡ None → first_or l (first_or e (first_or i r)) ≡ r
+first_three None None None r a b = refl
+first_three None None (Some x) r a b = absurd cc
+first_three None (Some x) i r a b = absurd cc
+first_three (Some x) e i r a b = absurd cc
+
+-- ---- lemmas for callers
+
+pub insert_refused : (basis : Basis) (name : DocList) (index : ℕ) (content : ContentValue) (steps : List Step) (makes : Bool) → makes ≡ nat_lt 0 (len_of content) →
+    list_refusal basis name makes ≡ None → first_or (end_refusal (counted_units basis.document name) index) (index_refusal (counted_units basis.document name) index) ≡ None →
+    steps ≡ insert_steps basis.document name index content → refusal_of basis steps ≡ insert_refusal basis name index content
+insert_refused basis name index content steps makes test list place are = ap (refusal_of basis) are
+    ∙ sym (first_three (list_refusal basis name (nat_lt 0 (len_of content))) (end_refusal (counted_units basis.document name) index)
+    (index_refusal (counted_units basis.document name) index) (refusal_of basis (insert_steps basis.document name index content))
+    (ap (list_refusal basis name) (sym test) ∙ list) place)

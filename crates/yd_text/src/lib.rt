@@ -1,0 +1,17 @@
+//! Edits of a text at an index: insertions and embeds.
+//!
+//! An index counts live counted units, so UTF-16 units of text, and each embed as one. Each call is
+//! one edit of the replica: it makes one update, which the replica takes, or it is refused and the
+//! replica is as before.
+//!
+//! ```rust
+//! let update = insert(alloc, &mut replica, &list, 0, "Hello")?;
+//! ```
+#![tactic(auto)]
+
+mod inserting;
+mod placing;
+mod refusing;
+
+pub use inserting::{embed, insert};
+pub use yd_doc::EditFault;
