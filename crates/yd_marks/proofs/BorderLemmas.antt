@@ -5,11 +5,16 @@ use Rattle.yd_ids.specs.declared.id.Client.{Client}
 use Rattle.yd_scan.specs.declared.stretch.Stretch.{Stretch}
 use Rattle.yd_scan.specs.Stretches.{stretch_at}
 use Rattle.yd_index.specs.Line.{Lined}
+use Rattle.yd_index.specs.Lines.{next_of}
+use Rattle.yd_index.specs.Holding.{front_of, rest_of, cut_stretches}
 use Rattle.yd_index.proofs.LineLemmas.{lt_says}
 use Rattle.yd_index.proofs.LinesLemmas.{eq_says}
+use Rattle.yd_index.proofs.HoldingLemmas.{below_or_last}
+use Rattle.yd_index.proofs.CuttingLemmas.{cut_len, cut_front, cut_rest, cut_other}
 use Rattle.yd_arena.specs.Arena.{IsArena, HasUnit}
-use Rattle.yd_arena.proofs.ArenaLemmas.{units_stand_once}
+use Rattle.yd_arena.proofs.ArenaLemmas.{unit_id, own_unit, unit_below, units_stand_once}
 use Rattle.yd_marks.specs.Marks.{IsBorder}
+use Rattle.yd_marks.specs.Law.{BordersAre}
 
 abbrev client_of : ℕ → Client
 client_of n = record { 0 = n }
@@ -86,3 +91,56 @@ next_run runs client clock place before border has =
 -- it ends by the next border
 pub ends_by : (runs : List Stretch) (client clock end place : ℕ) → IsNext runs client clock place → IsBorder runs client end → clock < end → clock + (stretch_at runs place).len ≤ end
 ends_by runs client clock end place next border low = elim (border place next.within next.own) [ inl y ↦ omega (arith, y, next.begins) | inr y ↦ absurd (omega (arith, y, next.begins, low)) ]
+
+-- ---- where a border is
+
+-- where a run begins
+pub begins_border : (lines : List Lined) (runs : List Stretch) (place : ℕ) (id : Id) → IsArena lines runs → HasUnit runs place 0 id → IsBorder runs id.client.0 id.clock
+begins_border lines runs place id arena has = λ i il is. elim (eq_says i place) [
+  | inl y ↦ inr (omega (arith, has.clock, ap (λ j. (stretch_at runs j).id.clock) y.1))
+  | inr y ↦ elim (apart lines runs arena id.client.0 place id.clock has.within (ap (λ (c : Client). c.0) has.client) (omega (arith, has.clock)) (omega (arith, has.inside)) i il y.1 is) [
+    | inl x ↦ inl x
+    | inr (inl x) ↦ inr (omega (arith, x))
+    | inr (inr x) ↦ elim (lt_says (stretch_at runs i).id.clock id.clock) [ inl w ↦ inl (omega (arith, x, w.1)) | inr w ↦ inr w.1 ]
+  ]
+]
+
+-- and from a client's next clock on
+pub next_border_of : (lines : List Lined) (runs : List Stretch) (client clock : ℕ) → IsArena lines runs → next_of lines client ≤ clock → IsBorder runs client clock
+next_border_of lines runs client clock arena above = λ i il is. elim (eq_says (stretch_at runs i).len 0) [
+  | inl z ↦ elim (lt_says (stretch_at runs i).id.clock clock) [ inl w ↦ inl (omega (arith, z.1, w.1)) | inr w ↦ inr w.1 ]
+  | inr z ↦ inl (by_next i il is (positive (stretch_at runs i).len z.1))
+]
+  where
+    positive : (n : ℕ) → n ≢ 0 → 0 < n
+    positive n ne = elim (lt_says 0 n) [ inl w ↦ w.1 | inr w ↦ absurd (ne (omega (arith, w.1))) ]
+
+    by_next : (i : ℕ) → i < length runs → (stretch_at runs i).id.client.0 ≡ client → 0 < (stretch_at runs i).len → (stretch_at runs i).id.clock + (stretch_at runs i).len ≤ clock
+    by_next i il is filled =
+        let last = (stretch_at runs i).len - 1 in
+        let below = unit_below lines runs arena.holds i last (unit_id runs i last) (own_unit runs i last il (omega (arith, filled))) in
+        omega (arith, filled, below, above, ap (next_of lines) is)
+
+-- a cut leaves borders where they are
+pub cut_border : (runs : List Stretch) (place n client clock : ℕ) → place < length runs → n ≤ (stretch_at runs place).len → IsBorder runs client clock → IsBorder (cut_stretches runs place n) client clock
+cut_border runs place n client clock within le border = λ i il is. elim (below_or_last i (length runs) (omega (arith, il, cut_len runs place n within))) [
+  | inl low ↦ elim (eq_says i place) [
+    | inl y ↦ (let e : stretch_at (cut_stretches runs place n) i ≡ front_of (stretch_at runs place) n = ap (stretch_at (cut_stretches runs place n)) y.1 ∙ cut_front runs place n within in
+        front e (border place within (ap (λ (r : Stretch). r.id.client.0) (sym e) ∙ is)))
+    | inr y ↦ (let e : stretch_at (cut_stretches runs place n) i ≡ stretch_at runs i = cut_other runs place n within i low y.1 in
+        subst (λ (r : Stretch). (r.id.clock + r.len ≤ clock) ⊎ (clock ≤ r.id.clock)) (sym e) (border i low (ap (λ (r : Stretch). r.id.client.0) (sym e) ∙ is)))
+  ]
+  | inr l ↦ (let e : stretch_at (cut_stretches runs place n) i ≡ rest_of (stretch_at runs place) n = ap (stretch_at (cut_stretches runs place n)) l ∙ cut_rest runs place n within in
+      rest e (border place within (ap (λ (r : Stretch). r.id.client.0) (sym e) ∙ is)))
+]
+  where
+    front : {s : Stretch} → s ≡ front_of (stretch_at runs place) n → ((stretch_at runs place).id.clock + (stretch_at runs place).len ≤ clock) ⊎ (clock ≤ (stretch_at runs place).id.clock) → (s.id.clock + s.len ≤ clock) ⊎ (clock ≤ s.id.clock)
+    front e (inl x) = inl (omega (arith, x, le, ap (λ (r : Stretch). r.id.clock) e, ap (λ (r : Stretch). r.len) e))
+    front e (inr x) = inr (omega (arith, x, ap (λ (r : Stretch). r.id.clock) e))
+
+    rest : {s : Stretch} → s ≡ rest_of (stretch_at runs place) n → ((stretch_at runs place).id.clock + (stretch_at runs place).len ≤ clock) ⊎ (clock ≤ (stretch_at runs place).id.clock) → (s.id.clock + s.len ≤ clock) ⊎ (clock ≤ s.id.clock)
+    rest e (inl x) = inl (omega (arith, x, le, ap (λ (r : Stretch). r.id.clock) e, ap (λ (r : Stretch). r.len) e))
+    rest e (inr x) = inr (omega (arith, x, ap (λ (r : Stretch). r.id.clock) e))
+
+pub borders_are : BordersAre
+borders_are = record { at_run = begins_border; at_end = next_border_of; kept = cut_border }

@@ -9,7 +9,7 @@ use Rattle.yd_scan.specs.Stretches.{stretch_at, units_of}
 use Rattle.yd_index.specs.Line.{Lined}
 use Rattle.yd_index.specs.Lines.{next_of}
 use Rattle.yd_index.specs.Holding.{cut_stretches}
-use Rattle.yd_arena.specs.Arena.{IsArena}
+use Rattle.yd_arena.specs.Arena.{IsArena, HasUnit}
 use Rattle.yd_marks.specs.declared.mark.Mark.{Mark}
 use Rattle.yd_marks.specs.Marks.{mark_at, IsBorder, MarksSpan, IsMarked}
 
@@ -28,3 +28,9 @@ CutsKeepMarks = (runs : List Stretch) (rows : List Mark) (place n : ℕ) → len
 abbrev pub AddsKeepMarks : Type 0
 AddsKeepMarks = (runs : List Stretch) (rows : List Mark) (run : Stretch) (mark : Mark) → length rows ≡ length runs →
     (id : Id) → IsMarked (runs ++ run ∷ []) (rows ++ mark ∷ []) id ↔ (IsMarked runs rows id ⊎ ((mark.deleted ≡ true) × IsIn id (units_of run)))
+
+-- no run has units on both sides of the clock where one begins, or of those from the client's next one on, and a cut leaves it so
+pub record BordersAre : Type 0 where
+  pub at_run : (lines : List Lined) (runs : List Stretch) (place : ℕ) (id : Id) → IsArena lines runs → HasUnit runs place 0 id → IsBorder runs id.client.0 id.clock
+  pub at_end : (lines : List Lined) (runs : List Stretch) (client clock : ℕ) → IsArena lines runs → next_of lines client ≤ clock → IsBorder runs client clock
+  pub kept : (runs : List Stretch) (place n client clock : ℕ) → place < length runs → n ≤ (stretch_at runs place).len → IsBorder runs client clock → IsBorder (cut_stretches runs place n) client clock
