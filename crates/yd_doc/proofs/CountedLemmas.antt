@@ -17,9 +17,10 @@ use Rattle.yd_state.specs.declared.listing.RunView.{RunView}
 use Rattle.yd_state.specs.Lent.{Lent, lent, lent_units, lent_from, units_of_view, IsWithin}
 use Rattle.yd_doc.specs.Counted.{counts, counted_ids, ids_from}
 
--- ---- the units of a document
+-- ---- lemmas for callers: the units of a document
 
-counted_lent : (is_deleted : Id → Bool) (os : List Operation) →
+
+pub counted_lent : (is_deleted : Id → Bool) (os : List Operation) →
     counted_ids (map (lent is_deleted) os) ≡ map (λ (o : Operation). o.id) (filter (λ (o : Operation). is_counted o.content) (filter (λ (o : Operation). not (is_deleted o.id)) os))
 counted_lent is_deleted [] = refl
 counted_lent is_deleted (o ∷ os) = go (is_deleted o.id) (is_counted o.content) refl (counted_lent is_deleted os)

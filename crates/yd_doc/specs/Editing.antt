@@ -1,5 +1,6 @@
 -- What an edit does to a replica.
 use Rattle.std.specs.Prelude.{◌≡◌, List, None}
+use Rattle.yd_ops.specs.Valid.{IsValidUpdate}
 use Rattle.yd_ops.specs.Value.{UpdateValue}
 use Rattle.yd_updates.specs.Received.{received_after}
 use Rattle.yd_editing.specs.Basis.{Basis}
@@ -13,11 +14,12 @@ use Rattle.yd_doc.specs.Kept.{Kept, received_of}
 abbrev pub own_basis : Kept → Basis
 own_basis r = basis_in r.client r.state
 
--- the steps were carried out: they are not refused, the update is the one that they make on what was there, and the replica
--- has taken it
+-- the steps were carried out: they are not refused, the update is valid and the one that they make on what was there, and the
+-- replica has taken it
 pub record IsEdit (old new : Kept) (steps : List Step) (update : UpdateValue) : Type 0 where
   pub accepted : refusal_of (own_basis old) steps ≡ None
   pub made : update ≡ update_of_edit (own_basis old) steps
+  pub valid : IsValidUpdate update
   pub received : received_of new ≡ received_after (received_of old) update
   pub client : new.client ≡ old.client
   pub is_behind : new.is_behind ≡ old.is_behind

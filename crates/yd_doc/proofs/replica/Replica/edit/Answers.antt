@@ -19,6 +19,7 @@ returns-clause-done c =
     let is : IsEdit old new (steps_value c.args.steps) (update_value c.in_ok-update.update) = record {
       accepted = accepted_given (refusal_of (own_basis old) (steps_value c.args.steps)) (sym c.in_default.is ∙ c.refusal.ensures);
       made = c.in_ok-update.ensures.made;
+      valid = c.in_ok-update.ensures.valid;
       received = c.in_ok-take.ensures.received;
       client = refl;
       is_behind = refl;
