@@ -1,2 +1,3 @@
 pub mod HalfLemmas
+pub mod RangeLemmas
 pub mod RefusalLemmas

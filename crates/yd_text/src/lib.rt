@@ -1,4 +1,4 @@
-//! Edits of a text at an index: insertions and embeds.
+//! Edits of a text at an index: insertions, embeds and deletions.
 //!
 //! An index counts live counted units, so UTF-16 units of text, and each embed as one. Each call is
 //! one edit of the replica: it makes one update, which the replica takes, or it is refused and the
@@ -6,12 +6,16 @@
 //!
 //! ```rust
 //! let update = insert(alloc, &mut replica, &list, 0, "Hello")?;
+//! let update = delete(alloc, &mut replica, &list, 1, 3)?;
 //! ```
 #![tactic(auto)]
 
+mod deleting;
 mod inserting;
 mod placing;
+mod ranges;
 mod refusing;
 
+pub use deleting::delete;
 pub use inserting::{embed, insert};
 pub use yd_doc::EditFault;
