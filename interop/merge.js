@@ -40,13 +40,16 @@ function judgeMade(session, before, made, form, isToldOnce) {
   };
 }
 
-/** The case that ydoc merges these updates, handed in as these files, in one format. */
-function mergeCase(session, name, form, updates, files, isToldOnce) {
+/**
+ * The case that ydoc merges these updates, handed in by chance, in one format. It is compared beside
+ * the files that are left out, since Yjs joins no runs that wait, and ydoc does.
+ */
+function mergeCase(session, name, form, updates, leftOut, isToldOnce) {
   return {
     name: `${session.name}.merge.${name}.${form}`,
     words: ['merge', form],
-    files,
-    judge: judgeMade(session, [], mergeOf(name, updates)[form], form, isToldOnce),
+    files: mixedFiles(session, session.chance.shuffled(updates)),
+    judge: judgeMade(session, leftOut, mergeOf(name, updates)[form], form, isToldOnce),
   };
 }
 
@@ -85,22 +88,26 @@ function mergeCases(session) {
   const { chance, updates, documents } = session;
   const states = documents.map((doc, at) => stateOf(`state-${at + 1}`, doc));
   const all = [...states, ...updates];
-  const some = updates.filter((_, at) => at % 3 !== 1);
   const files = updates.map((update) => fileOf(session, update, 'v1'));
+  const isLeftOut = (at) => at % 3 === 1;
+  const some = updates.filter((_, at) => !isLeftOut(at));
+  const leftOut = files.filter((_, at) => isLeftOut(at));
   const merge = mergeOf('merge', updates);
   const cuts = [0, 1, 2, 3].map((part) => Math.floor((part * updates.length) / 3));
   return [
     ...FORMS.flatMap((form) => [
-      mergeCase(session, 'updates', form, updates, mixedFiles(session, chance.shuffled(updates)), true),
-      mergeCase(session, 'some', form, some, mixedFiles(session, chance.shuffled(some)), true),
-      mergeCase(session, 'all', form, all, mixedFiles(session, chance.shuffled(all)), false),
+      mergeCase(session, 'updates', form, updates, [], true),
+      mergeCase(session, 'some', form, some, leftOut, true),
+      mergeCase(session, 'all', form, all, [], false),
     ]),
     vectorCase(session, 'updates', updates, mixedFiles(session, chance.shuffled(updates))),
     vectorCase(session, 'some', some, mixedFiles(session, chance.shuffled(some))),
-    ...cuts.flatMap((count, at) => [
-      cutCase(session, `merge-${at}`, merge, FORMS[at % 2], files.slice(0, count), true),
-      cutCase(session, `state-${at}`, states[0], FORMS[1 - (at % 2)], files.slice(0, count), false),
-    ]),
+    ...cuts.map((count, at) => {
+      const [form, before] = [FORMS[at >> 1], files.slice(0, count)];
+      return at % 2 === 0
+        ? cutCase(session, `merge-${at}`, merge, form, before, true)
+        : cutCase(session, `state-${at}`, states[0], form, before, false);
+    }),
   ];
 }
 
