@@ -40,6 +40,7 @@ elements_of (item d ds) = d ∷ elements_of ds
 
 -- ---- what goes with each word
 
+-- an insertion of what stands behind its word
 abbrev pub insert_of : Option (List ℕ) → Option ℕ → Option (List ℕ) → Option Line
 insert_of (Some root) (Some index) (Some text) = Some (insert root index text)
 insert_of _ _ _ = None
@@ -49,6 +50,7 @@ abbrev pub insert_in : List Data → Option Line
 insert_in (root ∷ index ∷ text ∷ []) = insert_of (as_str root) (number_in index) (as_str text)
 insert_in _ = None
 
+-- an embed
 abbrev pub embed_of : Option (List ℕ) → Option ℕ → Option AnyTree → Option Line
 embed_of (Some root) (Some index) (Some value) = Some (embed root index value)
 embed_of _ _ _ = None
@@ -58,6 +60,7 @@ abbrev pub embed_in : List Data → Option Line
 embed_in (root ∷ index ∷ value ∷ []) = embed_of (as_str root) (number_in index) (value_in value)
 embed_in _ = None
 
+-- a deletion
 abbrev pub delete_of : Option (List ℕ) → Option ℕ → Option ℕ → Option Line
 delete_of (Some root) (Some index) (Some len) = Some (delete root index len)
 delete_of _ _ _ = None
@@ -67,6 +70,7 @@ abbrev pub delete_in : List Data → Option Line
 delete_in (root ∷ index ∷ len ∷ []) = delete_of (as_str root) (number_in index) (number_in len)
 delete_in _ = None
 
+-- a format
 abbrev pub format_of : Option (List ℕ) → Option ℕ → Option ℕ → Option (List ℕ) → Option AnyTree → Option Line
 format_of (Some root) (Some index) (Some len) (Some key) (Some value) = Some (format root index len key value)
 format_of _ _ _ _ _ = None

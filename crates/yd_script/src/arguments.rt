@@ -1,8 +1,10 @@
 //! What goes with the word of a line.
 
-ghost use Rattle.std.specs.Prelude.{◌≡◌, Err, MatchOption, MatchResult, None, Some, map};
+ghost use Rattle.std.specs.Prelude.{◌≡◌, Err, IfOk, IsTrue, MatchOption, MatchResult, map};
 ghost use Rattle.serde_json.specs.View.{view};
 ghost use Rattle.yd_any.specs.JsonView.{json_tree};
+ghost use Rattle.yd_any.specs.Valid.{is_valid_json};
+ghost use Rattle.yd_script.specs.Line.{IsValidLine, line_of};
 ghost use Rattle.yd_script.specs.Reading.{Reads, delete_in, embed_in, format_in, insert_in, number_in, value_in};
 ghost use Rattle.yd_script.specs.declared.fault.LineFault.TheVariants.{NoMemory, BadLine};
 
@@ -17,7 +19,8 @@ const MOST_UNITS: u64 = (1 << 53) - 1;
 
 /// `ROOT, INDEX, TEXT`
 pub fn insert_of(alloc: Global, rest: &[Value]) -> Result<Line, LineFault>
-    ensures { Reads (insert_in (map view rest.now)) result }
+    ensures line { Reads (insert_in (map view rest.now)) result }
+    ensures valid { IfOk result (λ line. IsValidLine (line_of line)) }
 {
     match rest {
         [root, index, text] => match (root.as_str(), number_of(index), text.as_str()) {
@@ -34,7 +37,8 @@ pub fn insert_of(alloc: Global, rest: &[Value]) -> Result<Line, LineFault>
 
 /// `ROOT, INDEX, VALUE`
 pub fn embed_of(alloc: Global, rest: &[Value]) -> Result<Line, LineFault>
-    ensures { Reads (embed_in (map view rest.now)) result }
+    ensures line { Reads (embed_in (map view rest.now)) result }
+    ensures valid { IfOk result (λ line. IsValidLine (line_of line)) }
 {
     match rest {
         [root, index, value] => match (root.as_str(), number_of(index)) {
@@ -51,7 +55,8 @@ pub fn embed_of(alloc: Global, rest: &[Value]) -> Result<Line, LineFault>
 
 /// `ROOT, INDEX, LEN`
 pub fn delete_of(alloc: Global, rest: &[Value]) -> Result<Line, LineFault>
-    ensures { Reads (delete_in (map view rest.now)) result }
+    ensures line { Reads (delete_in (map view rest.now)) result }
+    ensures valid { IfOk result (λ line. IsValidLine (line_of line)) }
 {
     match rest {
         [root, index, len] => match (root.as_str(), number_of(index), number_of(len)) {
@@ -67,7 +72,8 @@ pub fn delete_of(alloc: Global, rest: &[Value]) -> Result<Line, LineFault>
 
 /// `ROOT, INDEX, LEN, KEY, VALUE`
 pub fn format_of(alloc: Global, rest: &[Value]) -> Result<Line, LineFault>
-    ensures { Reads (format_in (map view rest.now)) result }
+    ensures line { Reads (format_in (map view rest.now)) result }
+    ensures valid { IfOk result (λ line. IsValidLine (line_of line)) }
 {
     match rest {
         [root, index, len, key, value] => {
@@ -109,8 +115,9 @@ fn number_of(value: &Value) -> Option<u64>
 
 /// A value that JSON values carry.
 fn value_of(alloc: Global, value: &Value) -> Result<Json, LineFault>
-    ensures { MatchOption (value_in (view value.now)) (result ≡ Err BadLine) (λ t.
+    ensures value { MatchOption (value_in (view value.now)) (result ≡ Err BadLine) (λ t.
         MatchResult result (λ j. json_tree j ≡ t) (λ fault. fault ≡ NoMemory)) }
+    ensures valid { IfOk result (λ j. IsTrue (is_valid_json (json_tree j))) }
 {
     match json_of_value(alloc, value) {
         Ok(json) => Ok(json),

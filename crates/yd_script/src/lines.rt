@@ -7,6 +7,7 @@ use std::marker::Model;
 
 /// The lines of a script that are not empty, one after another. A line ends with a line feed, and
 /// the last may lack it.
+#[derive(Drop)]
 pub struct Lines<'a> {
     rest: &'a str,
     before: u64,
@@ -24,6 +25,7 @@ impl<'a> Model for Lines<'a> {
 }
 
 /// A line, and its number from 1. Empty lines count.
+#[derive(Drop)]
 pub struct NumberedLine<'a> {
     /// Its number.
     pub number: u64,

@@ -1,8 +1,9 @@
 //! A line, read.
 
-ghost use Rattle.std.specs.Prelude.{◌≡◌, ◌⊎◌, Err, map};
+ghost use Rattle.std.specs.Prelude.{◌≡◌, ◌⊎◌, Err, IfOk, map};
 ghost use Rattle.serde_json.specs.Errors.{IsMemory};
 ghost use Rattle.serde_json.specs.View.{view};
+ghost use Rattle.yd_script.specs.Line.{IsValidLine, line_of};
 ghost use Rattle.yd_script.specs.Reading.{Reads, call_in, line_in, line_in_data, line_in_list};
 ghost use Rattle.yd_script.specs.declared.fault.LineFault.TheVariants.{NoMemory, BadLine};
 
@@ -15,7 +16,8 @@ use std::alloc::Global;
 /// The line that a text is (own; the text is JSON as `serde_json` reads it). Where a growth finds no
 /// memory that is answered, and else `BadLine` just where the text is no line.
 pub fn read_line(alloc: Global, text: &str) -> Result<Line, LineFault>
-    ensures { (result ≡ Err NoMemory) ⊎ Reads (line_in text.now) result }
+    ensures line { (result ≡ Err NoMemory) ⊎ Reads (line_in text.now) result }
+    ensures valid { IfOk result (λ line. IsValidLine (line_of line)) }
 {
     match Value::from_str(alloc, text) {
         Ok(value) => line_of_value(alloc, &value),
@@ -36,7 +38,8 @@ fn text_fault(error: &serde_json::Error) -> LineFault
 }
 
 fn line_of_value(alloc: Global, value: &Value) -> Result<Line, LineFault>
-    ensures { Reads (line_in_data (view value.now)) result }
+    ensures line { Reads (line_in_data (view value.now)) result }
+    ensures valid { IfOk result (λ line. IsValidLine (line_of line)) }
 {
     match value {
         Value::Array(items) => line_of_list(alloc, items.as_slice()),
@@ -45,7 +48,8 @@ fn line_of_value(alloc: Global, value: &Value) -> Result<Line, LineFault>
 }
 
 fn line_of_list(alloc: Global, items: &[Value]) -> Result<Line, LineFault>
-    ensures { Reads (line_in_list (map view items.now)) result }
+    ensures line { Reads (line_in_list (map view items.now)) result }
+    ensures valid { IfOk result (λ line. IsValidLine (line_of line)) }
 {
     match items {
         [first, rest @ ..] => match first.as_str() {
@@ -57,7 +61,8 @@ fn line_of_list(alloc: Global, items: &[Value]) -> Result<Line, LineFault>
 }
 
 fn line_of_call(alloc: Global, word: &str, rest: &[Value]) -> Result<Line, LineFault>
-    ensures { Reads (call_in word.now (map view rest.now)) result }
+    ensures line { Reads (call_in word.now (map view rest.now)) result }
+    ensures valid { IfOk result (λ line. IsValidLine (line_of line)) }
 {
     if word == "insert" {
         return insert_of(alloc, rest);
