@@ -1,0 +1,82 @@
+-- What is made of pieces: their values, and their objects.
+use Rattle.std.proofs.Common.{◌≡◌, ◌<◌, ℕ, List, [], ◌∷◌, map, length, refl, sym, ap, ◌∙◌, subst, arith, rules}
+use Rattle.std.specs.Prelude.{codes}
+use Rattle.yd_any.specs.Tree.{AnyTree, AnyTrees, AnyFields, list, pairs, no_trees, tree, no_fields, field, with_last}
+use Rattle.yd_value.specs.View.{shown_tree, shown_trees, shown_fields, entries_fields}
+use Rattle.yd_value.specs.declared.shown.Shown.{Shown, List as Listed, Fields, the_lemmas}
+use Rattle.yd_value.specs.declared.shown.ShownList.{ShownList}
+use Rattle.yd_value.specs.declared.shown.ShownFields.{ShownFields}
+use Rattle.yd_shown.specs.Pieces.{Piece, with_attributes, inserts_of, values_of}
+use Rattle.yd_ops.specs.declared.lists.List.{List as DocList}
+use Rattle.yd_ops.specs.declared.lists.Parent.{Parent}
+use Rattle.yd_ops.specs.Operation.{Operation}
+use Rattle.yd_meaning.specs.Document.{Document}
+use Rattle.yd_shown.specs.Seen.{seen_units}
+use Rattle.yd_shown.specs.Shown.{own_list}
+use Rattle.yd_modes.specs.declared.way.Way.{Way}
+use Rattle.yd_modes.specs.declared.way.Way.TheVariants.{Delta, Values}
+use Rattle.yd_modes.specs.Modes.{shown_by}
+use Rattle.yd_modes.specs.Roles.{pieces_by}
+use Rattle.yd_modes.specs.Gathering.{Told, told, told_values, told_insert, told_inserts}
+use Rattle.yd_modes.proofs.RoleLemmas.{by_delta, by_list}
+
+-- ---- rows
+
+-- trees in front of others
+abbrev pub joined_trees : AnyTrees → AnyTrees → AnyTrees
+joined_trees no_trees us = us
+joined_trees (tree t ts) us = tree t (joined_trees ts us)
+
+pub joined_trees-last : (ts : AnyTrees) (t : AnyTree) (us : AnyTrees) → joined_trees (with_last ts t) us ≡ joined_trees ts (tree t us)
+joined_trees-last no_trees t us = refl
+joined_trees-last (tree v ts) t us = ap (tree v) (joined_trees-last ts t us)
+
+pub joined_trees-none : (ts : AnyTrees) → joined_trees ts no_trees ≡ ts
+joined_trees-none no_trees = refl
+joined_trees-none (tree t ts) = ap (tree t) (joined_trees-none ts)
+
+-- a list's tree has those of its values
+pub shown_tree-List : (values : ShownList) → shown_tree (Listed values) ≡ list (shown_trees values)
+shown_tree-List values = search (rules, the_lemmas)
+
+-- an object's tree has its fields
+pub shown_tree-Fields : (fields : ShownFields) → shown_tree (Fields fields) ≡ pairs (shown_fields fields)
+shown_tree-Fields fields = search (rules, the_lemmas)
+
+-- ---- pieces
+
+pub values_told : (ps : List Piece) → told_values (map told ps) ≡ values_of ps
+values_told [] = refl
+values_told (p ∷ ps) = ap (tree (told p).0) (values_told ps)
+
+pub inserts_told : (ps : List Piece) → told_inserts (map told ps) ≡ inserts_of ps
+inserts_told [] = refl
+inserts_told (p ∷ ps) = ap (tree (told_insert (told p))) (inserts_told ps)
+
+-- a piece has attributes or none
+pub with_none : (es : List (List ℕ × Shown)) (fs : AnyFields) (t : AnyTree) → entries_fields es ≡ fs → length es ≡ 0 → pairs (field (codes "insert") t no_fields) ≡ with_attributes fs t
+with_none [] fs t e none = ap (λ gs. with_attributes gs t) e
+with_none (x ∷ es) fs t e none = absurd (omega (arith, none))
+
+pub with_some : (es : List (List ℕ × Shown)) (fs : AnyFields) (t : AnyTree) → entries_fields es ≡ fs → 0 < length es →
+    pairs (field (codes "attributes") (pairs fs) (field (codes "insert") t no_fields)) ≡ with_attributes fs t
+with_some [] fs t e some = absurd (omega (arith, some))
+with_some (x ∷ es) fs t e some = subst (λ gs. pairs (field (codes "attributes") (pairs gs) (field (codes "insert") t no_fields)) ≡ with_attributes gs t) e refl
+
+-- ---- what a parent shows
+
+pub delta_of : (show : Operation → AnyTree) (d : Document) (p : Parent) (way : Way) (ts : List Told) (l : DocList) → way ≡ Delta → l ≡ own_list p →
+    ts ≡ map told (pieces_by way show no_fields (seen_units d l)) → list (told_inserts ts) ≡ shown_by way show d p
+delta_of show d p way ts l in_delta own e =
+    ap (λ us. list (told_inserts us)) (e ∙ (λ i. map told (pieces_by (in_delta i) show no_fields (seen_units d (own i)))))
+    ∙ ap list (inserts_told (pieces_by Delta show no_fields (seen_units d (own_list p))))
+    ∙ ap (λ ps. list (inserts_of ps)) (by_delta show no_fields (seen_units d (own_list p)))
+    ∙ sym (ap (λ w. shown_by w show d p) in_delta)
+
+pub list_of : (show : Operation → AnyTree) (d : Document) (p : Parent) (way : Way) (ts : List Told) (l : DocList) → way ≡ Values → l ≡ own_list p →
+    ts ≡ map told (pieces_by way show no_fields (seen_units d l)) → list (told_values ts) ≡ shown_by way show d p
+list_of show d p way ts l in_list own e =
+    ap (λ us. list (told_values us)) (e ∙ (λ i. map told (pieces_by (in_list i) show no_fields (seen_units d (own i)))))
+    ∙ ap list (values_told (pieces_by Values show no_fields (seen_units d (own_list p))))
+    ∙ ap (λ ps. list (values_of ps)) (by_list show (seen_units d (own_list p)))
+    ∙ sym (ap (λ w. shown_by w show d p) in_list)

@@ -1,0 +1,14 @@
+use Rattle.std.proofs.Common.{false, take, drop}
+use Rattle.yd_any.specs.Tree.{AnyTree}
+use Rattle.yd_ops.specs.Operation.{Operation, units_of_content}
+use Rattle.yd_ops.specs.View.{content_value}
+use Rattle.yd_state.specs.Lent.{lent_from}
+use Rattle.yd_modes.specs.declared.way.Way.{Way}
+use Rattle.yd_modes.specs.Roles.{ShowsPlain, ArePlainValues}
+use Rattle.yd_modes.specs.Gathering.{Gathers}
+use Rattle.yd_modes.proofs.taking.take_values.Given as goal
+
+-- so many values came
+abbrev pub invariant-loop-i : goal.invariant-loop-i
+invariant-loop-i l = (way : Way) (show : Operation → AnyTree) → ShowsPlain show → ArePlainValues way (units_of_content (content_value l.piece.content.now)) →
+    Gathers way show l.initial.gathering l.gathering (lent_from l.piece.id false (take l.i (drop l.piece.offset (units_of_content (content_value l.piece.content.now)))))

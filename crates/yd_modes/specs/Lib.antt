@@ -1,0 +1,4 @@
+pub mod Gathering
+pub mod Marks
+pub mod Modes
+pub mod Roles
