@@ -1,3 +1,4 @@
+pub mod ActionLemmas
 pub mod AnswerLemmas
 pub mod CarryingLemmas
 pub mod ExchangeLemmas
@@ -9,6 +10,7 @@ pub mod NewsLemmas
 pub mod OpenLemmas
 pub mod OrderLemmas
 pub mod PeerLemmas
+pub mod PlaceLemmas
 pub mod SameLemmas
 pub mod ServingLemmas
 pub mod SessionLemmas

@@ -7,7 +7,7 @@ use Rattle.yd_sync.proofs.PresenceLemmas.{other_number, same_number, tested}
 use Rattle.yd_sync.proofs.RowLemmas.{less_else}
 use Rattle.yd_hub.specs.Sessions.{AreSessions, is_open, with_session, without}
 
-less_trans : (k m n : ℕ) → nat_lt k m ≡ true → nat_lt m n ≡ true → nat_lt k n ≡ true
+pub less_trans : (k m n : ℕ) → nat_lt k m ≡ true → nat_lt m n ≡ true → nat_lt k n ≡ true
 less_trans k m n e f = grind (arith, tests)
 
 -- ---- in order, and few

@@ -46,11 +46,15 @@ closed_if_open hub session = if is_open hub.sessions session then after_closed h
 abbrev pub after_idle : HubState → ℕ → HubState
 after_idle hub now = record hub { table = without_states (is_old None now) hub.table }
 
+-- an update came
+abbrev pub after_update : HubState → UpdateValue → HubState
+after_update hub update = record hub { received = received_after hub.received update }
+
 -- a message came from an open session
 abbrev pub after_message : HubState → ℕ → ℕ → MessageValue → HubState
 after_message hub now session (step1 vector) = hub
-after_message hub now session (step2 update) = record hub { received = received_after hub.received update }
-after_message hub now session (change update) = record hub { received = received_after hub.received update }
+after_message hub now session (step2 update) = after_update hub update
+after_message hub now session (change update) = after_update hub update
 after_message hub now session (aware es) = record hub { table = after_entries None now session es hub.table }
 after_message hub now session (auth bytes) = hub
 after_message hub now session query = hub

@@ -6,6 +6,7 @@ pub mod ExchangeLaw
 pub mod Hub
 pub mod HubLaw
 pub mod LoopLaw
+pub mod Orders
 pub mod OwnAnswers
 pub mod Peer
 pub mod PeerLaw

@@ -4,7 +4,8 @@
 //! an event and what it orders (`specs/Hub.antt`), and the same of a peer (`specs/Peer.antt`); what
 //! becomes of sends that fail (`specs/Carrying.antt`); and the loops of both (`specs/Serving.antt`,
 //! `specs/Syncing.antt`). Each law is the contract of an empty function ([`law`]), and [`example`]
-//! has small runs that the checker computes.
+//! has small runs that the checker computes. Open sessions ([`Sessions`]) and what is to be done
+//! ([`ActionList`]) have their values; no call carries out an event yet.
 //!
 //! ```rust
 //! law::hub_receives();
@@ -13,6 +14,10 @@
 
 mod action;
 pub mod example;
+mod fault;
 pub mod law;
+mod sessions;
 
-pub use action::CloseCause;
+pub use action::{Action, ActionList, CloseCause};
+pub use fault::NoMemory;
+pub use sessions::Sessions;
