@@ -1,0 +1,9 @@
+pub mod ApartLemmas
+pub mod ContentLemmas
+pub mod DifferLemmas
+pub mod FirstLemmas
+pub mod PlaceLemmas
+pub mod SameJsonLemmas
+pub mod SameLemmas
+pub mod SweepLemmas
+pub mod UnitLemmas

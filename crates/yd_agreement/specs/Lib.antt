@@ -1,0 +1,5 @@
+pub mod Differing
+pub mod First
+pub mod Law
+pub mod Runs
+pub mod Units
