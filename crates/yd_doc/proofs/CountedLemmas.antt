@@ -19,7 +19,6 @@ use Rattle.yd_doc.specs.Counted.{counts, counted_ids, ids_from}
 
 -- ---- lemmas for callers: the units of a document
 
-
 pub counted_lent : (is_deleted : Id → Bool) (os : List Operation) →
     counted_ids (map (lent is_deleted) os) ≡ map (λ (o : Operation). o.id) (filter (λ (o : Operation). is_counted o.content) (filter (λ (o : Operation). not (is_deleted o.id)) os))
 counted_lent is_deleted [] = refl
