@@ -61,6 +61,7 @@ one_or_not kinds.V1 name = inl tt
 one_or_not kinds.V2 name = inl tt
 one_or_not kinds.Log name = inr (λ one. one)
 one_or_not kinds.Vector name = inr (λ one. one)
+one_or_not kinds.Script name = inr (λ one. one)
 
 wanted_or_not : (wanted : Wanted) (files : List File) → AreWanted wanted files ⊎ (¬ (AreWanted wanted files))
 wanted_or_not Several [] = inr (λ has. omega (arith, has))

@@ -16,6 +16,7 @@ form_of_kind kinds.V1 = V1
 form_of_kind kinds.V2 = V2
 form_of_kind kinds.Log = V1
 form_of_kind kinds.Vector = V1
+form_of_kind kinds.Script = V1
 
 -- the format of the update's file, which stands behind that of the state vector
 abbrev pub form_of : List Kind → Format
