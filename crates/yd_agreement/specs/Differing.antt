@@ -35,10 +35,11 @@ pub record Place : Type 0 where
   pub right : Option Id
   pub list : Option DocList
 
--- what is told of an operation: its content, or its place
+-- what an operation tells of its unit
 abbrev pub content_of : Operation → UnitContent
 content_of o = o.content
 
+-- where an operation was put
 abbrev pub place_of : Operation → Place
 place_of o = record { left = o.left_origin; right = o.right_origin; list = o.list }
 

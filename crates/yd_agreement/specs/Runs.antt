@@ -5,17 +5,19 @@ use Rattle.yd_words.specs.Member.{IsIn}
 use Rattle.yd_ids.specs.declared.id.Id.{Id}
 use Rattle.yd_ops.specs.Value.{BlockValue, ContentValue, RunValue, StructValue, UpdateValue, deleted, gone, item, len_of, skip}
 
--- the runs of structs, blocks and updates; what is gone is no run
+-- the runs of structs; what is gone is no run
 abbrev pub runs_of_structs : List StructValue → List RunValue
 runs_of_structs [] = []
 runs_of_structs (item run ∷ structs) = run ∷ runs_of_structs structs
 runs_of_structs (skip count ∷ structs) = runs_of_structs structs
 runs_of_structs (gone count ∷ structs) = runs_of_structs structs
 
+-- the runs of blocks
 abbrev pub runs_of_blocks : List BlockValue → List RunValue
 runs_of_blocks [] = []
 runs_of_blocks (block ∷ blocks) = runs_of_structs block.structs ++ runs_of_blocks blocks
 
+-- the runs of updates
 abbrev pub runs_of_updates : List UpdateValue → List RunValue
 runs_of_updates [] = []
 runs_of_updates (update ∷ updates) = runs_of_blocks update.blocks ++ runs_of_updates updates
