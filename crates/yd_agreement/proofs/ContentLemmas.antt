@@ -6,6 +6,7 @@ use Rattle.std.proofs.lemmas.List.{length-map}
 use Rattle.std.proofs.lemmas.Option.{unwrap_or-slice_get}
 use Rattle.yd_any.specs.AnyView.{any_tree, any_trees, items_trees}
 use Rattle.yd_any.specs.JsonView.{json_tree}
+use Rattle.yd_any.specs.Same.{same_tree}
 use Rattle.yd_any.specs.Tree.{AnyTree}
 use Rattle.yd_any.specs.declared.any_value.Any.{Any as AnyValue}
 use Rattle.yd_any.specs.declared.any_value.AnyList.{AnyList}
@@ -17,7 +18,7 @@ use Rattle.yd_ops.specs.declared.contents.Content.{Content}
 use Rattle.yd_ops.specs.declared.contents.Content.TheVariants.{Json, Binary, Str, Embed, Format, Nested, Any, Deleted}
 use Rattle.yd_ops.specs.declared.contents.JsonUnit.{JsonUnit}
 use Rattle.yd_ops.specs.declared.kinds.Kind.{Kind}
-use Rattle.yd_grouping.specs.Sameness.{same_content, same_tree, same_value}
+use Rattle.yd_grouping.specs.Sameness.{same_content, same_value}
 use Rattle.yd_agreement.specs.Units.{unit_of}
 use Rattle.yd_agreement.proofs.UnitLemmas.{any_at, json_at, kinds_apart, text_at}
 

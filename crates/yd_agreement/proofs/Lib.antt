@@ -3,7 +3,5 @@ pub mod ContentLemmas
 pub mod DifferLemmas
 pub mod FirstLemmas
 pub mod PlaceLemmas
-pub mod SameJsonLemmas
-pub mod SameLemmas
 pub mod SweepLemmas
 pub mod UnitLemmas

@@ -15,11 +15,7 @@
 
 mod differing;
 pub mod law;
-mod same_any;
-mod same_json;
 mod same_unit;
 
 pub use differing::{differ_in_content, differ_in_place};
-pub use same_any::is_same_any;
-pub use same_json::is_same_json;
 pub use same_unit::is_same_unit;

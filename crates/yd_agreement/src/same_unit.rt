@@ -10,9 +10,7 @@ ghost use Rattle.yd_ops.specs.View.{content_value, unit_value};
 ghost use Rattle.yd_ops.specs.declared.kinds.Kind.TheVariants.{Element, Hook};
 ghost use Rattle.yd_agreement.specs.Units.{unit_of};
 
-use crate::same_any::is_same_any;
-use crate::same_json::is_same_json;
-use yd_any::{Any, Blob, Json, Text};
+use yd_any::{Any, Blob, Json, Text, is_same_any, is_same_json};
 use yd_ops::{Content, JsonUnit, Kind};
 
 /// Unit `i` of one content holds the same as unit `j` of another one.

@@ -5,6 +5,9 @@ pub mod KeyLemmas
 pub mod CarriedLemmas
 pub mod JsonMapLemmas
 pub mod RowLemmas
+pub mod SameAnyLemmas
+pub mod SameJsonLemmas
+pub mod SameLemmas
 pub mod StayLemmas
 pub mod TextLemmas
 pub mod TextValidLemmas

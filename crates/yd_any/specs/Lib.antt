@@ -1,5 +1,6 @@
 pub mod Tree
 pub mod Rows
+pub mod Same
 pub mod AnyView
 pub mod JsonView
 pub mod Valid

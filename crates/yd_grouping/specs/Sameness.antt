@@ -1,40 +1,11 @@
--- When two values, two kinds and what two units hold are the same, as tests.
-use Rattle.std.specs.Bool.{beq}
-use Rattle.std.specs.Ordering.{int_eq}
+-- When two optional values, two kinds and what two units hold are the same, as tests.
 use Rattle.std.specs.Prelude.{Bool, true, false, ◌&&◌, Option, Some, None, nat_eq}
 use Rattle.std.specs.Str.{bytes_eq}
-use Rattle.yd_any.specs.Tree.{AnyFields, AnyTree, AnyTrees, big, blob, field, flag, list, no_fields, no_trees, null, pairs, raw4, raw8, str, tree, undefined, whole}
+use Rattle.yd_any.specs.Same.{same_tree}
+use Rattle.yd_any.specs.Tree.{AnyTree}
 use Rattle.yd_ops.specs.Operation.{UnitContent, any_unit, bytes, deleted_unit, embedded, gone_unit, json_unit, mark, nested_type, text_unit}
 use Rattle.yd_ops.specs.declared.kinds.Kind.{Kind}
 use Rattle.yd_ops.specs.declared.kinds.Kind.TheVariants.{Array, Map, Text, Element, Fragment, Hook, ElementText}
-
-abbrev mutual
-  -- whether two values are the same
-  pub same_tree : AnyTree → AnyTree → Bool
-  same_tree undefined undefined = true
-  same_tree null null = true
-  same_tree (flag a) (flag a2) = beq a a2
-  same_tree (whole a) (whole a2) = int_eq a a2
-  same_tree (raw4 a) (raw4 a2) = bytes_eq a a2
-  same_tree (raw8 a) (raw8 a2) = bytes_eq a a2
-  same_tree (big a) (big a2) = int_eq a a2
-  same_tree (str a) (str a2) = bytes_eq a a2
-  same_tree (list a) (list a2) = same_trees a a2
-  same_tree (pairs a) (pairs a2) = same_fields a a2
-  same_tree (blob a) (blob a2) = bytes_eq a a2
-  same_tree x y = false
-
-  -- whether two rows of values are
-  pub same_trees : AnyTrees → AnyTrees → Bool
-  same_trees no_trees no_trees = true
-  same_trees (tree a b) (tree a2 b2) = same_tree a a2 && same_trees b b2
-  same_trees x y = false
-
-  -- whether two rows of keys with values are
-  pub same_fields : AnyFields → AnyFields → Bool
-  same_fields no_fields no_fields = true
-  same_fields (field a b c) (field a2 b2 c2) = bytes_eq a a2 && same_tree b b2 && same_fields c c2
-  same_fields x y = false
 
 -- whether both are undefined, or the same value
 abbrev pub same_value : Option AnyTree → Option AnyTree → Bool

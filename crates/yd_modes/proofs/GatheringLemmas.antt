@@ -6,10 +6,10 @@ use Rattle.yd_ids.specs.declared.id.Id.{Id}
 use Rattle.yd_ops.specs.Operation.{UnitContent, text_unit, mark, Operation}
 use Rattle.yd_updates.specs.Pairs.{is_high, is_low}
 use Rattle.yd_state.specs.Lent.{Lent}
-use Rattle.yd_shown.specs.Same.{same_fields}
+use Rattle.yd_any.specs.Same.{same_fields}
 use Rattle.yd_shown.specs.Pieces.{Piece, text_piece, value_piece, unit_before, with_attribute}
 use Rattle.yd_shown.specs.Cut.{BeginsApart}
-use Rattle.yd_shown.proofs.SameLemmas.{fields_is, fields_itself}
+use Rattle.yd_any.proofs.SameLemmas.{fields_is, fields_itself}
 use Rattle.yd_modes.specs.declared.way.Way.{Way}
 use Rattle.yd_view.specs.declared.halves.Seen.{Seen}
 use Rattle.yd_view.specs.declared.halves.Halves.{Halves}

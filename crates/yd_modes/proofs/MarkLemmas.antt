@@ -11,7 +11,7 @@ use Rattle.yd_any.specs.Carried.{put}
 use Rattle.yd_any.specs.Keys.{is_same}
 use Rattle.yd_any.specs.JsonView.{json_tree}
 use Rattle.std.specs.Str.{bytes_eq}
-use Rattle.yd_shown.specs.Same.{same_tree, same_fields}
+use Rattle.yd_any.specs.Same.{same_tree, same_fields}
 use Rattle.yd_shown.specs.Pieces.{without_key}
 use Rattle.yd_shown.proofs.KeyLemmas.{one_text}
 use Rattle.yd_modes.specs.declared.marks.Mark.{Mark}

@@ -7,14 +7,14 @@ ghost use Rattle.yd_any.specs.Carried.{put};
 ghost use Rattle.yd_any.specs.JsonView.{json_tree};
 ghost use Rattle.yd_value.specs.View.{shown_fields};
 ghost use Rattle.yd_shown.specs.Pieces.{with_attribute, without_key};
-ghost use Rattle.yd_shown.specs.Same.{same_fields};
+ghost use Rattle.yd_any.specs.Same.{same_fields};
 ghost use Rattle.yd_modes.specs.Marks.{marks_fields, IsPlace};
 
 use crate::fault::NoMemory;
 use std::alloc::Global;
 use std::cmp::Ordering;
-use yd_any::{Json, Text};
-use yd_value::{Shown, ShownFields, is_same_json};
+use yd_any::{Json, Text, is_same_json};
+use yd_value::{Shown, ShownFields};
 
 /// An attribute in force, lent from the mark that set it.
 #[derive(Clone, Copy)]

@@ -2,10 +2,10 @@
 use Rattle.std.proofs.Common.{◌≡◌, ℕ, Bool, true, false, List, [], ◌∷◌, refl, sym, ap, ◌∙◌, arith}
 use Rattle.std.specs.Prelude.{if◌then◌else◌}
 use Rattle.yd_any.specs.Tree.{AnyFields}
-use Rattle.yd_shown.specs.Same.{same_fields}
+use Rattle.yd_any.specs.Same.{same_fields}
 use Rattle.yd_shown.specs.Pieces.{Piece, text_piece, value_piece, unit_before}
 use Rattle.yd_shown.specs.Cut.{BeginsApart, AreApart, each_unit, cut_pieces}
-use Rattle.yd_shown.proofs.SameLemmas.{fields_is, fields_itself}
+use Rattle.yd_any.proofs.SameLemmas.{fields_is, fields_itself}
 
 -- the first unit of a text in front of pieces
 abbrev text_joined : List ℕ → AnyFields → List Piece → List Piece

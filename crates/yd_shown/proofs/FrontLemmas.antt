@@ -4,11 +4,11 @@ use Rattle.std.proofs.lemmas.List.{append_assoc, append-nil}
 use Rattle.std.specs.Prelude.{if◌then◌else◌}
 use Rattle.yd_any.specs.Tree.{AnyTree, AnyFields, no_fields}
 use Rattle.yd_ops.specs.Operation.{UnitContent, text_unit, embedded, mark, nested_type, deleted_unit, gone_unit, Operation}
-use Rattle.yd_shown.specs.Same.{same_fields}
+use Rattle.yd_any.specs.Same.{same_fields}
 use Rattle.yd_shown.specs.Pieces.{Piece, text_piece, value_piece, attributes_after, delta_pieces, list_pieces}
 use Rattle.yd_shown.specs.Cut.{delta_unit, delta_units, list_unit, list_units, each_unit, cut_pieces, BeginsApart, AreApart}
 use Rattle.yd_shown.specs.Front.{unit_behind, value_behind, delta_behind, delta_from, list_behind, list_from}
-use Rattle.yd_shown.proofs.SameLemmas.{fields_is, fields_itself}
+use Rattle.yd_any.proofs.SameLemmas.{fields_is, fields_itself}
 use Rattle.yd_shown.proofs.PieceLemmas.{delta_is, list_is}
 use Rattle.yd_shown.proofs.AloneLemmas.{pieces_alone}
 

@@ -8,5 +8,4 @@ pub mod MapLemmas
 pub mod MarkLemmas
 pub mod PieceLemmas
 pub mod ReceivedLists
-pub mod SameLemmas
 pub mod SeenLemmas

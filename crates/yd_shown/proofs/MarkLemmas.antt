@@ -9,7 +9,7 @@ use Rattle.yd_any.specs.Tree.{AnyTree, AnyFields, undefined, null, flag, whole, 
 use Rattle.yd_any.specs.Carried.{put}
 use Rattle.yd_any.specs.Keys.{is_same, first_at}
 use Rattle.yd_ops.specs.Operation.{UnitContent, text_unit, embedded, mark, nested_type, Operation}
-use Rattle.yd_shown.specs.Same.{same_fields}
+use Rattle.yd_any.specs.Same.{same_fields}
 use Rattle.yd_shown.specs.Pieces.{Piece, text_piece, value_piece, without_key, with_attribute, attributes_after, unit_before, delta_before, delta_pieces}
 use Rattle.yd_shown.specs.Law.{FieldsAbove, FieldsAscend, is_null, AttributesAscend}
 use Rattle.yd_shown.proofs.KeyLemmas.{one_text, same_key_itself}

@@ -3,11 +3,11 @@ use Rattle.std.proofs.Common.{◌≡◌, ◌≢◌, ℕ, Bool, true, false, List
 use Rattle.std.specs.Prelude.{if◌then◌else◌}
 use Rattle.yd_any.specs.Tree.{AnyTree, AnyFields, no_fields}
 use Rattle.yd_ops.specs.Operation.{UnitContent, text_unit, any_unit, json_unit, bytes, embedded, mark, nested_type, deleted_unit, gone_unit, Operation}
-use Rattle.yd_shown.specs.Same.{same_fields}
+use Rattle.yd_any.specs.Same.{same_fields}
 use Rattle.yd_shown.specs.Seen.{text_before, text_units}
 use Rattle.yd_shown.specs.Pieces.{Piece, text_piece, value_piece, unit_before, attributes_after, delta_before, delta_pieces, value_before, list_pieces, units_of_pieces}
 use Rattle.yd_shown.specs.Cut.{AreApart, each_unit, cut_pieces, delta_unit, delta_units, list_unit, list_units, ArePiecesOf}
-use Rattle.yd_shown.proofs.SameLemmas.{fields_is, fields_itself}
+use Rattle.yd_any.proofs.SameLemmas.{fields_is, fields_itself}
 
 -- ---- text
 

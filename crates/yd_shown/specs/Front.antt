@@ -2,7 +2,7 @@
 use Rattle.std.specs.Prelude.{◌≡◌, ℕ, List, [], ◌∷◌, ◌++◌, if◌then◌else◌}
 use Rattle.yd_any.specs.Tree.{AnyTree, AnyFields, no_fields}
 use Rattle.yd_ops.specs.Operation.{UnitContent, text_unit, any_unit, json_unit, bytes, embedded, nested_type, Operation}
-use Rattle.yd_shown.specs.Same.{same_fields}
+use Rattle.yd_any.specs.Same.{same_fields}
 use Rattle.yd_shown.specs.Pieces.{Piece, text_piece, value_piece, attributes_after, delta_pieces, list_pieces}
 
 -- a text unit behind pieces: it joins the text that stands last where the attributes are the same

@@ -21,7 +21,7 @@ use Rattle.yd_meaning.specs.Deleted.{is_in_delete_set}
 use Rattle.yd_meaning.specs.Document.{Document, IsDocumentOf}
 use Rattle.yd_meaning.specs.Text.{live_units, shown_text}
 use Rattle.yd_shown.specs.Seen.{seen_units, text_units}
-use Rattle.yd_shown.specs.Same.{same_tree, same_fields}
+use Rattle.yd_any.specs.Same.{same_tree, same_fields}
 use Rattle.yd_shown.specs.Pieces.{Piece, with_attribute, attributes_of_piece, delta_pieces, list_pieces}
 use Rattle.yd_shown.specs.Cut.{delta_units, list_units, cut_pieces, AreApart, ArePiecesOf}
 use Rattle.yd_shown.specs.Shown.{Mode, as_text, own_list, key_list, last_unit, unit_under, value_under, fields_under, map_fields, shown, printed_text}

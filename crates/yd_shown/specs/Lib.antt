@@ -3,6 +3,5 @@ pub mod Example
 pub mod Front
 pub mod Law
 pub mod Pieces
-pub mod Same
 pub mod Seen
 pub mod Shown

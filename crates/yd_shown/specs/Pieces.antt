@@ -5,7 +5,7 @@ use Rattle.yd_any.specs.Tree.{AnyTree, AnyTrees, AnyFields, null, str, pairs, no
 use Rattle.yd_any.specs.Carried.{put}
 use Rattle.yd_any.specs.Keys.{is_same}
 use Rattle.yd_ops.specs.Operation.{UnitContent, text_unit, any_unit, json_unit, bytes, embedded, mark, nested_type, Operation}
-use Rattle.yd_shown.specs.Same.{same_fields}
+use Rattle.yd_any.specs.Same.{same_fields}
 
 -- ---- attributes
 

@@ -1,3 +1,2 @@
 pub mod MakingLemmas
-pub mod SameLemmas
 pub mod ShownLists

@@ -15,11 +15,9 @@ mod fault;
 mod of_any;
 mod of_json;
 mod printing;
-mod same;
 mod shown;
 mod writing;
 
 pub use fault::NoMemory;
 pub use printing::print;
-pub use same::is_same_json;
 pub use shown::{Shown, ShownFields, ShownList};

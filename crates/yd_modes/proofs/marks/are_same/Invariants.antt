@@ -1,5 +1,5 @@
 use Rattle.std.proofs.Common.{◌≡◌, drop}
-use Rattle.yd_shown.specs.Same.{same_fields}
+use Rattle.yd_any.specs.Same.{same_fields}
 use Rattle.yd_modes.specs.Marks.{marks_fields}
 use Rattle.yd_modes.proofs.marks.are_same.Given as goal
 

@@ -1,4 +1,4 @@
-use Rattle.yd_shown.proofs.SameLemmas.{tree_decides, fields_decide}
+use Rattle.yd_any.proofs.SameLemmas.{tree_decides, fields_decide}
 use Rattle.yd_shown.proofs.law.same_is_one.Goals as goal
 
 pub returns : goal.returns

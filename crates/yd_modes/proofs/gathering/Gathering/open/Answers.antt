@@ -1,6 +1,6 @@
 use Rattle.std.proofs.Common.{sym, ap, ◌∙◌}
-use Rattle.yd_shown.specs.Same.{same_fields}
-use Rattle.yd_shown.proofs.SameLemmas.{fields_is}
+use Rattle.yd_any.specs.Same.{same_fields}
+use Rattle.yd_any.proofs.SameLemmas.{fields_is}
 use Rattle.yd_modes.specs.Marks.{marks_fields}
 use Rattle.yd_modes.proofs.GatheringLemmas.{opened}
 use Rattle.yd_modes.proofs.gathering.Gathering.open.Goals as goal

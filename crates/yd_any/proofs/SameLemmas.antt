@@ -8,20 +8,20 @@ use Rattle.std.proofs.Common.{◌≡◌, true, false, Bool, ◌&&◌, refl, sym,
 use Rattle.std.proofs.lemmas.Bool.Decides.{Decides-and, Decides-like, Decides-int_eq}
 use Rattle.std.proofs.lemmas.Slice.Eq.{bytes_eq-Decides}
 use Rattle.yd_any.specs.Tree.{AnyTree, AnyTrees, AnyFields, undefined, null, flag, whole, raw4, raw8, big, str, list, pairs, blob, no_trees, tree, no_fields, field}
-use Rattle.yd_shown.specs.Same.{same_tree, same_trees, same_fields}
+use Rattle.yd_any.specs.Same.{same_tree, same_trees, same_fields}
 
-never_true : {P : Type 0} → false ≡ true → P
+pub never_true : {P : Type 0} → false ≡ true → P
 never_true e = absurd (true≢false (sym e))
 
 -- what is made of a part is the same where the part is
-one_part : {X Y : Type 0} (f : X → Y) {a b : X} → (f a ≡ f b → a ≡ b) → (s : Bool) → Decides s (a ≡ b) → Decides s (f a ≡ f b)
+pub one_part : {X Y : Type 0} (f : X → Y) {a b : X} → (f a ≡ f b → a ≡ b) → (s : Bool) → Decides s (a ≡ b) → Decides s (f a ≡ f b)
 one_part f {a = a} {b} back s d = ((λ e. ap f (d.0 e)), (λ e. d.1 (back e)))
 
-two_parts : {X Y Z : Type 0} (f : X → Y → Z) {a b : X} {c d : Y} → (f a c ≡ f b d → a ≡ b) → (f a c ≡ f b d → c ≡ d) → (s t : Bool) → Decides s (a ≡ b) →
+pub two_parts : {X Y Z : Type 0} (f : X → Y → Z) {a b : X} {c d : Y} → (f a c ≡ f b d → a ≡ b) → (f a c ≡ f b d → c ≡ d) → (s t : Bool) → Decides s (a ≡ b) →
     Decides t (c ≡ d) → Decides (s && t) (f a c ≡ f b d)
 two_parts f {a = a} {b} {c} {d} first second s t p q = Decides-like (s && t) (λ e. ap₂ f e.0 e.1) (λ e. (first e, second e)) (Decides-and s t p q)
 
-three_parts : {X Y Z W : Type 0} (f : X → Y → Z → W) {a b : X} {c d : Y} {g h : Z} → (f a c g ≡ f b d h → a ≡ b) → (f a c g ≡ f b d h → c ≡ d) → (f a c g ≡ f b d h → g ≡ h) →
+pub three_parts : {X Y Z W : Type 0} (f : X → Y → Z → W) {a b : X} {c d : Y} {g h : Z} → (f a c g ≡ f b d h → a ≡ b) → (f a c g ≡ f b d h → c ≡ d) → (f a c g ≡ f b d h → g ≡ h) →
     (s t u : Bool) → Decides s (a ≡ b) → Decides t (c ≡ d) → Decides u (g ≡ h) → Decides (s && t && u) (f a c g ≡ f b d h)
 three_parts f {a = a} {b} {c} {d} {g} {h} first second third s t u p q r =
     Decides-like (s && t && u) (λ e. λ i. f (e.0.0 i) (e.0.1 i) (e.1 i)) (λ e. ((first e, second e), third e)) (Decides-and (s && t) u (Decides-and s t p q) r)

@@ -4,9 +4,10 @@ ghost use Rattle.std.specs.Prelude.{◌≡◌};
 ghost use Rattle.std.specs.Str.{bytes_eq};
 ghost use Rattle.yd_any.specs.JsonView.{json_tree, json_trees, json_fields, items_trees, entries_fields};
 ghost use Rattle.yd_any.specs.Tree.{flag, list, null, pairs, str, whole};
-ghost use Rattle.yd_grouping.specs.Sameness.{same_tree, same_trees, same_fields};
+ghost use Rattle.yd_any.specs.Same.{same_tree, same_trees, same_fields};
 
-use yd_any::{Json, JsonFields, JsonList, Text};
+use crate::json_value::{Json, JsonFields, JsonList};
+use crate::text::Text;
 
 /// The two values are the same, in time of the smaller one. It takes no memory.
 pub fn is_same_json(a: &Json, b: &Json) -> bool

@@ -4,9 +4,11 @@ ghost use Rattle.std.specs.Prelude.{◌≡◌};
 ghost use Rattle.std.specs.Str.{bytes_eq};
 ghost use Rattle.yd_any.specs.AnyView.{any_tree, any_trees, any_fields, items_trees, entries_fields};
 ghost use Rattle.yd_any.specs.Tree.{big, blob, flag, list, null, pairs, raw4, raw8, str, undefined, whole};
-ghost use Rattle.yd_grouping.specs.Sameness.{same_tree, same_trees, same_fields};
+ghost use Rattle.yd_any.specs.Same.{same_tree, same_trees, same_fields};
 
-use yd_any::{Any, AnyList, AnyPairs, Blob, Text};
+use crate::any_value::{Any, AnyList, AnyPairs};
+use crate::blob::Blob;
+use crate::text::Text;
 
 /// The two values are the same, in time of the smaller one. It takes no memory.
 pub fn is_same_any(a: &Any, b: &Any) -> bool

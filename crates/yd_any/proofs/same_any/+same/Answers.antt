@@ -1,8 +1,8 @@
 use Rattle.std.proofs.Common.{◌*◌, ◌<◌, sym, ◌∙◌, arith}
 use Rattle.yd_any.specs.AnyView.{any_tree}
 use Rattle.yd_any.specs.Tree.{depth}
-use Rattle.yd_agreement.proofs.SameLemmas.{entry_less, fields_end, fields_short, item_less, trees_end, trees_short}
-use Rattle.yd_agreement.proofs.same_any.+same.Goals as goal
+use Rattle.yd_any.proofs.SameAnyLemmas.{entry_less, fields_end, fields_short, item_less, trees_end, trees_short}
+use Rattle.yd_any.proofs.same_any.+same.Goals as goal
 
 pub are_same-is_same-requires : goal.are_same-is_same-requires
 are_same-is_same-requires t c = let less = item_less c.args.items.now c.loop-i.i c.index-items-i.result c.loop-i-test.true c.index-items-i.is in omega (arith, less, c.decreases)

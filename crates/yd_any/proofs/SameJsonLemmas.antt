@@ -7,7 +7,7 @@ use Rattle.yd_any.specs.JsonView.{json_tree, entries_fields, items_trees}
 use Rattle.yd_any.specs.Tree.{depth, depth_of_fields, depth_of_trees, no_fields, no_trees}
 use Rattle.yd_any.specs.declared.json_value.Json.{Json}
 use Rattle.yd_any.proofs.JsonLists.{entries_step, items_step}
-use Rattle.yd_grouping.specs.Sameness.{same_fields, same_tree, same_trees}
+use Rattle.yd_any.specs.Same.{same_fields, same_tree, same_trees}
 
 -- ---- how deep the values are
 

@@ -7,7 +7,7 @@ use Rattle.yd_any.specs.AnyView.{any_tree, entries_fields, items_trees}
 use Rattle.yd_any.specs.Tree.{depth, depth_of_fields, depth_of_trees, no_fields, no_trees}
 use Rattle.yd_any.specs.declared.any_value.Any.{Any}
 use Rattle.yd_any.proofs.AnyLists.{entries_step, items_step}
-use Rattle.yd_grouping.specs.Sameness.{same_fields, same_tree, same_trees}
+use Rattle.yd_any.specs.Same.{same_fields, same_tree, same_trees}
 
 -- ---- how deep the values are
 

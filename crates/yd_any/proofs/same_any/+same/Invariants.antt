@@ -1,8 +1,8 @@
 use Rattle.std.proofs.Common.{◌≡◌, ◌+◌, ◌*◌, ◌≤◌, drop, length}
 use Rattle.yd_any.specs.AnyView.{any_tree, any_trees, any_fields, items_trees, entries_fields}
 use Rattle.yd_any.specs.Tree.{depth, depth_of_trees, depth_of_fields}
-use Rattle.yd_grouping.specs.Sameness.{same_trees, same_fields}
-use Rattle.yd_agreement.proofs.same_any.+same.Given as goal
+use Rattle.yd_any.specs.Same.{same_trees, same_fields}
+use Rattle.yd_any.proofs.same_any.+same.Given as goal
 
 abbrev pub decreases-is_same : goal.decreases-is_same
 decreases-is_same l = 3 * depth (any_tree l.a.now)
