@@ -7,12 +7,12 @@ use std::alloc::Global;
 const MOST_TIMES: u64 = 1 << 29;
 
 /// A number in decimal digits.
-pub fn number_of(text: &str) -> Result<u64, Slip> {
+pub(crate) fn number_of(text: &str) -> Result<u64, Slip> {
     text.parse::<u64>().map_err(|_| Slip::BadNumber)
 }
 
 /// Bytes, as `read_bytes` reads them.
-pub fn bytes_of(alloc: Global, text: &str) -> Result<Vec<u8>, Slip> {
+pub(crate) fn bytes_of(alloc: Global, text: &str) -> Result<Vec<u8>, Slip> {
     let mut bytes = Vec::new(alloc);
     read_bytes(alloc, &mut bytes, text)?;
     Ok(bytes)
@@ -20,7 +20,7 @@ pub fn bytes_of(alloc: Global, text: &str) -> Result<Vec<u8>, Slip> {
 
 /// Adds bytes in groups of two hexadecimal digits or more, parted by spaces. `GROUP*N` is a group N
 /// times.
-pub fn read_bytes(alloc: Global, bytes: &mut Vec<u8>, text: &str) -> Result<(), Slip> {
+pub(crate) fn read_bytes(alloc: Global, bytes: &mut Vec<u8>, text: &str) -> Result<(), Slip> {
     for group in text.split_whitespace() {
         match group.split_once('*') {
             None => add_group(alloc, bytes, group, 1)?,

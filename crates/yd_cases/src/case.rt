@@ -52,7 +52,7 @@ pub struct Case<'a> {
 
 impl<'a> Case<'a> {
     /// A case of this name that begins at a line.
-    pub fn new(alloc: Global, line: u64, name: &'a str) -> Case<'a> {
+    pub(crate) fn new(alloc: Global, line: u64, name: &'a str) -> Case<'a> {
         Case {
             line,
             name,
@@ -72,7 +72,7 @@ impl<'a> Case<'a> {
 
     /// Takes a line of the case in, by its first word and what stands behind it. Its library has
     /// the shared files too.
-    pub fn take(
+    pub(crate) fn take(
         &mut self,
         alloc: Global,
         shared: &[Stored<'a>],

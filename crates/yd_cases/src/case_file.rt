@@ -17,7 +17,7 @@ pub struct CaseFile<'a> {
 
 impl<'a> CaseFile<'a> {
     /// Reads a file of cases, to its end or to the first line with a slip.
-    pub fn read(alloc: Global, text: &'a str) -> Result<CaseFile<'a>, Fault> {
+    pub(crate) fn read(alloc: Global, text: &'a str) -> Result<CaseFile<'a>, Fault> {
         let mut file = CaseFile {
             alloc,
             files: Vec::new(alloc),

@@ -15,7 +15,7 @@ pub struct Failing {
 
 impl Failing {
     /// Nothing fails.
-    pub fn new(alloc: Global) -> Failing {
+    pub(crate) fn new(alloc: Global) -> Failing {
         Failing {
             calls: Vec::new(alloc),
             limit: None,
@@ -23,7 +23,7 @@ impl Failing {
     }
 
     /// Takes `at N` in: call N fails.
-    pub fn take_call(&mut self, text: &str) -> Result<(), Slip> {
+    pub(crate) fn take_call(&mut self, text: &str) -> Result<(), Slip> {
         match text.split_once(' ') {
             Some(("at", count)) => self.calls.push(number_of(count)?)?,
             _ => return Err(Slip::UnknownWord),
@@ -32,7 +32,7 @@ impl Failing {
     }
 
     /// Takes `at N` in, or `after N`: N bytes are taken, and then all writes fail.
-    pub fn take(&mut self, text: &str) -> Result<(), Slip> {
+    pub(crate) fn take(&mut self, text: &str) -> Result<(), Slip> {
         match text.split_once(' ') {
             Some(("after", count)) => {
                 self.limit = Some(number_of(count)?);

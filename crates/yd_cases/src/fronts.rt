@@ -25,7 +25,7 @@ pub struct Fronts<'a> {
 impl<'a> Fronts<'a> {
     /// Reads places: each is a number of bytes, which is what is told, or `N=TOLD`. They are parted
     /// by one space, begin at 0, ascend, and are below the file's length.
-    pub fn read(
+    pub(crate) fn read(
         alloc: Global,
         name: &'a str,
         text: &'a str,
@@ -50,7 +50,7 @@ impl<'a> Fronts<'a> {
     }
 
     /// What is told of the front of this length: the last place that is not past it.
-    pub fn told_at(&self, len: usize) -> &'a str {
+    pub(crate) fn told_at(&self, len: usize) -> &'a str {
         let mut told = "";
         for place in &self.places {
             if place.from <= len {

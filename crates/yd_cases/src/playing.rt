@@ -11,7 +11,7 @@ use yd_app::{Word, run};
 use yd_world::{MemoryLibrary, MemorySink, ScriptBoard};
 
 /// Plays each run of a case in each of its orders, and reports what is not as it is wanted.
-pub fn play_case(
+pub(crate) fn play_case(
     alloc: Global,
     shared: &[Stored<'_>],
     case: &Case<'_>,

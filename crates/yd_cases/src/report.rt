@@ -32,7 +32,7 @@ pub struct Wanted<'a> {
 
 impl Report {
     /// Nothing was played yet.
-    pub fn new(alloc: Global) -> Report {
+    pub(crate) fn new(alloc: Global) -> Report {
         Report {
             alloc,
             lines: Vec::new(alloc),
@@ -43,12 +43,12 @@ impl Report {
     }
 
     /// How many mismatches there are.
-    pub fn mismatches(&self) -> usize {
+    pub(crate) fn mismatches(&self) -> usize {
         self.lines.len()
     }
 
     /// One more case was played.
-    pub fn end_case(&mut self, passed: bool) {
+    pub(crate) fn end_case(&mut self, passed: bool) {
         self.cases = self.cases.saturating_add(1);
         if passed {
             self.passed = self.passed.saturating_add(1);
@@ -56,7 +56,7 @@ impl Report {
     }
 
     /// One more run ended, with this status.
-    pub fn expect_status(&mut self, wanted: Wanted<'_>, got: u8) -> Result<(), Slip> {
+    pub(crate) fn expect_status(&mut self, wanted: Wanted<'_>, got: u8) -> Result<(), Slip> {
         self.runs = self.runs.saturating_add(1);
         if wanted.case.status == Some(got) {
             return Ok(());
@@ -67,7 +67,7 @@ impl Report {
     }
 
     /// Wants these bytes on a stream.
-    pub fn expect_bytes(
+    pub(crate) fn expect_bytes(
         &mut self,
         wanted: Wanted<'_>,
         stream: &str,

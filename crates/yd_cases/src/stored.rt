@@ -14,13 +14,13 @@ pub struct Stored<'a> {
 }
 
 /// The bytes of the file of this name, if there is one.
-pub fn file_named<'b>(files: &'b [Stored<'_>], name: &str) -> Option<&'b [u8]> {
+pub(crate) fn file_named<'b>(files: &'b [Stored<'_>], name: &str) -> Option<&'b [u8]> {
     let file = files.iter().find(|file| file.name == name)?;
     Some(file.bytes.as_slice())
 }
 
 /// The bytes of a case's own file of this name, or else of the shared one.
-pub fn file_of<'b>(
+pub(crate) fn file_of<'b>(
     own: &'b [Stored<'_>],
     shared: &'b [Stored<'_>],
     name: &str,
@@ -31,7 +31,11 @@ pub fn file_of<'b>(
 }
 
 /// Adds a file: a name that no other has, a space, and bytes. A slip adds none.
-pub fn add_file<'a>(alloc: Global, files: &mut Vec<Stored<'a>>, text: &'a str) -> Result<(), Slip> {
+pub(crate) fn add_file<'a>(
+    alloc: Global,
+    files: &mut Vec<Stored<'a>>,
+    text: &'a str,
+) -> Result<(), Slip> {
     let (name, digits) = text.split_once(' ').unwrap_or((text, ""));
     if name.is_empty() || file_named(files.as_slice(), name).is_some() {
         return Err(Slip::BadName);

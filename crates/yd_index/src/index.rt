@@ -88,7 +88,8 @@ impl Index {
     /// Cuts the run that has the unit with this id, which is not its first: the units from there on
     /// are a run of their own, at this place.
     pub fn cut(&mut self, id: Id, place: usize) -> Result<(), AllocError>
-        requires { IsInside (entries_of self.old id.client.0) (next_of self.old id.client.0) id.clock }
+        requires { IsInside (entries_of self.old id.client.0) (next_of self.old id.client.0)
+            id.clock }
         ensures done { OnOk result (Cuts self.old self.new id place) }
         ensures unchanged { OnErr result (Stays self.old self.new id.client.0) }
         ensures other_rooms { (k : ℕ) → k ≢ id.client.0 → room_of self.old k ≤ room_of self.new k }
@@ -103,7 +104,8 @@ impl Index {
     /// Undoes a cut: the run that begins with this id, which is not its client's first, is one with
     /// the run before it again. It takes no memory, and no room is lost.
     pub fn uncut(&mut self, id: Id)
-        requires { Begins (entries_of self.old id.client.0) (next_of self.old id.client.0) id.clock }
+        requires { Begins (entries_of self.old id.client.0) (next_of self.old id.client.0)
+            id.clock }
         ensures done { Uncuts self.old self.new id }
         ensures rooms { (k : ℕ) → room_of self.old k ≤ room_of self.new k }
     {

@@ -30,7 +30,8 @@ fn lines_below(lines: &[Line], client: Client) -> usize
 fn is_at(lines: &[Line], at: usize, client: Client) -> bool
     ensures inside { result ≡ true → at < length lines.now }
     ensures found { result ≡ true → HoldsAt (IsLineOf client.0) lines.now at }
-    ensures other { result ≡ false → at < length lines.now → HoldsAt (IsOther client.0) lines.now at }
+    ensures other { result ≡ false → at < length lines.now
+        → HoldsAt (IsOther client.0) lines.now at }
 {
     if at >= lines.len() {
         return false;

@@ -31,7 +31,8 @@ impl<'a> Basis<'a> {
     pub fn refusal(&self, steps: &StepList) -> Option<EditFault>
         requires client { IsClient self.now.client }
         requires proper { Each IsProper (steps_value steps.now) }
-        ensures { result ≡ fault_given (refusal_of (basis_of_given self.now) (steps_value steps.now)) }
+        ensures { result
+            ≡ fault_given (refusal_of (basis_of_given self.now) (steps_value steps.now)) }
     {
         let steps = steps.as_slice();
         if let Some(fault) = self.place_fault(steps) {
@@ -64,7 +65,8 @@ impl<'a> Basis<'a> {
 
     /// The place of a step, where it is none.
     fn step_place(&self, step: &Step) -> Option<EditFault>
-        ensures { result ≡ fault_given (place_refusal (basis_of_given self.now) (step_value step.now)) }
+        ensures { result
+            ≡ fault_given (place_refusal (basis_of_given self.now) (step_value step.now)) }
     {
         match step {
             Step::Make { list, after, .. } => match self.parent_fault(&list.parent) {
@@ -172,7 +174,8 @@ impl<'a> Basis<'a> {
     /// The place of a step, where it parts a pair.
     fn step_pair(&self, step: &Step) -> Option<EditFault>
         requires { IsProper (step_value step.now) }
-        ensures { result ≡ fault_given (pair_refusal (basis_of_given self.now) (step_value step.now)) }
+        ensures { result
+            ≡ fault_given (pair_refusal (basis_of_given self.now) (step_value step.now)) }
     {
         match step {
             Step::Make { list, after, .. } => self.half_fault(list, *after),

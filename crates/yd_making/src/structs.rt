@@ -64,7 +64,8 @@ fn taken_out(rights: &mut Vec<Option<Id>>) -> Option<Id>
 /// Appends the item of a step that makes something.
 fn put(structs: &mut StructList, id: Id, step: Step, right: Option<Id>) -> Result<(), NoMemory>
     ensures { OnOk result (map struct_value structs.new
-        ≡ map struct_value structs.old ++ map item (runs_with id.client id.clock (right ∷ []) (step_value step ∷ []))) }
+        ≡ map struct_value structs.old
+        ++ map item (runs_with id.client id.clock (right ∷ []) (step_value step ∷ []))) }
 {
     match step {
         Step::Make {
