@@ -1,7 +1,16 @@
+pub mod AgreeingLemmas
 pub mod ApartLemmas
+pub mod BorderLemmas
+pub mod ComparingLemmas
 pub mod ContentLemmas
+pub mod CoverLemmas
 pub mod DifferLemmas
 pub mod FirstLemmas
+pub mod LessLemmas
+pub mod OrderLemmas
+pub mod PairingLemmas
+pub mod PartingLemmas
 pub mod PlaceLemmas
+pub mod SpelledLemmas
 pub mod SweepLemmas
 pub mod UnitLemmas

@@ -26,7 +26,7 @@ list_behind zero = refl
 list_behind (suc n) = refl
 
 -- the place of unit n
-abbrev placed : Id → Option Id → Option Id → Option DocList → ℕ → Place
+abbrev pub placed : Id → Option Id → Option Id → Option DocList → ℕ → Place
 placed id left right list n = record { left = left_at id left n; right = right; list = list_from list n }
 
 placed_from : (id : Id) (left right : Option Id) (list : Option DocList) (units : List UnitContent) (o : Operation) → IsIn o (operations_from id left right list units) →
@@ -41,13 +41,13 @@ placed_from id left right list (unit ∷ units) o (inr j) =
       p ∙ (λ k. record { left = left_behind id i k; right = right; list = list_behind i k }),
     )
 
-record IsPlaced (r : RunValue) (o : Operation) : Type 0 where
-  place : ℕ
-  inside : place < len_of r.content
-  id : o.id ≡ later_id r.id place
-  is : place_of o ≡ placed r.id r.left r.right r.list place
+pub record IsPlaced (r : RunValue) (o : Operation) : Type 0 where
+  pub place : ℕ
+  pub inside : place < len_of r.content
+  pub id : o.id ≡ later_id r.id place
+  pub is : place_of o ≡ placed r.id r.left r.right r.list place
 
-placed_in : (r : RunValue) (o : Operation) → IsIn o (operations_of_run r) → IsPlaced r o
+pub placed_in : (r : RunValue) (o : Operation) → IsIn o (operations_of_run r) → IsPlaced r o
 placed_in r o i = let (k, lt, e, p) = placed_from r.id r.left r.right r.list (units_of_content r.content) o i in
     record { place = k; inside = omega (arith, lt, length-units_of_content r.content); id = e; is = p }
 

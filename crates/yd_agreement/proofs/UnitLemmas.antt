@@ -38,7 +38,7 @@ one_kind : (unit : UnitContent) (j : ℕ) → j < 1 → kind_of_unit (get_or (un
 one_kind unit zero lt = refl
 one_kind unit (suc j) lt = absurd (omega (arith, lt))
 
-kind_at : (content : ContentValue) (j : ℕ) → j < len_of content → kind_of_unit (unit_of content j) ≡ kind_of_content content
+pub kind_at : (content : ContentValue) (j : ℕ) → j < len_of content → kind_of_unit (unit_of content j) ≡ kind_of_content content
 kind_at (json values) j lt = json_kind values j lt
 kind_at (binary blob) j lt = one_kind (bytes blob) j lt
 kind_at (string units) j lt = text_kind units j lt

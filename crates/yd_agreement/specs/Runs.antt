@@ -1,8 +1,11 @@
 -- The runs that updates spell (own).
-use Rattle.std.specs.Prelude.{◌≡◌, ◌+◌, ◌≤◌, ◌<◌, ◌⊎◌, Bool, true, false, List, [], ◌∷◌, ◌++◌}
+use Rattle.std.specs.Borrow.{Bor}
+use Rattle.std.specs.Prelude.{◌≡◌, ◌↔◌, ◌+◌, ◌≤◌, ◌<◌, ◌⊎◌, Bool, true, false, List, [], ◌∷◌, ◌++◌, map, filter}
 use Rattle.yd_words.specs.Each.{Each}
 use Rattle.yd_words.specs.Member.{IsIn}
 use Rattle.yd_ids.specs.declared.id.Id.{Id}
+use Rattle.yd_ops.specs.View.{run_value}
+use Rattle.yd_ops.specs.declared.runs.Run.{Run}
 use Rattle.yd_ops.specs.Value.{BlockValue, ContentValue, RunValue, StructValue, UpdateValue, deleted, gone, item, len_of, skip}
 
 -- the runs of structs; what is gone is no run
@@ -22,10 +25,22 @@ abbrev pub runs_of_updates : List UpdateValue → List RunValue
 runs_of_updates [] = []
 runs_of_updates (update ∷ updates) = runs_of_blocks update.blocks ++ runs_of_updates updates
 
+-- the runs that are lent
+abbrev pub lent_runs : List (Bor Run) → List RunValue
+lent_runs runs = map (λ run. run_value run.now) runs
+
+-- two lists have the same runs, in any order and however often
+abbrev pub HaveSameRuns : List RunValue → List RunValue → Type 0
+HaveSameRuns rs ss = (r : RunValue) → IsIn r rs ↔ IsIn r ss
+
 -- whether a content is told in full
 abbrev pub is_full : ContentValue → Bool
 is_full (deleted count) = false
 is_full content = true
+
+-- those of runs that are told in full
+abbrev pub full_runs : List RunValue → List RunValue
+full_runs runs = filter (λ (run : RunValue). is_full run.content) runs
 
 -- an id comes in the order of ids before another one, or is it
 abbrev pub ComesBy : Id → Id → Type 0

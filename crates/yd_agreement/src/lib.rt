@@ -1,21 +1,28 @@
-//! Where two runs differ in what they spell, as a step to where updates disagree.
+//! Where updates disagree: the smallest id on which two of them differ.
 //!
-//! Updates may differ on an id in content, where both are full, or in place, where neither is gone.
-//! [`differ_in_content`] and [`differ_in_place`] tell the first id on which a run and one that begins
-//! no sooner do; units are compared by [`is_same_unit`]. None of this takes memory. Of runs in the order
-//! of their first ids, each next one has to be compared with one other alone, the one that ends last
-//! ([`law`]). What is not here yet: the runs of updates in that order, the walk over them, and the rule
-//! that pairs are collected whole.
+//! Updates may differ on an id in content, where both are full, or in place, where neither is gone. And
+//! one of them may spell just one half of a pair deleted or gone that another one spells in full. [`disagree`]
+//! tells the smallest id of all these, and none where updates agree. It works by runs: it sorts them by
+//! their first ids, and compares each next one with one other alone, the one that ends last ([`law`]).
+//! [`differ_in_content`] and [`differ_in_place`] compare two runs, [`is_same_unit`] two units; these
+//! take no memory.
 //!
 //! ```rust
-//! let content = differ_in_content(&run, &next);
-//! let place = differ_in_place(&run, &next);
+//! let found = disagree(alloc, &[first, second])?;
 //! ```
 #![tactic(auto)]
 
 mod differing;
+mod disagreeing;
+mod fault;
 pub mod law;
+mod less;
+mod parting;
 mod same_unit;
+mod spelled;
+mod sweep;
 
 pub use differing::{differ_in_content, differ_in_place};
+pub use disagreeing::disagree;
+pub use fault::NoMemory;
 pub use same_unit::is_same_unit;
