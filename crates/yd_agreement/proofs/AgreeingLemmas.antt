@@ -1,186 +1,26 @@
 -- What breaks agreement, by the runs that updates spell.
-use Rattle.std.proofs.Common.{◌≡◌, ◌↔◌, ℕ, ◌+◌, ◌<◌, ◌≤◌, true, List, [], ◌∷◌, ◌++◌, ◌⊎◌, inl, inr, Option, refl, sym, ap, ◌∙◌, subst, arith, true≢false}
+use Rattle.std.proofs.Common.{◌≡◌, ◌↔◌, ◌<◌, true, List, ◌⊎◌, inl, inr, Option, refl, sym, ap, ◌∙◌, subst, arith}
 use Rattle.yd_words.specs.Each.{Each}
 use Rattle.yd_words.specs.Member.{IsIn}
 use Rattle.yd_words.proofs.FilterLemmas.{kept_one, one_kept}
-use Rattle.yd_words.proofs.MemberLemmas.{in_each, in_left_part, in_parts, in_right_part}
-use Rattle.yd_ids.specs.declared.id.Client.{Client}
+use Rattle.yd_words.proofs.MemberLemmas.{in_each}
 use Rattle.yd_ids.specs.declared.id.Id.{Id}
-use Rattle.yd_ops.specs.Operation.{ArePartners, IsHighUnit, Operation, UnitContent, any_unit, bytes, deleted_unit, embedded, gone_from, gone_unit, json_unit, later_id, level_of, mark, nested_type, operations_of, operations_of_blocks, operations_of_run, operations_of_structs, text_unit}
+use Rattle.yd_ops.specs.Operation.{ArePartners, IsHighUnit, Operation, UnitContent, any_unit, bytes, deleted_unit, embedded, gone_unit, json_unit, later_id, level_of, mark, nested_type, operations_of, operations_of_run, text_unit}
 use Rattle.yd_ops.specs.Valid.{IsValidContent, IsValidUpdate}
-use Rattle.yd_ops.specs.Value.{BlockValue, ContentValue, RunValue, StructValue, UpdateValue, any, binary, deleted, embed, format, gone, item, json, len_of, nested, skip, string}
+use Rattle.yd_ops.specs.Value.{RunValue, UpdateValue}
 use Rattle.yd_updates.specs.Agreement.{operations_of_all}
 use Rattle.yd_updates.specs.Deletes.{SpellLess}
 use Rattle.yd_updates.proofs.PartnerLemmas.{partners_decide}
 use Rattle.yd_grouping.specs.Disagreement.{BreaksAgreement, IsHalfCollected, IsUnlike, disagreement_of}
-use Rattle.yd_received.proofs.UnitLemmas.{from_gone}
 use Rattle.yd_agreement.specs.Differing.{DifferAmong, HasRange, Place, content_of, place_of}
 use Rattle.yd_agreement.specs.First.{IsFirst, IsFirstBut, first_of}
 use Rattle.yd_agreement.specs.Parting.{AreWhole, HasPair, HavePair, IsParted}
-use Rattle.yd_agreement.specs.Runs.{HaveSameRuns, full_runs, is_full, runs_of_blocks, runs_of_structs, runs_of_updates}
-use Rattle.yd_agreement.specs.Units.{kind_of_content, kind_of_unit}
-use Rattle.yd_agreement.proofs.DifferLemmas.{unit_in}
+use Rattle.yd_agreement.specs.Runs.{HaveSameRuns, full_runs, is_full, runs_of_blocks, runs_of_updates}
 use Rattle.yd_agreement.proofs.FirstLemmas.{but_first, first_alike, first_breaking, first_either}
 use Rattle.yd_agreement.proofs.PartingLemmas.{pair_of_high}
 use Rattle.yd_agreement.proofs.SpelledLemmas.{IsSound, runs_sound}
-use Rattle.yd_agreement.proofs.UnitLemmas.{kind_at}
-
--- ---- how much an operation of a run says
-
-told_level : (unit : UnitContent) → kind_of_unit unit ≤ 7 → 0 < level_of unit
-told_level (text_unit unit) le = omega arith
-told_level (any_unit value) le = omega arith
-told_level (json_unit value) le = omega arith
-told_level (bytes blob) le = omega arith
-told_level (embedded value) le = omega arith
-told_level (mark key value) le = omega arith
-told_level (nested_type kind) le = omega arith
-told_level deleted_unit le = omega arith
-told_level gone_unit le = absurd (omega (arith, le))
-
-full_level : (unit : UnitContent) → kind_of_unit unit ≤ 6 → level_of unit ≡ 2
-full_level (text_unit unit) le = refl
-full_level (any_unit value) le = refl
-full_level (json_unit value) le = refl
-full_level (bytes blob) le = refl
-full_level (embedded value) le = refl
-full_level (mark key value) le = refl
-full_level (nested_type kind) le = refl
-full_level deleted_unit le = absurd (omega (arith, le))
-full_level gone_unit le = absurd (omega (arith, le))
-
-deleted_level : (unit : UnitContent) → kind_of_unit unit ≡ 7 → level_of unit ≡ 1
-deleted_level (text_unit unit) e = absurd (omega (arith, e))
-deleted_level (any_unit value) e = absurd (omega (arith, e))
-deleted_level (json_unit value) e = absurd (omega (arith, e))
-deleted_level (bytes blob) e = absurd (omega (arith, e))
-deleted_level (embedded value) e = absurd (omega (arith, e))
-deleted_level (mark key value) e = absurd (omega (arith, e))
-deleted_level (nested_type kind) e = absurd (omega (arith, e))
-deleted_level deleted_unit e = refl
-deleted_level gone_unit e = absurd (omega (arith, e))
-
-content_kind : (content : ContentValue) → kind_of_content content ≤ 7
-content_kind (json values) = omega arith
-content_kind (binary blob) = omega arith
-content_kind (string units) = omega arith
-content_kind (embed t) = omega arith
-content_kind (format key t) = omega arith
-content_kind (nested kind) = omega arith
-content_kind (any ts) = omega arith
-content_kind (deleted count) = omega arith
-
-full_kind : (content : ContentValue) → is_full content ≡ true → kind_of_content content ≤ 6
-full_kind (json values) e = omega arith
-full_kind (binary blob) e = omega arith
-full_kind (string units) e = omega arith
-full_kind (embed t) e = omega arith
-full_kind (format key t) e = omega arith
-full_kind (nested kind) e = omega arith
-full_kind (any ts) e = omega arith
-full_kind (deleted count) e = absurd (true≢false (sym e))
-
-other_full : (content : ContentValue) → (kind_of_content content ≡ 7 → ⊥) → is_full content ≡ true
-other_full (json values) other = refl
-other_full (binary blob) other = refl
-other_full (string units) other = refl
-other_full (embed t) other = refl
-other_full (format key t) other = refl
-other_full (nested kind) other = refl
-other_full (any ts) other = refl
-other_full (deleted count) other = absurd (other refl)
-
-module _ (run : RunValue) (o : Operation) (i : IsIn o (operations_of_run run)) where
-  kind_is : kind_of_unit o.content ≡ kind_of_content run.content
-  kind_is = ap kind_of_unit (unit_in run o i).content ∙ kind_at run.content (unit_in run o i).place (unit_in run o i).inside
-
-  run_told : 0 < level_of o.content
-  run_told = told_level o.content (omega (arith, kind_is, content_kind run.content))
-
-  run_full : is_full run.content ≡ true → level_of o.content ≡ 2
-  run_full e = full_level o.content (omega (arith, kind_is, full_kind run.content e))
-
-  full_run : level_of o.content ≡ 2 → is_full run.content ≡ true
-  full_run e = other_full run.content (λ seven. absurd (omega (arith, e, deleted_level o.content (kind_is ∙ seven))))
-
--- ---- operations of updates are operations of runs, where they are not gone
-
--- an operation is one of these runs'
-abbrev IsOfRun : List RunValue → Operation → Type 0
-IsOfRun runs o = (run : RunValue) × IsIn run runs × IsIn o (operations_of_run run)
-
-left_of : (rs ss : List RunValue) (o : Operation) → IsOfRun rs o → IsOfRun (rs ++ ss) o
-left_of rs ss o (run, i, j) = (run, in_left_part run rs ss i, j)
-
-right_of : (rs ss : List RunValue) (o : Operation) → IsOfRun ss o → IsOfRun (rs ++ ss) o
-right_of rs ss o (run, i, j) = (run, in_right_part run rs ss i, j)
-
-structs_run : (client : Client) (clock : ℕ) (structs : List StructValue) (o : Operation) → IsIn o (operations_of_structs client clock structs) → 0 < level_of o.content →
-    IsOfRun (runs_of_structs structs) o
-structs_run client clock [] o i some = absurd i
-structs_run client clock (item run ∷ structs) o i some = elim (in_parts o (operations_of_run run) (operations_of_structs client (clock + len_of run.content) structs) i) [
-  | inl j ↦ (run, inl refl, j)
-  | inr j ↦ let (r, k, l) = structs_run client (clock + len_of run.content) structs o j some in (r, inr k, l)
-]
-structs_run client clock (skip count ∷ structs) o i some = structs_run client (clock + count) structs o i some
-structs_run client clock (gone count ∷ structs) o i some =
-    elim (in_parts o (gone_from (record { client = client; clock = clock }) count) (operations_of_structs client (clock + count) structs) i) [
-      | inl j ↦ let (k, lt, e) = from_gone (record { client = client; clock = clock }) count o j in absurd (omega (arith, some, ap (λ (p : Operation). level_of p.content) e))
-      | inr j ↦ structs_run client (clock + count) structs o j some
-    ]
-
-run_structs : (client : Client) (clock : ℕ) (structs : List StructValue) (o : Operation) → IsOfRun (runs_of_structs structs) o → IsIn o (operations_of_structs client clock structs)
-run_structs client clock [] o (run, i, j) = absurd i
-run_structs client clock (item r ∷ structs) o (run, inl e, j) =
-    in_left_part o (operations_of_run r) (operations_of_structs client (clock + len_of r.content) structs) (subst (λ s. IsIn o (operations_of_run s)) e j)
-run_structs client clock (item r ∷ structs) o (run, inr i, j) =
-    in_right_part o (operations_of_run r) (operations_of_structs client (clock + len_of r.content) structs) (run_structs client (clock + len_of r.content) structs o (run, i, j))
-run_structs client clock (skip count ∷ structs) o (run, i, j) = run_structs client (clock + count) structs o (run, i, j)
-run_structs client clock (gone count ∷ structs) o (run, i, j) =
-    in_right_part o (gone_from (record { client = client; clock = clock }) count) (operations_of_structs client (clock + count) structs)
-    (run_structs client (clock + count) structs o (run, i, j))
-
-blocks_run : (blocks : List BlockValue) (o : Operation) → IsIn o (operations_of_blocks blocks) → 0 < level_of o.content → IsOfRun (runs_of_blocks blocks) o
-blocks_run [] o i some = absurd i
-blocks_run (block ∷ blocks) o i some = elim (in_parts o (operations_of_structs block.client block.clock block.structs) (operations_of_blocks blocks) i) [
-  | inl j ↦ left_of (runs_of_structs block.structs) (runs_of_blocks blocks) o (structs_run block.client block.clock block.structs o j some)
-  | inr j ↦ right_of (runs_of_structs block.structs) (runs_of_blocks blocks) o (blocks_run blocks o j some)
-]
-
-run_blocks : (blocks : List BlockValue) (o : Operation) → IsOfRun (runs_of_blocks blocks) o → IsIn o (operations_of_blocks blocks)
-run_blocks [] o (run, i, j) = absurd i
-run_blocks (block ∷ blocks) o (run, i, j) = elim (in_parts run (runs_of_structs block.structs) (runs_of_blocks blocks) i) [
-  | inl k ↦ in_left_part o (operations_of_structs block.client block.clock block.structs) (operations_of_blocks blocks)
-      (run_structs block.client block.clock block.structs o (run, k, j))
-  | inr k ↦ in_right_part o (operations_of_structs block.client block.clock block.structs) (operations_of_blocks blocks) (run_blocks blocks o (run, k, j))
-]
-
-updates_run : (updates : List UpdateValue) (o : Operation) → IsIn o (operations_of_all updates) → 0 < level_of o.content → IsOfRun (runs_of_updates updates) o
-updates_run [] o i some = absurd i
-updates_run (update ∷ updates) o i some = elim (in_parts o (operations_of update) (operations_of_all updates) i) [
-  | inl j ↦ left_of (runs_of_blocks update.blocks) (runs_of_updates updates) o (blocks_run update.blocks o j some)
-  | inr j ↦ right_of (runs_of_blocks update.blocks) (runs_of_updates updates) o (updates_run updates o j some)
-]
-
--- a run of updates is one of them's
-update_of : (updates : List UpdateValue) (run : RunValue) → IsIn run (runs_of_updates updates) → (update : UpdateValue) × IsIn update updates × IsIn run (runs_of_blocks update.blocks)
-update_of [] run i = absurd i
-update_of (update ∷ updates) run i = elim (in_parts run (runs_of_blocks update.blocks) (runs_of_updates updates) i) [
-  | inl j ↦ (update, inl refl, j)
-  | inr j ↦ let (u, k, l) = update_of updates run j in (u, inr k, l)
-]
-
-of_update : (updates : List UpdateValue) (update : UpdateValue) (run : RunValue) → IsIn update updates → IsIn run (runs_of_blocks update.blocks) → IsIn run (runs_of_updates updates)
-of_update [] update run i j = absurd i
-of_update (u ∷ us) update run (inl e) j = in_left_part run (runs_of_blocks u.blocks) (runs_of_updates us) (subst (λ (v : UpdateValue). IsIn run (runs_of_blocks v.blocks)) e j)
-of_update (u ∷ us) update run (inr i) j = in_right_part run (runs_of_blocks u.blocks) (runs_of_updates us) (of_update us update run i j)
-
-run_updates : (updates : List UpdateValue) (o : Operation) → IsOfRun (runs_of_updates updates) o → IsIn o (operations_of_all updates)
-run_updates [] o (run, i, j) = absurd i
-run_updates (update ∷ updates) o (run, i, j) = elim (in_parts run (runs_of_blocks update.blocks) (runs_of_updates updates) i) [
-  | inl k ↦ in_left_part o (operations_of update) (operations_of_all updates) (run_blocks update.blocks o (run, k, j))
-  | inr k ↦ in_right_part o (operations_of update) (operations_of_all updates) (run_updates updates o (run, k, j))
-]
+use Rattle.yd_agreement.proofs.LevelLemmas.{full_run, run_full, run_told}
+use Rattle.yd_agreement.proofs.RunLemmas.{IsOfRun, blocks_run, of_update, run_blocks, run_updates, update_of, updates_run}
 
 -- ---- some runs that are those of the updates
 

@@ -15,10 +15,10 @@ use yd_ids::Id;
 use yd_ops::Update;
 
 /// The smallest id on which updates disagree, and none exactly where they agree (own). They disagree
-/// on an id where two operations that are not gone have other neighbours or another list, or two full
-/// ones hold another unit. They also do where one update spells a pair in full, and one spells just one of
-/// its halves less than full; then it is the high half's id. It takes the time of sorting the runs
-/// and of comparing each with one other.
+/// on an id where two operations that are not gone have other neighbours or another list, or where
+/// two full ones hold other units. They also do where one update spells a pair in full, and one just
+/// one of its halves less than full; then it is the id of the high half. It takes the time of sorting
+/// the runs and of comparing each with one other.
 pub fn disagree(alloc: Global, updates: &[Update]) -> Result<Option<Id>, NoMemory>
     requires { Each IsValidUpdate (map update_value updates.now) }
     ensures { IfOk result (λ found. found ≡ disagreement_of (map update_value updates.now)) }

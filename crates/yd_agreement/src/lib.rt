@@ -1,11 +1,11 @@
 //! Where updates disagree: the smallest id on which two of them differ.
 //!
-//! Updates may differ on an id in content, where both are full, or in place, where neither is gone. And
-//! one of them may spell just one half of a pair deleted or gone that another one spells in full. [`disagree`]
-//! tells the smallest id of all these, and none where updates agree. It works by runs: it sorts them by
-//! their first ids, and compares each next one with one other alone, the one that ends last ([`law`]).
-//! [`differ_in_content`] and [`differ_in_place`] compare two runs, [`is_same_unit`] two units; these
-//! take no memory.
+//! Updates may differ on an id in content, where both are full, or in place, where neither is gone.
+//! And one may spell a pair in full of which another one spells just one half deleted or gone.
+//! [`disagree`] tells the smallest id of all these, and none where updates agree. It works by runs:
+//! it sorts them by their first ids, and compares each next one with one other alone, the one that
+//! ends last ([`law`]). [`differ_in_content`] and [`differ_in_place`] compare two runs, and
+//! [`is_same_unit`] two units; these take no memory.
 //!
 //! ```rust
 //! let found = disagree(alloc, &[first, second])?;

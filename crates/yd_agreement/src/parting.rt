@@ -19,9 +19,9 @@ use std::alloc::Global;
 use yd_ids::{Id, IdSet, Span};
 use yd_ops::{Content, Run, Update};
 
-/// The first id of a high half whose pair one of the runs has, and of which one of the updates spells
-/// just one half less than full; one on which the runs differ in content may be left out. It takes a
-/// bisection for each end of the spans that updates spell less than full, and walks no units.
+/// The first id of a high half whose pair one of the runs has, where one of the updates spells just
+/// one of the two halves less than full. An id on which the runs differ in content may be left out.
+/// It takes a bisection for each end of the spans that updates spell less than full.
 pub fn first_parted(
     alloc: Global,
     updates: &[Update],
@@ -41,8 +41,8 @@ pub fn first_parted(
     Ok(first)
 }
 
-/// The first id of a high half whose pair one of the runs has, and of which just one half is in the
-/// set; one on which the runs differ in content may be left out.
+/// The first id of a high half whose pair one of the runs has, where just one of the two halves is in
+/// the set. An id on which the runs differ in content may be left out.
 fn parted_by(full: &Sweep<'_>, set: &IdSet) -> Option<Id>
     requires swept { IsSweep full.now }
     requires whole { AreWhole (runs_in full.now) }
@@ -56,7 +56,7 @@ fn parted_by(full: &Sweep<'_>, set: &IdSet) -> Option<Id>
     first
 }
 
-/// The same at both ends of a span.
+/// The same of pairs between whose halves a span begins or ends.
 fn parted_at_ends(full: &Sweep<'_>, span: Span) -> Option<Id>
     requires swept { IsSweep full.now }
     requires whole { AreWhole (runs_in full.now) }
@@ -71,7 +71,7 @@ fn parted_at_ends(full: &Sweep<'_>, span: Span) -> Option<Id>
     first_of(begins, ends)
 }
 
-/// The id of the high half whose pair one of the runs has, if its low half has this id; one on
+/// The id of a high half whose pair one of the runs has, where the low half has this id. An id on
 /// which the runs differ in content may be left out.
 fn parted_at(full: &Sweep<'_>, low: Id) -> Option<Id>
     requires swept { IsSweep full.now }

@@ -2,7 +2,7 @@ use Rattle.yd_ops.specs.Valid.{IsValidUpdate}
 use Rattle.yd_ops.specs.View.{update_value}
 use Rattle.yd_ops.proofs.EachLemmas.{each_read}
 use Rattle.yd_agreement.specs.Sweep.{runs_in}
-use Rattle.yd_agreement.proofs.PartingLemmas.{parted_next}
+use Rattle.yd_agreement.proofs.EndsLemmas.{parted_next}
 use Rattle.yd_agreement.proofs.parting.first_parted.Goals as goal
 
 pub less_in-requires : goal.less_in-requires

@@ -1,6 +1,6 @@
 use Rattle.std.proofs.Common.{[], ◌∷◌, ◌++◌}
 use Rattle.yd_agreement.specs.Sweep.{runs_in}
-use Rattle.yd_agreement.proofs.PartingLemmas.{done_all, done_more, ends_all, ends_next, left_is_span}
+use Rattle.yd_agreement.proofs.EndsLemmas.{done_all, done_more, ends_all, ends_next, left_is_span}
 use Rattle.yd_agreement.proofs.parting.parted_by.Goals as goal
 
 pub parted_at_ends-requires-clause-span : goal.parted_at_ends-requires-clause-span

@@ -3,7 +3,7 @@ use Rattle.yd_ids.specs.declared.id.Span.{Span}
 use Rattle.yd_agreement.specs.Differing.{DifferAmong, content_of}
 use Rattle.yd_agreement.specs.First.{IsFirstBut}
 use Rattle.yd_agreement.specs.Sweep.{runs_in}
-use Rattle.yd_agreement.proofs.PartingLemmas.{IsPartedAtAny}
+use Rattle.yd_agreement.proofs.EndsLemmas.{IsPartedAtAny}
 use Rattle.yd_agreement.proofs.parting.parted_by.Given as goal
 
 -- it is the first id by the spans so far, which with those that are left are the set

@@ -2,7 +2,8 @@ use Rattle.std.proofs.Common.{rules, of_calls, ap, length, arith}
 use Rattle.std.proofs.lemmas.Fn.{always_returns_same}
 use Rattle.yd_ops.specs.View.{run_value}
 use Rattle.yd_agreement.specs.Sweep.{runs_in}
-use Rattle.yd_agreement.proofs.CoverLemmas.{cover_so_far, cover_tells, is_begun, length-lent, none_begins, parted_by}
+use Rattle.yd_agreement.proofs.BegunLemmas.{cover_tells, is_begun, none_begins, parted_by}
+use Rattle.yd_agreement.proofs.CoverLemmas.{cover_so_far, length-lent}
 use Rattle.yd_agreement.proofs.sweep.Sweep.cover.Goals as goal
 
 pub returns-then-count-eq0 : goal.returns-then-count-eq0
