@@ -67,13 +67,13 @@ module _ (runs : List Stretch) (told : List (Option RunValue)) (are : AreTold ru
   fronted_len : length fronted ≡ length told
   fronted_len = length-set told place (told_before n (run_at told place))
 
-  told_front : run_at cut_told place ≡ told_before n (run_at told place)
+  pub told_front : run_at cut_told place ≡ told_before n (run_at told place)
   told_front = get_or_append_left fronted (told_behind n (run_at told place) ∷ []) None place (omega (arith, within, are.each, fronted_len)) ∙ get_or-set_same told place (told_before n (run_at told place)) None (omega (arith, within, are.each))
 
-  told_rest : run_at cut_told (length runs) ≡ told_behind n (run_at told place)
+  pub told_rest : run_at cut_told (length runs) ≡ told_behind n (run_at told place)
   told_rest = get_or_at fronted (told_behind n (run_at told place)) [] None (length runs) (fronted_len ∙ are.each)
 
-  told_other : (i : ℕ) → i < length runs → i ≢ place → run_at cut_told i ≡ run_at told i
+  pub told_other : (i : ℕ) → i < length runs → i ≢ place → run_at cut_told i ≡ run_at told i
   told_other i lt ne = get_or_append_left fronted (told_behind n (run_at told place) ∷ []) None i (omega (arith, lt, are.each, fronted_len)) ∙ get_or-set_other told place i (told_before n (run_at told place)) None ne
 
   front_told : IfSome (told_before n (run_at told place)) (λ run. IsRunOf (front_of (stretch_at runs place) n) run)

@@ -12,6 +12,7 @@ ghost use Rattle.yd_arena.specs.Arena.{runs_of, count_of, places_in, next_clock,
 ghost use Rattle.yd_marks.specs.Marks.{mark_at, IsBorder, MarksSpan};
 ghost use Rattle.yd_store.specs.Contents.{told, told_of, run_at};
 ghost use Rattle.yd_store.specs.Store.{spare_of, stretch_of, gone_stretch, IsKept, SplitsAt, AddsRun, AddsOutside};
+ghost use Rattle.yd_store.specs.Units.{KeepsUnits, AddsUnits, AddsApart};
 
 use crate::contents::Contents;
 use crate::counted::counts;
@@ -195,6 +196,7 @@ impl Store {
         requires held { id.clock < next_clock self.old.placed id.client.0 }
         ensures begins { IfOk result (λ place. HasUnit (runs_of self.new.placed) place 0 id) }
         ensures done { OnOk result (IsKept self.old self.new ⊎ SplitsAt self.old self.new id) }
+        ensures units { KeepsUnits self.old self.new }
         ensures unchanged { OnErr result (IsKept self.old self.new) }
     {
         let Some(found) = seek(&self.arena, id) else {
@@ -230,6 +232,7 @@ impl Store {
         requires fits { IsClock (run.id.clock + len_of (content_value run.content)) }
         ensures place { IfOk result (λ place. place ≡ length (runs_of self.old.placed)) }
         ensures done { OnOk result (AddsRun self.old self.new list (run_value run)) }
+        ensures units { OnOk result (AddsUnits self.old self.new list (run_value run)) }
         ensures value_returned { IfErr result (λ fault. run_value fault.0 ≡ run_value run) }
         ensures unchanged { OnErr result (IsKept self.old self.new) }
         ensures spares { (client : ℕ) → spare_of self.old client ≤ spare_of self.new client + 1 }
@@ -274,6 +277,7 @@ impl Store {
         requires fits { IsClock (span.clock + span.len) }
         ensures place { IfOk result (λ place. place ≡ length (runs_of self.old.placed)) }
         ensures done { OnOk result (AddsOutside self.old self.new (gone_stretch span) None) }
+        ensures units { OnOk result (AddsApart self.old self.new (gone_stretch span) None) }
         ensures unchanged { OnErr result (IsKept self.old self.new) }
         ensures spares { (client : ℕ) → spare_of self.old client ≤ spare_of self.new client + 1 }
         ensures succeeds { 0 < spare_of self.old span.client.0 → IsOk result }
@@ -308,6 +312,8 @@ impl Store {
         requires fits { IsClock (run.id.clock + len_of (content_value run.content)) }
         ensures place { IfOk result (λ place. place ≡ length (runs_of self.old.placed)) }
         ensures done { OnOk result (AddsOutside self.old self.new
+            (stretch_of (run_value run) None) (Some (run_value run))) }
+        ensures units { OnOk result (AddsApart self.old self.new
             (stretch_of (run_value run) None) (Some (run_value run))) }
         ensures value_returned { IfErr result (λ fault. run_value fault.0 ≡ run_value run) }
         ensures unchanged { OnErr result (IsKept self.old self.new) }

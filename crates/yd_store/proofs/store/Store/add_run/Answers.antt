@@ -2,6 +2,7 @@ use Rattle.std.proofs.Common.{Some, map, refl, sym, ap}
 use Rattle.yd_ops.specs.View.{run_value}
 use Rattle.yd_store.specs.Contents.{told}
 use Rattle.yd_store.proofs.StoreLemmas.{lists_same, store_same, store_added, told_more, kept_no_later, kept_is, run_added}
+use Rattle.yd_store.proofs.AddingLemmas.{adds_units}
 use Rattle.yd_store.proofs.store.Store.add_run.Goals as goal
 
 pub add_run-place-requires-clause-right : goal.add_run-place-requires-clause-right
@@ -21,3 +22,10 @@ returns-clause-done c =
     rw (← c.self.view_is) (run_added c.self.inside.arena c.reserve_parts-room.new.arena c.add_run-place.new.self c.self.inside.marks c.reserve_parts-room.new.marks c.add.new.self c.self.inside.contents c.reserve_parts-room.new.contents c.add-2.new.self
     c.args.list c.args.run c.kept_right-right.result c.len-len.result c.counts.result c.reserve_parts-room.ensures.arena c.reserve_parts-room.ensures.rows c.reserve_parts-room.ensures.live c.reserve_parts-room.ensures.contents c.len-len.ensures c.counts.ensures
     c.kept_right-right.ensures c.add_run-place.ensures.done c.add.ensures.rows c.add.ensures.live c.add-2.ensures.rows)
+
+pub returns-clause-units : goal.returns-clause-units
+returns-clause-units c =
+    rw (← c.self.view_is) (adds_units (record { placed = c.self.inside.arena; marks = c.self.inside.marks; contents = c.self.inside.contents }) (record { placed = c.add_run-place.new.self; marks = c.add.new.self; contents = c.add-2.new.self })
+    c.args.list (run_value c.args.run) c.self.invariant c.reserve_parts-room.ensures.lists (rw (← c.self.view_is) at c.requires.list) (run_added c.self.inside.arena c.reserve_parts-room.new.arena c.add_run-place.new.self c.self.inside.marks c.reserve_parts-room.new.marks c.add.new.self c.self.inside.contents c.reserve_parts-room.new.contents c.add-2.new.self
+    c.args.list c.args.run c.kept_right-right.result c.len-len.result c.counts.result c.reserve_parts-room.ensures.arena c.reserve_parts-room.ensures.rows c.reserve_parts-room.ensures.live c.reserve_parts-room.ensures.contents c.len-len.ensures c.counts.ensures
+    c.kept_right-right.ensures c.add_run-place.ensures.done c.add.ensures.rows c.add.ensures.live c.add-2.ensures.rows))

@@ -2,6 +2,7 @@ use Rattle.std.proofs.Common.{◌≡◌, ◌<◌, ◌∙◌, ◌++◌, ◌∷◌
 use Rattle.yd_arena.specs.Arena.{runs_of}
 use Rattle.yd_marks.specs.Marks.{mark_at}
 use Rattle.yd_store.proofs.StoreLemmas.{can_cut, store_cut}
+use Rattle.yd_store.proofs.KeepingLemmas.{cut_keeps}
 use Rattle.yd_store.proofs.store.Store.split.Goals as goal
 
 pub cut_with-requires-clause-can : goal.cut_with-requires-clause-can
@@ -22,3 +23,9 @@ returns-clause-done c =
       live = c.cut.ensures.live ∙ c.reserve.ensures.live;
       runs = c.in_ok-place.ensures.beside;
     }))
+
+pub returns-clause-units : goal.returns-clause-units
+returns-clause-units c =
+    rw (← c.self.view_is) (cut_keeps (record { placed = c.self.inside.arena; marks = c.self.inside.marks; contents = c.self.inside.contents }) (record { placed = c.cut_with.new.self; marks = c.cut.new.self; contents = c.cut_with.new.beside })
+    c.self.invariant c.seek.ensures.lists c.in-Some.found.place c.in-Some.found.before c.in-Some.ensures.found.within (omega (arith, c.if-found-eq0.false)) c.in-Some.ensures.found.inside c.in_ok-place.ensures.done
+    (c.cut.ensures.rows ∙ ap (λ rows. rows ++ mark_at rows c.in-Some.found.place ∷ []) c.reserve.ensures.rows) (c.cut.ensures.live ∙ c.reserve.ensures.live) c.in_ok-place.ensures.beside)
