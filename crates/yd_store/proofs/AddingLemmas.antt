@@ -1,5 +1,5 @@
 -- A run that is added to a store adds its operations: to a list, in a row, or outside all lists.
-use Rattle.std.proofs.Common.{◌≡◌, ◌≢◌, ◌↔◌, ◌⊎◌, ℕ, ◌+◌, ◌<◌, true, false, inl, inr, List, [], ◌∷◌, ◌++◌, Option, Some, None, map, length, get_or, refl, sym, ap, ap₂, ◌∙◌, subst, arith, true≢false}
+use Rattle.std.proofs.Common.{◌≡◌, ◌↔◌, ◌⊎◌, ℕ, ◌+◌, ◌<◌, true, false, inl, inr, List, [], ◌∷◌, ◌++◌, Option, Some, None, map, length, get_or, refl, sym, ap, ap₂, ◌∙◌, subst, arith, true≢false}
 use Rattle.std.specs.Prelude.{flat_map}
 use Rattle.std.proofs.lemmas.List.{get_or_append_left, get_or_at, length-append, append_assoc}
 use Rattle.std.proofs.lemmas.List.Concat.{flat_map-append}
@@ -21,7 +21,7 @@ use Rattle.yd_marks.specs.Marks.{Marked, IsMarked}
 use Rattle.yd_marks.proofs.MarkLemmas.{adds_keep_marks}
 use Rattle.yd_store.specs.Contents.{Contented, told, told_of, run_at}
 use Rattle.yd_store.specs.Store.{Stored, IsStore, stretch_of, AddsRun, AddsOutside}
-use Rattle.yd_store.specs.Units.{operations_told, operations_at, operations_in, HasOperation, AddsUnits, AddsApart}
+use Rattle.yd_store.specs.Units.{operations_told, operations_at, HasOperation, AddsUnits, AddsApart}
 use Rattle.yd_store.proofs.StoreLemmas.{told_more}
 use Rattle.yd_store.proofs.KeepingLemmas.{lists_same}
 
@@ -89,6 +89,7 @@ adds_units old new list run store lists lt adds =
     let back = behind adds.grows.after at in
     let same = places_same old new store lists stretch (Some run) adds.grows.runs adds.runs list lt in
     record {
+      count = adds.grows.count;
       before = flat_map was_then front;
       behind = flat_map was_then back;
       parts = ap (flat_map was_then) (sym (parts_are adds.grows.after at)) ∙ flat_map-append was_then front back;

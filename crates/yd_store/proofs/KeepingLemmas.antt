@@ -1,5 +1,5 @@
 -- A cut keeps the operations of a store and of its lists, in their order.
-use Rattle.std.proofs.Common.{◌≡◌, ◌≢◌, ℕ, zero, suc, ◌+◌, ◌-◌, ◌<◌, ◌≤◌, inl, inr, List, [], ◌∷◌, ◌++◌, Option, Some, None, length, get_or, refl, sym, ap, ap₂, ◌∙◌, subst, arith}
+use Rattle.std.proofs.Common.{◌≡◌, ◌≢◌, ℕ, zero, suc, ◌+◌, ◌-◌, ◌<◌, inl, inr, List, [], ◌∷◌, ◌++◌, Option, Some, None, length, get_or, refl, sym, ap, ap₂, ◌∙◌, subst, arith}
 use Rattle.std.specs.Prelude.{flat_map, IfSome}
 use Rattle.std.proofs.lemmas.List.{take-append-drop, append_assoc}
 use Rattle.yd_ids.specs.declared.id.Id.{Id}
@@ -12,7 +12,7 @@ use Rattle.yd_ops.specs.Operation.{Operation, operations_of_run, gone_from, gone
 use Rattle.yd_ops.proofs.OperationLemmas.{later_later, later_none}
 use Rattle.yd_ops.proofs.CutLemmas.{first-operations, other-operations}
 use Rattle.yd_scan.specs.declared.stretch.Stretch.{Stretch}
-use Rattle.yd_scan.specs.Stretches.{stretch_at}
+use Rattle.yd_scan.specs.Stretches.{stretch_at, units_at}
 use Rattle.yd_index.specs.Holding.{cut_stretches, front_of, rest_of}
 use Rattle.yd_index.proofs.HoldingLemmas.{below_or_last}
 use Rattle.yd_index.proofs.LinesLemmas.{eq_says}
@@ -153,6 +153,7 @@ module _ (old new : Stored) (store : IsStore old.placed old.marks old.contents) 
   cut_keeps = record {
     count = cuts.lists.count;
     lists = list_kept;
+    units = cuts.units;
     operations = λ o. (operations_back o, operations_on o);
     marks = λ id. rw (cuts.runs, rows) (cuts_keep_marks were old.marks.rows place n store.counted.each within (omega (arith, inside)) id);
     live = live;
@@ -168,6 +169,7 @@ kept_keeps old new kept = record {
   lists = λ list lt. (
       ap₂ (λ (rs : List Stretch) (ts : List (Option RunValue)). flat_map (operations_at rs ts) (places_in new.placed list)) kept.placed.runs kept.runs
       ∙ ap (λ (ls : List (List ℕ)). flat_map (operations_at (runs_of old.placed) (told_of old.contents)) (get_or ls list [])) kept.placed.lists);
+  units = λ list lt. ap₂ (λ (rs : List Stretch) (ls : List (List ℕ)). units_at rs (get_or ls list [])) kept.placed.runs kept.placed.lists;
   operations = λ o. (
     (λ h. record { place = h.place; within = omega (arith, h.within, ap length kept.placed.runs); member = (rw (kept.placed.runs, kept.runs) at h.member) }),
     (λ h. record { place = h.place; within = omega (arith, h.within, ap length kept.placed.runs); member = rw (kept.placed.runs, kept.runs) h.member }),

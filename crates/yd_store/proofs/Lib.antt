@@ -1,3 +1,5 @@
 pub mod StoreLemmas
 pub mod KeepingLemmas
 pub mod AddingLemmas
+pub mod IntegratingLemmas
+pub mod DeletingLemmas

@@ -1,5 +1,5 @@
 -- The parts of a store stay of the same runs, where a run is cut and where one is added.
-use Rattle.std.proofs.Common.{◌≡◌, ◌≢◌, ℕ, zero, suc, Bool, false, map, ◌+◌, ◌-◌, ◌<◌, ◌≤◌, ◌⊎◌, inl, inr, List, [], ◌∷◌, ◌++◌, Option, Some, None, length, get_or, set, take, refl, sym, ap, ap₂, ◌∙◌, subst, arith}
+use Rattle.std.proofs.Common.{◌≡◌, ◌≢◌, ℕ, zero, suc, Bool, false, map, ◌+◌, ◌-◌, ◌<◌, ◌⊎◌, inl, inr, List, [], ◌∷◌, ◌++◌, Option, Some, None, length, get_or, set, take, refl, sym, ap, ap₂, ◌∙◌, subst, arith}
 use Rattle.std.proofs.lemmas.List.{map-append, length-map, take_at, get_or_append_left, get_or_at, length-append, length-set, get_or-set_same, get_or-set_other}
 use Rattle.std.specs.Prelude.{IfSome}
 use Rattle.yd_ids.specs.declared.id.Id.{Id}
@@ -27,7 +27,7 @@ use Rattle.yd_arena.specs.Lists.{Linked, list_at, AreLists}
 use Rattle.yd_arena.specs.Arena.{Placed, IsArena, HasUnit, runs_of, places_in, IsSame, CutsRun, GrowsByRun, AddsLoose}
 use Rattle.yd_arena.proofs.ArenaLemmas.{unit_id, own_unit, unit_below, units_stand_once}
 use Rattle.yd_marks.specs.declared.mark.Mark.{Mark}
-use Rattle.yd_marks.specs.Marks.{Marked, mark_at, live_of, live_at, total, with_more, AreCounted}
+use Rattle.yd_marks.specs.Marks.{Marked, mark_at, live_of, live_at, total, with_more}
 use Rattle.yd_marks.proofs.CountLemmas.{counted_cut, counted_added, counted_loose}
 use Rattle.yd_store.specs.Contents.{Contented, told, told_of, counts, CanBeCut, run_at, told_before, told_behind, cut_runs, CanCut}
 use Rattle.yd_store.specs.Store.{IsRunOf, AreTold, IsStore, StandsIn, IsKeptRight, AddsRun}

@@ -1,5 +1,5 @@
 -- What the runs of a store hold, by place (Yjs 13, the contents of items; a gone one has none).
-use Rattle.std.specs.Prelude.{◌≡◌, ◌<◌, ◌≤◌, ◌+◌, ◌++◌, ◌∷◌, [], ℕ, Bool, true, false, List, Option, Some, None, length, map, get_or, set}
+use Rattle.std.specs.Prelude.{◌≡◌, ◌<◌, ◌+◌, ◌++◌, ◌∷◌, [], ℕ, Bool, true, false, List, Option, Some, None, length, map, get_or, set}
 use Rattle.yd_ids.specs.Id.{IsClock}
 use Rattle.yd_ops.specs.Value.{ContentValue, format, deleted, len_of, RunValue}
 use Rattle.yd_ops.specs.Cutting.{run_before, run_behind}

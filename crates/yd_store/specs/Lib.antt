@@ -1,3 +1,5 @@
 pub mod Contents
 pub mod Store
 pub mod Units
+pub mod Integrating
+pub mod Deleting

@@ -1,5 +1,5 @@
 -- A store: runs in an arena, their marks of deletion, and what they hold (Yjs 13, the struct store).
-use Rattle.std.specs.Prelude.{◌≡◌, ◌⊎◌, ◌<◌, ◌≤◌, ◌++◌, ◌∷◌, [], ℕ, true, false, List, Option, Some, None, IfSome, min, length}
+use Rattle.std.specs.Prelude.{◌≡◌, ◌⊎◌, ◌<◌, ◌++◌, ◌∷◌, [], ℕ, true, false, List, Option, Some, None, IfSome, min, length}
 use Rattle.yd_ids.specs.declared.id.Id.{Id}
 use Rattle.yd_ids.specs.declared.id.Span.{Span}
 use Rattle.yd_words.specs.Member.{IsIn}
@@ -7,7 +7,6 @@ use Rattle.yd_ops.specs.Value.{len_of, RunValue}
 use Rattle.yd_scan.specs.declared.stretch.Stretch.{Stretch}
 use Rattle.yd_scan.specs.Stretches.{stretch_at}
 use Rattle.yd_arena.specs.Arena.{Placed, runs_of, places_in, room_for, HasUnit, IsSame, CutsAt, GrowsByRun, AddsLoose}
-use Rattle.yd_marks.specs.declared.mark.Mark.{Mark}
 use Rattle.yd_marks.specs.Marks.{Marked, mark_at, live_of, with_more, AreCounted}
 use Rattle.yd_store.specs.Contents.{Contented, told_of, run_at, cut_runs, counts}
 

@@ -6,7 +6,7 @@ use Rattle.yd_ops.specs.Value.{RunValue}
 use Rattle.yd_ops.specs.Operation.{Operation, operations_of_run, gone_from}
 use Rattle.yd_scan.specs.declared.stretch.Stretch.{Stretch}
 use Rattle.yd_scan.specs.Stretches.{stretch_at, units_of}
-use Rattle.yd_arena.specs.Arena.{runs_of, count_of, places_in, next_clock}
+use Rattle.yd_arena.specs.Arena.{runs_of, count_of, places_in, units_in, next_clock}
 use Rattle.yd_marks.specs.Marks.{IsMarked, IsBorder}
 use Rattle.yd_store.specs.Contents.{told_of, run_at}
 use Rattle.yd_store.specs.Store.{Stored}
@@ -39,6 +39,7 @@ HasMarked it id = IsMarked (runs_of it.placed) it.marks.rows id
 pub record KeepsUnits (old new : Stored) : Type 0 where
   pub count : count_of new.placed ≡ count_of old.placed
   pub lists : (list : ℕ) → list < count_of old.placed → operations_in new list ≡ operations_in old list
+  pub units : (list : ℕ) → list < count_of old.placed → units_in new.placed list ≡ units_in old.placed list
   pub operations : (o : Operation) → HasOperation new o ↔ HasOperation old o
   pub marks : (id : Id) → HasMarked new id ↔ HasMarked old id
   pub live : new.marks.live ≡ old.marks.live
@@ -47,6 +48,7 @@ pub record KeepsUnits (old new : Stored) : Type 0 where
 
 -- a list has the operations of a run more, in a row, and all others are as they were; none of the new ones is marked
 pub record AddsUnits (old new : Stored) (list : ℕ) (run : RunValue) : Type 0 where
+  pub count : count_of new.placed ≡ count_of old.placed
   pub before : List Operation
   pub behind : List Operation
   pub parts : operations_in old list ≡ before ++ behind

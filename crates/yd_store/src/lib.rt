@@ -18,7 +18,9 @@
 mod contents;
 mod counted;
 mod cutting;
+mod deleting;
 mod fault;
+mod integrating;
 mod parts;
 mod rights;
 mod store;

@@ -22,7 +22,7 @@ pub fn kept_right(arena: &Arena, list: usize, right: Option<Id>) -> Option<Id>
 }
 
 /// Whether a unit stands in a list.
-fn stands_in(arena: &Arena, list: usize, id: Id) -> bool
+pub fn stands_in(arena: &Arena, list: usize, id: Id) -> bool
     requires { list < count_of arena.now }
     ensures here { result ≡ true → StandsIn arena.now list id }
     ensures other { result ≡ false → StandsIn arena.now list id → ⊥ }

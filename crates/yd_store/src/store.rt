@@ -1,24 +1,24 @@
 //! The store.
 
-ghost use Rattle.std.specs.Prelude.{◌≡◌, ◌⊎◌, ◌<◌, ◌≤◌, ◌+◌, ◌++◌, ◌∷◌, [], ℕ, Some, None, true, length, get_or, IfSome, IfNone, IfOk, IfErr, OnOk, OnErr, IsOk, option_copied};
+ghost use Rattle.std.specs.Prelude.{◌≡◌, ◌⊎◌, ◌<◌, ◌≤◌, ◌+◌, ◌++◌, ◌∷◌, [], ℕ, Some, None, true, false, length, get_or, IfSome, IfNone, IfOk, IfErr, OnOk, OnErr, IsOk, option_copied};
 ghost use Rattle.yd_ids.specs.Id.{IsClock};
 ghost use Rattle.yd_words.specs.Member.{IsIn};
 ghost use Rattle.yd_chains.specs.Chain.{first_of, last_of, behind, before};
 ghost use Rattle.yd_ops.specs.Value.{len_of};
 ghost use Rattle.yd_ops.specs.View.{content_value, run_value};
 ghost use Rattle.yd_scan.specs.Stretches.{IsNoLater, EndsLeft};
-ghost use Rattle.yd_arena.specs.Lists.{IsLoose, list_at};
-ghost use Rattle.yd_arena.specs.Arena.{runs_of, count_of, places_in, next_clock, HasUnit};
+ghost use Rattle.yd_arena.specs.Lists.{AreLists, IsLoose};
+ghost use Rattle.yd_arena.specs.Arena.{runs_of, count_of, places_in, next_clock, HasUnit, IsArena};
 ghost use Rattle.yd_marks.specs.Marks.{mark_at, IsBorder, MarksSpan};
 ghost use Rattle.yd_store.specs.Contents.{told, told_of, run_at};
-ghost use Rattle.yd_store.specs.Store.{spare_of, stretch_of, gone_stretch, IsKept, SplitsAt, AddsRun, AddsOutside};
+ghost use Rattle.yd_store.specs.Store.{spare_of, stretch_of, gone_stretch, IsKept, SplitsAt, StandsIn, AddsRun, AddsOutside};
 ghost use Rattle.yd_store.specs.Units.{KeepsUnits, AddsUnits, AddsApart};
 
 use crate::contents::Contents;
 use crate::counted::counts;
 use crate::fault::Unplaced;
 use crate::parts::{add_list_parts, reserve_parts, seek};
-use crate::rights::kept_right;
+use crate::rights::{kept_right, stands_in};
 use std::alloc::Global;
 use std::marker::Model;
 use yd_arena::{Arena, Found};
@@ -84,6 +84,34 @@ impl Store {
         ensures missing { IfNone result (next_clock self.now.placed id.client.0 ≤ id.clock) }
     {
         self.arena.find(id)
+    }
+
+    /// How many runs there are; their places are the numbers below.
+    pub fn len(&self) -> usize
+        ensures { result ≡ length (runs_of self.now.placed) }
+    {
+        self.arena.lists().len()
+    }
+
+    /// Whether a unit stands in a list.
+    pub fn stands_in(&self, list: usize, id: Id) -> bool
+        requires { list < count_of self.now.placed }
+        ensures here { result ≡ true → StandsIn self.now.placed list id }
+        ensures other { result ≡ false → StandsIn self.now.placed list id → ⊥ }
+    {
+        stands_in(&self.arena, list, id)
+    }
+
+    /// That the index finds the runs, and no list has a place twice, as facts for callers.
+    pub(crate) fn is_sound(&self)
+        ensures arena { IsArena self.now.placed.lines (runs_of self.now.placed) }
+        ensures lists { AreLists self.now.placed.linked }
+    {
+        let id = Id {
+            client: Client(0),
+            clock: 0,
+        };
+        let _ = seek(&self.arena, id);
     }
 
     /// The first place of a list, or None where it is empty.

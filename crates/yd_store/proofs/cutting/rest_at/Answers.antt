@@ -1,4 +1,4 @@
-use Rattle.std.proofs.Common.{◌≡◌, ◌∙◌, None, map, set, ap}
+use Rattle.std.proofs.Common.{◌∙◌, None, map, set, ap}
 use Rattle.std.proofs.lemmas.List.{map-set, set-get_or}
 use Rattle.yd_index.proofs.LinesLemmas.{on_err}
 use Rattle.yd_store.specs.Contents.{told, told_before}

@@ -1,4 +1,4 @@
-use Rattle.std.proofs.Common.{◌≡◌, ◌∙◌, Some, None, map, refl, sym, ap, subst, inr}
+use Rattle.std.proofs.Common.{Some, None, map, refl, sym, ap, subst, inr}
 use Rattle.yd_ops.specs.View.{run_value}
 use Rattle.yd_store.specs.Contents.{told}
 use Rattle.yd_arena.specs.Arena.{AddsLoose}
