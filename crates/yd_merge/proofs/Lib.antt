@@ -5,4 +5,5 @@ pub mod NamedLemmas
 pub mod PuttingLemmas
 pub mod ReachingLemmas
 pub mod ToldLemmas
+pub mod TurnLemmas
 pub mod ValueLemmas

@@ -1,243 +1,250 @@
--- How far entries reach, one entry after another, and that an update reaches as far as what is received of it.
-use Rattle.std.proofs.Common.{◌≡◌, ◌≢◌, ◌↔◌, ◌⊎◌, ℕ, ◌+◌, ◌<◌, ◌≤◌, Bool, true, false, ◌||◌, nat_eq, List, [], ◌∷◌, ◌++◌, inl, inr, drop, length, get_or, cond, refl, sym, ap, ◌∙◌, subst, arith, tests, true≢false, append_assoc, append-nil}
-use Rattle.std.proofs.lemmas.List.{drop_all, drop_more}
+-- How far ids reach: a client's clock is the end of its span that begins at 0, and so an update reaches.
+use Rattle.std.proofs.Common.{◌≡◌, ◌≢◌, ◌↔◌, ℕ, ◌+◌, ◌<◌, ◌≤◌, ◌-◌, max, Bool, true, false, nat_eq, List, [], ◌∷◌, inl, inr, map, cond, refl, sym, ap, ◌∙◌, subst, arith, tests, true≢false}
 use Rattle.std.proofs.lemmas.Bool.{cases_lt}
 use Rattle.yd_words.specs.Each.{Each}
-use Rattle.yd_words.proofs.EachLemmas.{each_weaker}
+use Rattle.yd_words.specs.Member.{IsIn}
+use Rattle.yd_words.proofs.MemberLemmas.{in_left_part, in_parts, in_right_part}
+use Rattle.yd_words.proofs.TestLemmas.{test_fails}
 use Rattle.yd_ids.specs.declared.id.Client.{Client}
 use Rattle.yd_ids.specs.declared.id.Id.{Id}
+use Rattle.yd_ids.specs.declared.id.Span.{Span}
+use Rattle.yd_ids.specs.Id.{IsSpan}
+use Rattle.yd_ids.specs.Set.{AreMaximal, HasId, HaveSameIds}
+use Rattle.yd_ids.specs.Span.{EndsBefore, InSpan}
 use Rattle.yd_ids.specs.Vector.{IsVector, clock_of, with_clock}
+use Rattle.yd_ids.proofs.IdLemmas.{same_numbers}
 use Rattle.yd_ids.proofs.MaximumLemmas.{with_this, with_other, with_vector}
 use Rattle.yd_ids.proofs.VectorLemmas.{vectors_same}
-use Rattle.yd_ops.specs.declared.runs.Run.{Run}
-use Rattle.yd_ops.specs.Operation.{operations_of}
+use Rattle.yd_ops.specs.Operation.{Operation, later_id, operations_of}
 use Rattle.yd_ops.specs.Valid.{IsValidUpdate}
 use Rattle.yd_ops.specs.Value.{UpdateValue}
-use Rattle.yd_updates.specs.Received.{has_operation, groups_of, with_groups}
+use Rattle.yd_updates.specs.Received.{has_operation}
+use Rattle.yd_updates.proofs.OneOfLemmas.{id_there, operation_with}
+use Rattle.yd_grouping.specs.Groups.{Group, operations_of_group, operations_of_groups, start_of}
+use Rattle.yd_grouping.specs.Merged.{merge_of}
 use Rattle.yd_grouping.specs.Reach.{reach_of}
-use Rattle.yd_grouping.proofs.MergeLemmas.{merge-operations}
+use Rattle.yd_grouping.proofs.BlockLemmas.{group_has}
+use Rattle.yd_grouping.proofs.MergeLemmas.{merge_valid}
 use Rattle.yd_grouping.proofs.MergedIdsLemmas.{merge_ids}
 use Rattle.yd_grouping.proofs.ReachLemmas.{reach_missing, reach_there, reach_vector}
-use Rattle.yd_received.specs.declared.entry.Entry.{Entry}
-use Rattle.yd_received.specs.Entries.{AreInOrder, AreTaken, IsTakenOf, StandsBefore, covers, operations_in}
-use Rattle.yd_received.specs.Received.{ReceivedValue, IsReceived, taken_of}
-use Rattle.yd_received.specs.Taking.{is_covered}
-use Rattle.yd_received.proofs.TakenLemmas.{has_covered}
-use Rattle.yd_merge.specs.Reaching.{EndsInRange, IsReach, Reaches, all_raised, id_at, raised_by}
+use Rattle.yd_merge.specs.Lending.{IsLent, blocks_groups, lent_group, updates_groups}
+use Rattle.yd_merge.specs.declared.lending.Lent.{Lent}
+use Rattle.yd_merge.specs.Reaching.{Reaches, all_started, id_at, span_of, spans_of, started_by}
+use Rattle.yd_merge.proofs.TurnLemmas.{at_place, blocks-groups-operations, updates-operations}
 
--- ---- one entry more
+-- ---- the spans of groups
 
-covered_last : (ts : List Entry) (t : Entry) (x : Id) → is_covered (ts ++ t ∷ []) x ≡ (is_covered ts x || covers t x)
-covered_last [] t x = go (covers t x)
+in_group : (group : Group) (x : Id) → InSpan (span_of group) x → (o : Operation) × IsIn o (operations_of_group group) × (o.id ≡ x)
+in_group group x (client, low, high) = let (k, e) : (k : ℕ) × ((start_of group).clock + k ≡ x.clock) = found in
+    let (o, i, same) = group_has group k (omega (arith, e, high)) in (o, i, same ∙ same_numbers (later_id (start_of group) k) x client e)
   where
-    go : (b : Bool) → (b || false) ≡ b
-    go true = refl
-    go false = refl
-covered_last (s ∷ ts) t x = go (covers s x) (covered_last ts t x)
+    found : (k : ℕ) × ((start_of group).clock + k ≡ x.clock)
+    found = (x.clock - (start_of group).clock, omega (arith, low))
+
+has_span : (groups : List Group) (x : Id) → HasId (spans_of groups) x → has_operation (operations_of_groups groups) x ≡ true
+has_span [] x h = absurd h
+has_span (group ∷ groups) x (inl i) = let (o, j, e) = in_group group x i in
+    id_there (operations_of_groups (group ∷ groups)) o x (in_left_part o (operations_of_group group) (operations_of_groups groups) j) e
+has_span (group ∷ groups) x (inr h) = let (o, j, e) = operation_with (operations_of_groups groups) x (has_span groups x h) in
+    id_there (operations_of_groups (group ∷ groups)) o x (in_right_part o (operations_of_group group) (operations_of_groups groups) j) e
+
+in_spans : (groups : List Group) (o : Operation) → IsIn o (operations_of_groups groups) → HasId (spans_of groups) o.id
+in_spans [] o i = absurd i
+in_spans (group ∷ groups) o i = elim (in_parts o (operations_of_group group) (operations_of_groups groups) i) [
+  | inl j ↦ let (k, lt, e) = at_place group o j in
+      inl (sym (ap (λ (y : Id). y.client.0) e), omega (arith, ap (λ (y : Id). y.clock) e), omega (arith, lt, ap (λ (y : Id). y.clock) e))
+  | inr j ↦ inr (in_spans groups o j)
+]
+
+span_has : (groups : List Group) (x : Id) → has_operation (operations_of_groups groups) x ≡ true → HasId (spans_of groups) x
+span_has groups x e = let (o, i, same) = operation_with (operations_of_groups groups) x e in subst (HasId (spans_of groups)) same (in_spans groups o i)
+
+-- ---- maximal spans, one after another
+
+-- the end of the client's span that begins at 0, or 0
+abbrev start_end : List Span → ℕ → ℕ
+start_end [] client = 0
+start_end (span ∷ spans) client = cond (nat_eq span.client.0 client) (cond (nat_eq span.clock 0) span.len (start_end spans client)) (start_end spans client)
+
+-- behind a span of the client no other begins at 0, or has the clock at its end
+record IsLast (span : Span) (spans : List Span) : Type 0 where
+  starts : start_end spans span.client.0 ≡ 0
+  ends : HasId spans (id_at span.client.0 (span.clock + span.len)) → ⊥
+
+later_one : (span next : Span) (spans : List Span) → EndsBefore span next → IsLast span spans → IsLast span (next ∷ spans)
+later_one span next spans before rest = record { starts = first (nat_eq next.client.0 span.client.0) refl; ends = has }
   where
-    go : (b : Bool) → is_covered (ts ++ t ∷ []) x ≡ (is_covered ts x || covers t x) → (b || is_covered (ts ++ t ∷ []) x) ≡ ((b || is_covered ts x) || covers t x)
-    go true e = refl
-    go false e = e
+    above : next.client.0 ≡ span.client.0 → span.clock + span.len < next.clock
+    above e = elim before [ inl lt ↦ absurd (omega (arith, lt, e)) | inr both ↦ both.1 ]
 
--- entries before one have clocks of its client that are below its clocks
-before_low : (ts : List Entry) (t : Entry) (clock : ℕ) → Each (λ s. StandsBefore s t) ts → is_covered ts (id_at t.id.client.0 clock) ≡ true → clock < t.id.clock
-before_low [] t clock each e = absurd (true≢false (sym e))
-before_low (s ∷ ts) t clock each e = go (covers s (id_at t.id.client.0 clock)) refl e each.0 (λ g. before_low ts t clock each.1 g)
-  where
-    go : (b : Bool) → covers s (id_at t.id.client.0 clock) ≡ b → (b || is_covered ts (id_at t.id.client.0 clock)) ≡ true → StandsBefore s t → (is_covered ts (id_at t.id.client.0 clock) ≡ true → clock < t.id.clock) →
-        clock < t.id.clock
-    go true f g (inl lt) rest = absurd (grind (arith, tests))
-    go true f g (inr same) rest = let client = ap (λ c. c.0) same.0 in grind (arith, tests)
-    go false f g stands rest = rest g
+    second : (c : Bool) → nat_eq next.clock 0 ≡ c → next.client.0 ≡ span.client.0 → cond c next.len (start_end spans span.client.0) ≡ 0
+    second true f e = let more = above e in absurd (grind (arith, tests))
+    second false f e = rest.starts
 
-covers_own : (t : Entry) (clock : ℕ) → t.id.clock ≤ clock → clock < t.id.clock + t.len → covers t (id_at t.id.client.0 clock) ≡ true
-covers_own t clock low high = grind (arith, tests)
+    first : (b : Bool) → nat_eq next.client.0 span.client.0 ≡ b → cond b (cond (nat_eq next.clock 0) next.len (start_end spans span.client.0)) (start_end spans span.client.0) ≡ 0
+    first true f = second (nat_eq next.clock 0) refl (grind (arith, tests))
+    first false f = rest.starts
 
-covers_behind : (t : Entry) (client clock : ℕ) → t.id.clock + t.len ≤ clock → covers t (id_at client clock) ≡ false
-covers_behind t client clock le = grind (arith, tests)
+    has : HasId (next ∷ spans) (id_at span.client.0 (span.clock + span.len)) → ⊥
+    has (inl (client, low, high)) = let more = above client in absurd (omega (arith, low, more))
+    has (inr h) = rest.ends h
 
-covers_before : (t : Entry) (client clock : ℕ) → clock < t.id.clock → covers t (id_at client clock) ≡ false
-covers_before t client clock lt = grind (arith, tests)
+later_none : (span : Span) (spans : List Span) → Each (EndsBefore span) spans → IsLast span spans
+later_none span [] each = record { starts = refl; ends = λ h. h }
+later_none span (next ∷ spans) each = later_one span next spans each.0 (later_none span spans each.1)
 
-covers_other : (t : Entry) (client clock : ℕ) → t.id.client.0 ≢ client → covers t (id_at client clock) ≡ false
-covers_other t client clock other = grind (arith, tests)
+-- of maximal spans the client has the clocks up to that end, and not the end
+record IsEnd (spans : List Span) (client clock : ℕ) : Type 0 where
+  missing : HasId spans (id_at client clock) → ⊥
+  there : (below : ℕ) → below < clock → HasId spans (id_at client below)
 
-or_false : (a b : Bool) → a ≡ false → b ≡ false → (a || b) ≡ false
-or_false a b e f = rw (e, f) refl
-
-or_left : (a b : Bool) → a ≡ true → (a || b) ≡ true
-or_left a b e = rw e refl
-
-or_right : (a b : Bool) → b ≡ true → (a || b) ≡ true
-or_right true b e = refl
-or_right false b e = e
-
-missing_with : (ts : List Entry) (t : Entry) (x : Id) → is_covered ts x ≡ false → covers t x ≡ false → is_covered (ts ++ t ∷ []) x ≡ false
-missing_with ts t x e f = covered_last ts t x ∙ or_false (is_covered ts x) (covers t x) e f
-
-there_with : (ts : List Entry) (t : Entry) (x : Id) → (is_covered ts x ≡ true) ⊎ (covers t x ≡ true) → is_covered (ts ++ t ∷ []) x ≡ true
-there_with ts t x (inl e) = covered_last ts t x ∙ or_left (is_covered ts x) (covers t x) e
-there_with ts t x (inr f) = covered_last ts t x ∙ or_right (is_covered ts x) (covers t x) f
-
-none_from : (ts : List Entry) (t : Entry) (clock : ℕ) → Each (λ s. StandsBefore s t) ts → t.id.clock ≤ clock → is_covered ts (id_at t.id.client.0 clock) ≡ false
-none_from ts t clock each le = go (is_covered ts (id_at t.id.client.0 clock)) refl
-  where
-    go : (b : Bool) → is_covered ts (id_at t.id.client.0 clock) ≡ b → b ≡ false
-    go true e = absurd (omega (arith, before_low ts t clock each e, le))
-    go false e = refl
-
--- another client's reach stays
-other_reach : (ts : List Entry) (t : Entry) (client clock : ℕ) → t.id.client.0 ≢ client → IsReach ts client clock → IsReach (ts ++ t ∷ []) client clock
-other_reach ts t client clock other is = record {
-  missing = missing_with ts t (id_at client clock) is.missing (covers_other t client clock other);
-  there = λ below lt. there_with ts t (id_at client below) (inl (is.there below lt));
-}
-
--- where the entry begins at its client's reach, that is raised to its end
-raised_reach : (ts : List Entry) (t : Entry) (clock : ℕ) → Each (λ s. StandsBefore s t) ts → clock ≡ t.id.clock → IsReach ts t.id.client.0 clock →
-    IsReach (ts ++ t ∷ []) t.id.client.0 (t.id.clock + t.len)
-raised_reach ts t clock each e is = record {
-  missing = missing_with ts t (id_at t.id.client.0 (t.id.clock + t.len)) (none_from ts t (t.id.clock + t.len) each (omega arith))
-      (covers_behind t t.id.client.0 (t.id.clock + t.len) (omega arith));
-  there = λ below lt. there_with ts t (id_at t.id.client.0 below) (elim (cases_lt below t.id.clock) [
-    | inl less ↦ inl (is.there below (omega (arith, less, e)))
-    | inr le ↦ inr (covers_own t below le lt)
-  ]);
-}
-
--- and else it begins behind it
-kept_reach : (ts : List Entry) (t : Entry) (clock : ℕ) → Each (λ s. StandsBefore s t) ts → clock ≢ t.id.clock → IsReach ts t.id.client.0 clock → IsReach (ts ++ t ∷ []) t.id.client.0 clock
-kept_reach ts t clock each e is = record {
-  missing = missing_with ts t (id_at t.id.client.0 clock) is.missing (covers_before t t.id.client.0 clock before);
-  there = λ below lt. there_with ts t (id_at t.id.client.0 below) (inl (is.there below lt));
+own_end : (span : Span) (spans : List Span) → Each (EndsBefore span) spans → IsEnd spans span.client.0 (start_end spans span.client.0) → (c : Bool) → nat_eq span.clock 0 ≡ c →
+    IsEnd (span ∷ spans) span.client.0 (cond c span.len (start_end spans span.client.0))
+own_end span spans each rest true e = record {
+  missing = λ h. elim h [
+    | inl i ↦ omega (arith, i.2, at)
+    | inr k ↦ (later_none span spans each).ends (subst (λ n. HasId spans (id_at span.client.0 n)) (omega (arith, at)) k)
+  ];
+  there = λ below lt. inl (refl, omega (arith, at), omega (arith, at, lt));
 }
   where
-    before : clock < t.id.clock
-    before = elim (cases_lt t.id.clock clock) [
-      | inl less ↦ absurd (omega (arith, before_low ts t t.id.clock each (is.there t.id.clock less)))
-      | inr le ↦ grind (arith, tests)
-    ]
-
-raised_all : (ts : List Entry) (t : Entry) (old : List (Client × ℕ)) → Each (λ s. StandsBefore s t) ts → IsVector old → clock_of old t.id.client.0 ≡ t.id.clock →
-    Reaches ts old → Reaches (ts ++ t ∷ []) (with_clock (t.id.client, t.id.clock + t.len) old)
-raised_all ts t old each is e are client = go (nat_eq t.id.client.0 client) refl
+    at : span.clock ≡ 0
+    at = grind (arith, tests)
+own_end span spans each rest false e = record {
+  missing = λ h. elim h [
+    | inl i ↦ above i.1
+    | inr k ↦ rest.missing k
+  ];
+  there = λ below lt. inr (rest.there below lt);
+}
   where
-    end : Client × ℕ
-    end = (t.id.client, t.id.clock + t.len)
+    above : span.clock ≤ start_end spans span.client.0 → ⊥
+    above le = let starts = (later_none span spans each).starts in grind (arith, tests)
 
-    go : (b : Bool) → nat_eq t.id.client.0 client ≡ b → IsReach (ts ++ t ∷ []) client (clock_of (with_clock (t.id.client, t.id.clock + t.len) old) client)
-    go true f = subst (λ c. IsReach (ts ++ t ∷ []) c (clock_of (with_clock (t.id.client, t.id.clock + t.len) old) c)) same
-        (subst (IsReach (ts ++ t ∷ []) t.id.client.0) (sym clock) (raised_reach ts t (clock_of old t.id.client.0) each e (are t.id.client.0)))
+other_end : (span : Span) (spans : List Span) (client clock : ℕ) → span.client.0 ≢ client → IsEnd spans client clock → IsEnd (span ∷ spans) client clock
+other_end span spans client clock other rest = record {
+  missing = λ h. elim h [ inl i ↦ other i.0 | inr k ↦ rest.missing k ];
+  there = λ below lt. inr (rest.there below lt);
+}
+
+more_end : (span : Span) (spans : List Span) (client : ℕ) → Each (EndsBefore span) spans → IsEnd spans client (start_end spans client) →
+    IsEnd (span ∷ spans) client (start_end (span ∷ spans) client)
+more_end span spans client each rest = go (nat_eq span.client.0 client) refl
+  where
+    go : (b : Bool) → nat_eq span.client.0 client ≡ b → IsEnd (span ∷ spans) client (cond b (cond (nat_eq span.clock 0) span.len (start_end spans client)) (start_end spans client))
+    go true e = subst (λ c. IsEnd (span ∷ spans) c (cond (nat_eq span.clock 0) span.len (start_end spans c))) same
+        (own_end span spans each (subst (λ c. IsEnd spans c (start_end spans c)) (sym same) rest) (nat_eq span.clock 0) refl)
       where
-        same : t.id.client.0 ≡ client
+        same : span.client.0 ≡ client
         same = grind (arith, tests)
+    go false e = other_end span spans client (start_end spans client) (grind (arith, tests)) rest
 
-        clock : clock_of (with_clock (t.id.client, t.id.clock + t.len) old) t.id.client.0 ≡ t.id.clock + t.len
-        clock = omega (arith, with_this (t.id.client, t.id.clock + t.len) old is, e)
-    go false f = subst (IsReach (ts ++ t ∷ []) client) (sym (with_other (t.id.client, t.id.clock + t.len) old client (λ g. other (sym g)))) (other_reach ts t client (clock_of old client) other (are client))
-      where
-        other : t.id.client.0 ≢ client
-        other = grind (arith, tests)
+spans_end : (spans : List Span) (client : ℕ) → AreMaximal spans → IsEnd spans client (start_end spans client)
+spans_end [] client maximal = record { missing = λ h. h; there = λ below lt. absurd (omega (arith, lt)) }
+spans_end (span ∷ spans) client maximal = more_end span spans client maximal.2 (spans_end spans client maximal.3)
 
-kept_all : (ts : List Entry) (t : Entry) (old : List (Client × ℕ)) → Each (λ s. StandsBefore s t) ts → clock_of old t.id.client.0 ≢ t.id.clock → Reaches ts old → Reaches (ts ++ t ∷ []) old
-kept_all ts t old each e are client = go (nat_eq t.id.client.0 client) refl
+-- ---- the vector
+
+step_vector : (span : Span) (old : List (Client × ℕ)) → IsSpan span → IsVector old → IsVector (started_by span old)
+step_vector span old is vector = go (nat_eq span.clock 0)
   where
-    go : (b : Bool) → nat_eq t.id.client.0 client ≡ b → IsReach (ts ++ t ∷ []) client (clock_of old client)
-    go true f = subst (λ c. IsReach (ts ++ t ∷ []) c (clock_of old c)) same (kept_reach ts t (clock_of old t.id.client.0) each e (are t.id.client.0))
+    go : (b : Bool) → IsVector (cond b (with_clock (span.client, span.len) old) old)
+    go true = with_vector (span.client, span.len) old is.client (omega (arith, is.end)) vector
+    go false = vector
+
+started_vector : (spans : List Span) (old : List (Client × ℕ)) → AreMaximal spans → IsVector old → IsVector (all_started spans old)
+started_vector [] old maximal vector = vector
+started_vector (span ∷ spans) old maximal vector = started_vector spans (started_by span old) maximal.3 (step_vector span old maximal.0 vector)
+
+-- a client's clock is the greater of its old one and of that end
+step_clock : (span : Span) (old : List (Client × ℕ)) (client : ℕ) → IsVector old → clock_of (started_by span old) client ≡ max (clock_of old client) (start_end (span ∷ []) client)
+step_clock span old client vector = go (nat_eq span.clock 0) (nat_eq span.client.0 client) refl
+  where
+    go : (c b : Bool) → nat_eq span.client.0 client ≡ b →
+        clock_of (cond c (with_clock (span.client, span.len) old) old) client ≡ max (clock_of old client) (cond b (cond c span.len 0) 0)
+    go true true e = ap (clock_of (with_clock (span.client, span.len) old)) (sym same) ∙ with_this (span.client, span.len) old vector ∙ ap (λ n. max (clock_of old n) span.len) same
       where
-        same : t.id.client.0 ≡ client
+        same : span.client.0 ≡ client
         same = grind (arith, tests)
-    go false f = other_reach ts t client (clock_of old client) other (are client)
+    go true false e = with_other (span.client, span.len) old client other ∙ omega arith
       where
-        other : t.id.client.0 ≢ client
+        other : client ≢ span.client.0
         other = grind (arith, tests)
+    go false true e = omega arith
+    go false false e = omega arith
 
--- ---- all entries
-
-step_vector : (t : Entry) (old : List (Client × ℕ)) → EndsInRange t → IsVector old → IsVector (raised_by t old)
-step_vector t old range is = go (nat_eq (clock_of old t.id.client.0) t.id.clock)
+one_end : (span : Span) (spans : List Span) (client : ℕ) → Each (EndsBefore span) spans → max (start_end (span ∷ []) client) (start_end spans client) ≡ start_end (span ∷ spans) client
+one_end span spans client each = go (nat_eq span.client.0 client) refl (nat_eq span.clock 0)
   where
-    go : (b : Bool) → IsVector (cond b (with_clock (t.id.client, t.id.clock + t.len) old) old)
-    go true = with_vector (t.id.client, t.id.clock + t.len) old range.client range.end is
-    go false = is
-
-step_reaches : (ts : List Entry) (t : Entry) (old : List (Client × ℕ)) → Each (λ s. StandsBefore s t) ts → IsVector old → Reaches ts old → Reaches (ts ++ t ∷ []) (raised_by t old)
-step_reaches ts t old each is are = go (nat_eq (clock_of old t.id.client.0) t.id.clock) refl
-  where
-    go : (b : Bool) → nat_eq (clock_of old t.id.client.0) t.id.clock ≡ b → Reaches (ts ++ t ∷ []) (cond b (with_clock (t.id.client, t.id.clock + t.len) old) old)
-    go true e = raised_all ts t old each is at are
+    go : (b : Bool) → nat_eq span.client.0 client ≡ b → (c : Bool) →
+        max (cond b (cond c span.len 0) 0) (start_end spans client) ≡ cond b (cond c span.len (start_end spans client)) (start_end spans client)
+    go true e true = omega (arith, subst (λ n. start_end spans n ≡ 0) same (later_none span spans each).starts)
       where
-        at : clock_of old t.id.client.0 ≡ t.id.clock
-        at = grind (arith, tests)
-    go false e = kept_all ts t old each other are
-      where
-        other : clock_of old t.id.client.0 ≢ t.id.clock
-        other = grind (arith, tests)
+        same : span.client.0 ≡ client
+        same = grind (arith, tests)
+    go true e false = omega arith
+    go false e c = omega arith
 
--- entries stand before the first of those that follow
-front_of : (front : List Entry) (t : Entry) (ts : List Entry) → AreInOrder (front ++ t ∷ ts) → Each (λ s. StandsBefore s t) front
-front_of [] t ts order = tt
-front_of (s ∷ front) t ts order = (before front order.0, front_of front t ts order.1)
+started_clock : (spans : List Span) (old : List (Client × ℕ)) (client : ℕ) → AreMaximal spans → IsVector old →
+    clock_of (all_started spans old) client ≡ max (clock_of old client) (start_end spans client)
+started_clock [] old client maximal vector = omega arith
+started_clock (span ∷ spans) old client maximal vector =
+    let rest = started_clock spans (started_by span old) client maximal.3 (step_vector span old maximal.0 vector) in
+    omega (arith, rest, step_clock span old client vector, one_end span spans client maximal.2)
+
+-- ---- lemmas for callers
+
+-- the set of the spans of groups gives the vector that their operations reach
+pub started_reaches : (groups : List Group) (spans set : List Span) (vector : List (Client × ℕ)) → spans ≡ spans_of groups → AreMaximal set → HaveSameIds set spans →
+    vector ≡ all_started set [] → Reaches (operations_of_groups groups) vector
+started_reaches groups spans set vector e maximal ids is client = record {
+  missing = test_fails (has_operation (operations_of_groups groups) (id_at client (clock_of vector client)))
+      (λ f. end.missing (subst (λ n. HasId set (id_at client n)) clock (there (id_at client (clock_of vector client)) f)));
+  there = λ below lt. has (id_at client below) (end.there below (omega (arith, lt, clock)));
+}
   where
-    before : (us : List Entry) → Each (StandsBefore s) (us ++ t ∷ ts) → StandsBefore s t
-    before [] each = each.0
-    before (u ∷ us) each = before us each.1
+    end : IsEnd set client (start_end set client)
+    end = spans_end set client maximal
 
-raises_all : (front ts : List Entry) (vector : List (Client × ℕ)) → AreInOrder (front ++ ts) → Each EndsInRange ts → IsVector vector → Reaches front vector →
-    IsVector (all_raised ts vector) × Reaches (front ++ ts) (all_raised ts vector)
-raises_all front [] vector order range is are = (is, subst (λ us. Reaches us vector) (sym (append-nil front)) are)
-raises_all front (t ∷ ts) vector order range is are =
-    let rest = raises_all (front ++ t ∷ []) ts (raised_by t vector) (subst AreInOrder (sym same) order) range.1 (step_vector t vector range.0 is)
-    (step_reaches front t vector (front_of front t ts order) is are) in
-    (rest.0, subst (λ us. Reaches us (all_raised ts (raised_by t vector))) same rest.1)
+    clock : clock_of vector client ≡ start_end set client
+    clock = ap (λ v. clock_of v client) is ∙ started_clock set [] client maximal tt ∙ omega arith
+
+    has : (x : Id) → HasId set x → has_operation (operations_of_groups groups) x ≡ true
+    has x h = has_span groups x (subst (λ ss. HasId ss x) e ((ids x).0 h))
+
+    there : (x : Id) → has_operation (operations_of_groups groups) x ≡ true → HasId set x
+    there x f = (ids x).1 (subst (λ ss. HasId ss x) (sym e) (span_has groups x f))
+
+-- what is lent has spans
+pub lent_spans : (lents : List Lent) → Each IsLent lents → Each IsSpan (spans_of (map lent_group lents))
+lent_spans [] each = tt
+lent_spans (lent ∷ lents) each = (record { client = each.0.valid.client; end = each.0.valid.end }, lent_spans lents each.1)
+
+-- a vector that has of each client how far operations reach, which have the ids of an update, is the update's
+pub reach_is : (update : UpdateValue) (os : List Operation) (vector : List (Client × ℕ)) → IsValidUpdate update →
+    ((x : Id) → has_operation (operations_of update) x ≡ true ↔ has_operation os x ≡ true) → IsVector vector → Reaches os vector → vector ≡ reach_of update
+reach_is update os vector valid there is reaches = vectors_same vector (reach_of update) is (reach_vector update valid) same
   where
-    same : (front ++ t ∷ []) ++ ts ≡ front ++ t ∷ ts
-    same = append_assoc front (t ∷ []) ts
-
-reaches_none : Reaches [] []
-reaches_none client = record { missing = refl; there = λ below lt. absurd (omega (arith, lt)) }
-
-in_range : (runs : List Run) (ts : List Entry) → Each (IsTakenOf runs) ts → Each EndsInRange ts
-in_range runs ts each = each_weaker (IsTakenOf runs) EndsInRange (λ t is. record { client = is.id.client; units = is.has_units; end = is.end }) ts each
-
--- an update reaches as far as what is received of it
-reach_received : (update : UpdateValue) (runs : List Run) (ts : List Entry) (vector : List (Client × ℕ)) → IsValidUpdate update → AreTaken runs ts →
-    operations_in runs ts ≡ with_groups (groups_of update) [] → IsVector vector → Reaches ts vector → vector ≡ reach_of update
-reach_received update runs ts vector valid taken e is reaches = vectors_same vector (reach_of update) is (reach_vector update valid) same
-  where
-    there : (x : Id) → is_covered ts x ≡ true ↔ has_operation (operations_of update) x ≡ true
-    there x = let ids = merge_ids (update ∷ []) (valid, tt) x in
-        let all = ap (λ os. has_operation os x) (append-nil (operations_of update)) in
-        let mine = ap (λ os. has_operation os x) (merge-operations (update ∷ []) (valid, tt) ∙ sym e) ∙ has_covered runs ts x taken.each in (
-          (λ f. sym all ∙ ids.0 (mine ∙ f)),
-          (λ f. sym mine ∙ ids.1 (all ∙ f)),
-        )
-
     same : (client : ℕ) → clock_of vector client ≡ clock_of (reach_of update) client
     same client = elim (cases_lt (clock_of vector client) (clock_of (reach_of update) client)) [
-      | inl less ↦ absurd (true≢false (sym ((there (id_at client (clock_of vector client))).1 (reach_there update valid client (clock_of vector client) less)) ∙ (reaches client).missing))
+      | inl less ↦ absurd (true≢false (sym ((there (id_at client (clock_of vector client))).0 (reach_there update valid client (clock_of vector client) less)) ∙ (reaches client).missing))
       | inr le ↦ elim (cases_lt (clock_of (reach_of update) client) (clock_of vector client)) [
-        | inl more ↦ absurd (true≢false (sym ((there (id_at client (clock_of (reach_of update) client))).0 ((reaches client).there (clock_of (reach_of update) client) more))
+        | inl more ↦ absurd (true≢false (sym ((there (id_at client (clock_of (reach_of update) client))).1 ((reaches client).there (clock_of (reach_of update) client) more))
             ∙ reach_missing update valid client))
         | inr ge ↦ omega (arith, le, ge)
       ]
     ]
 
--- ---- lemmas for callers
+pub reach_one : (update : UpdateValue) (groups : List Group) (vector : List (Client × ℕ)) → IsValidUpdate update → groups ≡ blocks_groups update.blocks → IsVector vector →
+    Reaches (operations_of_groups groups) vector → vector ≡ reach_of update
+reach_one update groups vector valid e is reaches = reach_is update (operations_of_groups groups) vector valid
+    (λ x. ((λ f. ap (λ os. has_operation os x) same ∙ f), (λ f. sym (ap (λ os. has_operation os x) same) ∙ f))) is reaches
+  where
+    same : operations_of_groups groups ≡ operations_of update
+    same = ap operations_of_groups e ∙ blocks-groups-operations update.blocks
 
-pub range_of : (r : ReceivedValue) (ts : List Entry) → IsReceived r → ts ≡ r.entries → Each EndsInRange ts
-range_of r ts taken e = subst (Each EndsInRange) (sym e) (in_range r.runs r.entries taken.each)
-
-pub raise_next : (ts : List Entry) (i : ℕ) (d : Entry) (old new : List (Client × ℕ)) → i < length ts → new ≡ raised_by (get_or ts i d) old →
-    all_raised (drop (i + 1) ts) new ≡ all_raised (drop i ts) old
-raise_next ts i d old new lt e = ap (all_raised (drop (i + 1) ts)) e ∙ ap (λ us. all_raised us old) (sym (drop_more ts i d lt))
-
-pub raise_last : (ts : List Entry) (i : ℕ) (vector : List (Client × ℕ)) → length ts ≤ i → all_raised (drop i ts) vector ≡ all_raised ts [] → vector ≡ all_raised ts []
-raise_last ts i vector le e = ap (λ us. all_raised us vector) (sym (drop_all i ts le)) ∙ e
-
--- what is received of an update alone reaches as far as that
-pub reach_taken : (update : UpdateValue) (old r : ReceivedValue) (ts : List Entry) (vector : List (Client × ℕ)) → IsValidUpdate update → old ≡ record { runs = []; entries = [] } →
-    taken_of r ≡ with_groups (groups_of update) (taken_of old) → IsReceived r → ts ≡ r.entries → vector ≡ all_raised ts [] → vector ≡ reach_of update
-reach_taken update old r ts vector valid none took taken e is = let all = raises_all [] r.entries [] taken.in_order (in_range r.runs r.entries taken.each) tt reaches_none in
-    is ∙ ap (λ us. all_raised us []) e
-    ∙ reach_received update r.runs r.entries (all_raised r.entries []) valid taken (took ∙ ap (λ o. with_groups (groups_of update) (taken_of o)) none) all.0 all.1
+pub reach_all : (updates : List UpdateValue) (groups : List Group) (vector : List (Client × ℕ)) → Each IsValidUpdate updates → groups ≡ updates_groups updates → IsVector vector →
+    Reaches (operations_of_groups groups) vector → vector ≡ reach_of (merge_of updates)
+reach_all updates groups vector valid e is reaches = reach_is (merge_of updates) (operations_of_groups groups) vector (merge_valid updates valid)
+    (λ x. let ids = merge_ids updates valid x in let same = ap (λ os. has_operation os x) (ap operations_of_groups e ∙ updates-operations updates) in
+    ((λ f. same ∙ ids.0 f), (λ f. ids.1 (sym same ∙ f)))) is reaches

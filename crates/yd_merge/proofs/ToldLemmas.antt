@@ -38,7 +38,7 @@ entry-operations runs t is = go t.is_gone is.told
     go true told = refl
     go false told = told-operations t (slice_get runs t.run) is.has_units told.within
 
-carries_none : (left right : Option Id) (list : Option DocList) → CarriesList left right list → (y : Id) → left ≡ Some y → list ≡ None
+pub carries_none : (left right : Option Id) (list : Option DocList) → CarriesList left right list → (y : Id) → left ≡ Some y → list ≡ None
 carries_none left right None carries y e = refl
 carries_none None right (Some list) carries y e = absurd cc
 carries_none (Some x) right (Some list) carries y e = absurd carries

@@ -1,5 +1,6 @@
 pub mod Builder
 pub mod Cutting
+pub mod Lending
 pub mod Named
 pub mod Reaching
 pub mod Told

@@ -1,10 +1,13 @@
-use Rattle.std.proofs.Common.{◌∙◌, arith}
-use Rattle.yd_merge.proofs.ReachingLemmas.{raise_last, raise_next}
+use Rattle.std.proofs.Common.{map, sym, subst}
+use Rattle.yd_words.specs.Each.{Each}
+use Rattle.yd_ids.specs.Id.{IsSpan}
+use Rattle.yd_merge.specs.Lending.{lent_group}
+use Rattle.yd_merge.proofs.ReachingLemmas.{lent_spans, started_reaches}
 use Rattle.yd_merge.proofs.reaching.reached.Goals as goal
 
-pub loop-entry-preserved : goal.loop-entry-preserved
-loop-entry-preserved c = raise_next c.args.entries.now c.loop-entry.entry-index _ c.loop-entry.vector c.raise_by.new.vector c.loop-entry-test.true c.in_ok-raise_by.ensures
-    ∙ c.loop-entry.invariant
+pub of_spans-requires : goal.of_spans-requires
+of_spans-requires c = subst (Each IsSpan) (sym c.in_ok-spans.ensures) (lent_spans c.args.lents.now c.requires)
 
-pub returns : goal.returns
-returns c = raise_last c.args.entries.now c.loop-entry.entry-index c.loop-entry.vector (omega (arith, c.loop-entry-test.false)) c.loop-entry.invariant
+pub returns-clause-reaches : goal.returns-clause-reaches
+returns-clause-reaches c = started_reaches (map lent_group c.args.lents.now) c.in_ok-spans.spans.items c.in_ok-ids.ids c.in_ok-vector.vector c.in_ok-spans.ensures
+    c.in_ok-ids.ensures.maximal c.in_ok-ids.ensures.ids c.in_ok-vector.ensures
