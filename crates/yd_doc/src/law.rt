@@ -8,6 +8,7 @@ ghost use Rattle.yd_updates.specs.Received.{received_after};
 ghost use Rattle.yd_meaning.specs.Document.{IsDocumentOf};
 ghost use Rattle.yd_meaning.specs.Held.{held_clock, held_set};
 ghost use Rattle.yd_meaning.specs.Law.{IsCompleted};
+ghost use Rattle.yd_grouping.specs.Groupable.{AreGroupable};
 ghost use Rattle.yd_grouping.specs.Merged.{reply_of};
 ghost use Rattle.yd_editing.specs.Law.{MakesContent, EditIsTaken};
 ghost use Rattle.yd_editing.specs.Refused.{refusal_of};
@@ -44,6 +45,15 @@ pub fn replies_complete(answerer: &Replica, asker: &Replica, vector: &Vector)
 /// What a replica received is what valid updates bring: in the order of writing, with whole pairs.
 pub fn received_is_sound(replica: &Replica)
     ensures { IsReceived (received_of replica.now) }
+{
+    // What is kept is looked at, since its invariant says this.
+    let _received = replica.state.received();
+}
+
+/// Each operation that a replica received is one of a valid update: its ids are in range and what it
+/// holds is valid.
+pub fn received_is_valid(replica: &Replica)
+    ensures { AreGroupable (received_of replica.now).operations }
 {
     // What is kept is looked at, since its invariant says this.
     let _received = replica.state.received();

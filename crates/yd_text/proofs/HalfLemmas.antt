@@ -1,18 +1,18 @@
 -- An index parts a pair exactly where the units beside it are its halves by their ids, since pairs are whole.
-use Rattle.std.proofs.Common.{◌≡◌, ◌<◌, ◌-◌, ℕ, zero, suc, Bool, true, false, ◌&&◌, List, [], ◌∷◌, Option, Some, None, inl, inr, refl, sym, ap, ap₂, ◌∙◌, subst, arith, tests, true≢false}
-use Rattle.std.specs.Prelude.{filter, not, if◌then◌else◌}
+use Rattle.std.proofs.Common.{◌≡◌, ◌<◌, ◌-◌, ℕ, zero, suc, Bool, true, false, ◌&&◌, List, [], ◌∷◌, Option, Some, inl, inr, refl, sym, ap, ap₂, ◌∙◌, subst, arith, true≢false}
+use Rattle.std.specs.Prelude.{not, if◌then◌else◌}
 use Rattle.yd_words.specs.Member.{IsIn}
 use Rattle.yd_words.proofs.FilterLemmas.{kept_one}
 use Rattle.yd_ids.specs.declared.id.Id.{Id}
 use Rattle.yd_ids.specs.Ids.{is_same, is_same_neighbour}
-use Rattle.yd_ids.proofs.IdLemmas.{same_is, same_itself, other_id, written_differs}
+use Rattle.yd_ids.proofs.IdLemmas.{same_is, same_itself, written_differs}
 use Rattle.yd_ops.specs.declared.lists.List.{List as DocList}
 use Rattle.yd_ops.specs.Operation.{Operation, later_id}
 use Rattle.yd_updates.specs.Law.{ArePaired}
 use Rattle.yd_updates.specs.Pairs.{is_high, is_low, is_text_and, are_partners}
 use Rattle.yd_updates.specs.Received.{IsWritten}
 use Rattle.yd_meaning.specs.Document.{Document}
-use Rattle.yd_meaning.specs.Text.{live_units, has_partner_behind}
+use Rattle.yd_meaning.specs.Text.{live_units}
 use Rattle.yd_shown.specs.Shown.{is_counted}
 use Rattle.yd_editing.specs.Refused.{has_high}
 use Rattle.yd_editing.specs.TextEdit.{counted_units, unit_at, parts_pair}

@@ -1,3 +1,6 @@
 pub mod HalfLemmas
+pub mod MarkLemmas
 pub mod RangeLemmas
 pub mod RefusalLemmas
+pub mod RowLemmas
+pub mod ShowingLemmas

@@ -157,16 +157,18 @@ all_spans : (os : List Operation) → ((x : Id) → IsIn x (map (λ (o : Operati
 all_spans [] f = tt
 all_spans (o ∷ os) f = (f o.id (inl refl), all_spans os (λ x i. f x (inr i)))
 
+-- a set with just the ids of units is theirs
+pub ids_are : (ids : List Span) (units : List Operation) → AreMaximal ids → ((x : Id) → HasId ids x ↔ IsIn x (map (λ (o : Operation). o.id) units)) → ids ≡ ids_of_units units
+ids_are ids units maximal same = set_of_alone (spans_of units) ids
+    (all_spans units (λ x i. in_range ids x maximal ((same x).1 i))) maximal
+    (λ x. ((λ h. spans_have units x ((same x).0 h)), (λ h. (same x).1 (have_spans units x h))))
+
 -- a set with just the ids of the range is that of its units
 pub range_is : (ids : List Span) (document : Document) (name : DocList) (index len : ℕ) → AreMaximal ids →
     ((x : Id) → HasId ids x ↔ IsIn x (take len (drop index (counted_ids (lent_units document name))))) → ids ≡ ids_of_units (take len (drop index (counted_units document name)))
-range_is ids document name index len maximal same = set_of_alone (spans_of units) ids
-    (all_spans units (λ x i. in_range ids x maximal ((same x).1 (subst (IsIn x) (sym are) i)))) maximal
-    (λ x. ((λ h. spans_have units x (subst (IsIn x) are ((same x).0 h))), (λ h. (same x).1 (subst (IsIn x) (sym are) (have_spans units x h)))))
+range_is ids document name index len maximal same = ids_are ids (take len (drop index (counted_units document name))) maximal
+    (λ x. ((λ h. subst (IsIn x) are ((same x).0 h)), (λ i. (same x).1 (subst (IsIn x) (sym are) i))))
   where
-    units : List Operation
-    units = take len (drop index (counted_units document name))
-
     are : take len (drop index (counted_ids (lent_units document name))) ≡ map (λ (o : Operation). o.id) (take len (drop index (counted_units document name)))
     are = ap (λ xs. take len (drop index xs)) (counted_lent document.deleted (document.units name))
         ∙ ap (take len) (drop-map (λ (o : Operation). o.id) index (counted_units document name))

@@ -1,8 +1,8 @@
-//! Edits of a text at an index: insertions, embeds and deletions.
+//! Edits of a text at an index: insertions, embeds, deletions and formats.
 //!
 //! An index counts live counted units, so UTF-16 units of text, and each embed as one. Each call is
 //! one edit of the replica: it makes one update, which the replica takes, or it is refused and the
-//! replica is as before.
+//! replica is as before. What is seen afterwards stands in [`law`].
 //!
 //! ```rust
 //! let update = insert(alloc, &mut replica, &list, 0, "Hello")?;
@@ -11,11 +11,16 @@
 #![tactic(auto)]
 
 mod deleting;
+mod formatting;
 mod inserting;
+pub mod law;
+mod marks;
+mod neighbours;
 mod placing;
 mod ranges;
 mod refusing;
 
 pub use deleting::delete;
+pub use formatting::format;
 pub use inserting::{embed, insert};
 pub use yd_doc::EditFault;

@@ -1,6 +1,6 @@
 //! Why an edit at an index is refused before its steps are asked.
 
-ghost use Rattle.std.specs.Prelude.{◌≡◌, ◌+◌};
+ghost use Rattle.std.specs.Prelude.{◌≡◌, ◌+◌, ◌^◌, ◌<◌, IfNone};
 ghost use Rattle.yd_editing.specs.Step.{first_or};
 ghost use Rattle.yd_editing.specs.TextEdit.{counted_units, list_refusal, end_refusal, index_refusal};
 ghost use Rattle.yd_making.specs.Steps.{fault_given};
@@ -44,10 +44,11 @@ pub(crate) fn place_fault(replica: &Replica, list: &List, index: u64) -> Option<
 
 /// The length, where the end of the range is past it, and else the first end that parts a pair.
 pub(crate) fn range_fault(replica: &Replica, list: &List, index: u64, len: u64) -> Option<EditFault>
-    ensures { result ≡ fault_given (first_or
+    ensures fault { result ≡ fault_given (first_or
         (end_refusal (counted_units (own_document replica.now) list.now) (index + len))
         (first_or (index_refusal (counted_units (own_document replica.now) list.now) index)
         (index_refusal (counted_units (own_document replica.now) list.now) (index + len)))) }
+    ensures in_range { IfNone result (index + len < 2 ^ 64) }
 {
     let length = replica.length(list);
     if length < index {

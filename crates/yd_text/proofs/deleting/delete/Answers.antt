@@ -1,8 +1,8 @@
-use Rattle.std.proofs.Common.{◌≡◌, ◌+◌, List, [], ◌∷◌, None, sym, ◌∙◌, subst}
+use Rattle.std.proofs.Common.{◌+◌, List, [], ◌∷◌, sym, ◌∙◌, subst}
 use Rattle.yd_ids.specs.declared.id.Span.{Span}
 use Rattle.yd_ops.specs.View.{update_value}
 use Rattle.yd_editing.specs.Step.{remove, first_or}
-use Rattle.yd_editing.specs.TextEdit.{counted_units, end_refusal, index_refusal, delete_refusal}
+use Rattle.yd_editing.specs.TextEdit.{counted_units, end_refusal, index_refusal}
 use Rattle.yd_doc.specs.Editing.{own_basis, IsEdit}
 use Rattle.yd_doc.proofs.CauseLemmas.{accepted_given}
 use Rattle.yd_text.proofs.RefusalLemmas.{delete_refused}
@@ -17,4 +17,4 @@ returns-in-Ok-clause-accepted c =
     let units = counted_units basis.document c.args.list.now in
     sym (delete_refused basis c.args.list.now c.args.index c.args.len c.in_ok-ids.ids
     (accepted_given (first_or (end_refusal units (c.args.index + c.args.len)) (first_or (index_refusal units c.args.index) (index_refusal units (c.args.index + c.args.len))))
-    (sym c.in_default.is ∙ c.range_fault.ensures)) c.in_ok-ids.ensures) ∙ c.in-Ok.ensures.done.accepted
+    (sym c.in_default.is ∙ c.range_fault.ensures.fault)) c.in_ok-ids.ensures) ∙ c.in-Ok.ensures.done.accepted

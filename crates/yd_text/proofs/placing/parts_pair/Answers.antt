@@ -1,4 +1,4 @@
-use Rattle.std.proofs.Common.{sym, ◌∙◌, arith}
+use Rattle.std.proofs.Common.{◌∙◌, arith}
 use Rattle.yd_editing.specs.TextEdit.{counted_units}
 use Rattle.yd_doc.specs.Kept.{received_of, own_document}
 use Rattle.yd_text.proofs.HalfLemmas.{none_parted, index_parts}

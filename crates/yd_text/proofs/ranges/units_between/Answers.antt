@@ -1,6 +1,5 @@
-use Rattle.std.proofs.Common.{◌⊎◌, ◌↔◌, List, [], ◌++◌, take, drop, inl, inr, sym, ap, ◌∙◌, subst}
+use Rattle.std.proofs.Common.{◌⊎◌, ◌↔◌, List, take, drop, sym, ap, ◌∙◌, subst}
 use Rattle.yd_words.specs.Member.{IsIn}
-use Rattle.yd_ids.specs.declared.id.Id.{Id}
 use Rattle.yd_ids.specs.Set.{HasId, AreMaximal}
 use Rattle.yd_state.specs.Lent.{Lent, lent_units, units_left, units_of_view}
 use Rattle.yd_doc.specs.Counted.{counted_ids}
