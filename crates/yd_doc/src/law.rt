@@ -50,13 +50,12 @@ pub fn received_is_sound(replica: &Replica)
     let _received = replica.state.received();
 }
 
-/// Each operation that a replica received is one of a valid update: its ids are in range and what it
-/// holds is valid.
-pub fn received_is_valid(replica: &Replica)
+/// What a replica received can be grouped, so that each reply of it is valid.
+pub fn received_can_be_grouped(replica: &Replica)
     ensures { AreGroupable (received_of replica.now).operations }
 {
-    // What is kept is looked at, since its invariant says this.
-    let _received = replica.state.received();
+    // What is kept is looked at, since its invariant says that this is of valid updates.
+    let _state = &replica.state;
 }
 
 /// Where an edit is not refused, what is received after it is what was there with the made operations

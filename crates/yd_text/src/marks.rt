@@ -18,7 +18,7 @@ ghost use Rattle.yd_text.specs.Rows.{is_in_row};
 use crate::neighbours::has_id;
 use std::alloc::Global;
 use yd_any::{Json, Text};
-use yd_doc::law::received_is_valid;
+use yd_doc::law::received_can_be_grouped;
 use yd_doc::{EditFault, Replica, RunView};
 use yd_ids::{Id, IdSet, NoMemory, Span};
 use yd_ops::{Content, List};
@@ -37,7 +37,7 @@ pub(crate) fn value_at(
     ensures memory { IfErr result (λ fault. fault ≡ NoRoom) }
 {
     // What is received is looked at, since its values are valid.
-    received_is_valid(replica);
+    received_can_be_grouped(replica);
     let mut view = replica.list(list);
     let mut value = None;
     while let Some(piece) = view.next() {

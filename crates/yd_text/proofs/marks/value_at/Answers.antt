@@ -20,7 +20,7 @@ loop-piece-init c = record {
   value = refl;
   valid = refl;
   hold = subst HoldValid (sym c.list-view.ensures.units) (hold_valid (own_document c.args.replica.now) c.args.list.now (received_of c.args.replica.now).operations
-      c.received_is_valid.ensures.valid c.list-view.ensures.received);
+      c.received_can_be_grouped.ensures.valid c.list-view.ensures.received);
 }
 
 pub loop-piece-smaller-then-piece : goal.loop-piece-smaller-then-piece
