@@ -93,7 +93,7 @@ states_told [] all = tt
 states_told (row ∷ rest) all = each_append IsEntry _ (states_of rest) (where_told (is_some row.1.state) _ all.0) (states_told rest all.1)
 
 -- what is known of a client is told as an entry
-standing_told : (rows : List Row) (client : ℕ) → Each IsRow rows → ((standing_in rows client).clock < 2 ^ 53) × IfSome (standing_in rows client).state IsState
+pub standing_told : (rows : List Row) (client : ℕ) → Each IsRow rows → ((standing_in rows client).clock < 2 ^ 53) × IfSome (standing_in rows client).state IsState
 standing_told [] client all = (none_fits, tt)
   where
     none_fits : 0 < 2 ^ 53

@@ -58,7 +58,8 @@ impl Awareness {
 
     /// The own client.
     pub fn own(&self) -> Option<Client>
-        ensures { result ≡ self.now.own }
+        ensures own { result ≡ self.now.own }
+        ensures valid { IfSome result IsClient }
     {
         self.own
     }
@@ -135,6 +136,7 @@ impl Awareness {
         ensures full { (result ≡ Err ClockFull)
             ↔ (is_some (own_standing self.old.own self.old.rows).state ≡ true)
             × (is_clock_full self.old.own self.old.rows ≡ true) }
+        ensures only_full { OnErr result (result ≡ Err ClockFull) }
         ensures unchanged { OnErr result (self.new ≡ self.old) }
     {
         let Some(own) = self.own else {
@@ -221,6 +223,7 @@ impl Awareness {
     pub fn get(&self, client: Client) -> (u64, Option<&str>)
         ensures clock { result.0 ≡ (standing_in self.now.rows client.0).clock }
         ensures state { option_copied result.1 ≡ (standing_in self.now.rows client.0).state }
+        ensures valid { IfSome (standing_in self.now.rows client.0).state IsState }
     {
         match seat_of(&self.rows, client.0) {
             None => (0, None),

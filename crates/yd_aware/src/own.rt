@@ -111,6 +111,7 @@ pub(crate) fn renew_own(rows: &mut Rows, own: Client, now: u64) -> Result<(), Aw
         × (nat_le (2 ^ 53 - 1) (standing_in rows.old.entries own.0).clock ≡ true) }
     ensures fits { OnOk result (is_some (standing_in rows.old.entries own.0).state ≡ true
         → suc (standing_in rows.old.entries own.0).clock < 2 ^ 53) }
+    ensures only_full { OnErr result (result ≡ Err ClockFull) }
     ensures unchanged { OnErr result (rows.new.entries ≡ rows.old.entries) }
 {
     let is_stated = has_state(rows, own);
