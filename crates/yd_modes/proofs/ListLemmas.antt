@@ -1,5 +1,6 @@
 -- What is made of pieces: their values, and their objects.
-use Rattle.std.proofs.Common.{◌≡◌, ◌<◌, ℕ, List, [], ◌∷◌, map, length, refl, sym, ap, ◌∙◌, subst, arith, rules}
+use Rattle.std.proofs.Common.{◌≡◌, ◌<◌, ℕ, false, List, [], ◌∷◌, map, length, refl, sym, ap, ◌∙◌, subst, arith, rules}
+use Rattle.std.specs.Bool.{◌==◌}
 use Rattle.std.specs.Prelude.{codes}
 use Rattle.yd_any.specs.Tree.{AnyTree, AnyTrees, AnyFields, list, pairs, no_trees, tree, no_fields, field, with_last}
 use Rattle.yd_value.specs.View.{shown_tree, shown_trees, shown_fields, entries_fields}
@@ -34,6 +35,16 @@ joined_trees-last (tree v ts) t us = ap (tree v) (joined_trees-last ts t us)
 pub joined_trees-none : (ts : AnyTrees) → joined_trees ts no_trees ≡ ts
 joined_trees-none no_trees = refl
 joined_trees-none (tree t ts) = ap (tree t) (joined_trees-none ts)
+
+-- none are left where there are none
+pub no_items : {X : Type 0} (xs : List X) → length xs ≡ 0 → xs ≡ []
+no_items [] e = refl
+no_items (x ∷ xs) e = absurd (omega (arith, e))
+
+-- some are there where it is not so
+pub some_items : {X : Type 0} (xs : List X) → (length xs == 0) ≡ false → 0 < length xs
+some_items [] e = absurd cc
+some_items (x ∷ xs) e = omega arith
 
 -- a list's tree has those of its values
 pub shown_tree-List : (values : ShownList) → shown_tree (Listed values) ≡ list (shown_trees values)

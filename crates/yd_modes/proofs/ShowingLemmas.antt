@@ -207,6 +207,19 @@ under_piece show d p key view left front alike within one lends last =
     ∙ ap (λ t. if not view.deleted && t then Some (show (bare view.id (unit_of_view view).content)) else None)
     (counted_at view.content.now view.offset (unit_of_view view).content (unit_got view within one))
 
+-- so it is shown where it is live and counted, and else nothing is
+pub under_shown : (show : Operation → AnyTree) (d : Document) (p : Parent) (key : List ℕ) (view : RunView) (left front : List Lent) → ((o : Operation) → show (bare o.id o.content) ≡ show o) →
+    IsWithin view → view.len ≡ 1 → left ≡ lent_units d (key_list p key) → left ≡ front ++ units_of_view view → not view.deleted && are_counted view.content.now ≡ true →
+    Some (show (bare view.id (unit_of_view view).content)) ≡ value_under show d p key
+under_shown show d p key view left front alike within one lends last is =
+    sym (under_piece show d p key view left front alike within one lends last ∙ ap (λ t. if t then Some (show (bare view.id (unit_of_view view).content)) else None) is)
+
+pub under_hidden : (show : Operation → AnyTree) (d : Document) (p : Parent) (key : List ℕ) (view : RunView) (left front : List Lent) → ((o : Operation) → show (bare o.id o.content) ≡ show o) →
+    IsWithin view → view.len ≡ 1 → left ≡ lent_units d (key_list p key) → left ≡ front ++ units_of_view view → not view.deleted && are_counted view.content.now ≡ false →
+    None ≡ value_under show d p key
+under_hidden show d p key view left front alike within one lends last is =
+    sym (under_piece show d p key view left front alike within one lends last ∙ ap (λ t. if t then Some (show (bare view.id (unit_of_view view).content)) else None) is)
+
 -- a type is the one unit of its content
 pub nested_unit : (view : RunView) (kind : Kind) → view.content.now ≡ Nested kind → IsWithin view → view.len ≡ 1 → (unit_of_view view).content ≡ nested_type kind
 nested_unit view kind e within one =

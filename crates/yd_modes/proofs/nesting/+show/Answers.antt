@@ -1,0 +1,161 @@
+use Rattle.std.proofs.Common.{◌≡◌, ◌≤◌, ◌+◌, ◌-◌, Some, length, map, refl, sym, ap, ◌∙◌, subst, arith}
+use Rattle.std.proofs.lemmas.Result.{IfOk-weaker, on_ok_weaker}
+use Rattle.std.specs.Prelude.{slice_get}
+use Rattle.std.specs.Vec.Iter.{into_iter_items}
+use Rattle.yd_any.specs.Tree.{list, no_fields}
+use Rattle.yd_doc.specs.Kept.{received_of, own_document}
+use Rattle.yd_ops.specs.Operation.{UnitContent, nested_type, units_of_content}
+use Rattle.yd_ops.specs.declared.lists.Parent.TheVariants.{Item}
+use Rattle.yd_ops.specs.Value.{len_of}
+use Rattle.yd_ops.specs.View.{content_value}
+use Rattle.yd_ops.specs.declared.contents.Content.TheVariants.{Nested}
+use Rattle.yd_shown.specs.Shown.{field_before, fields_under, shown_type, value_within}
+use Rattle.yd_state.specs.Lent.{lent_units, units_left}
+use Rattle.yd_value.specs.View.{shown_fields, shown_tree}
+use Rattle.yd_view.proofs.TextLemmas.{fewer_left}
+use Rattle.yd_modes.specs.Gathering.{gathered, made, told, told_inserts, told_values, Gathers}
+use Rattle.yd_modes.specs.Modes.{shown_by}
+use Rattle.yd_modes.specs.Roles.{bare, joined_fields, live_lent, plain_value, unit_of_view}
+use Rattle.yd_modes.proofs.ListLemmas.{delta_of, list_of, no_items}
+use Rattle.yd_modes.proofs.MarkLemmas.{joined_none}
+use Rattle.yd_modes.proofs.SeenLemmas.{pieces_seen, within_bare, within_plain}
+use Rattle.yd_modes.proofs.ShowingLemmas.{deleted_view, live_view, piece_gathered, within_nested, nested_role, under_hidden, under_none, under_shown, nested_unit, unit_got, not_nested}
+use Rattle.yd_modes.proofs.TakingLemmas.{gathers_none, one_view}
+use Rattle.yd_modes.proofs.nesting.+show.Goals as goal
+
+-- ---- a list
+
+pub gather-loop-piece-smaller : goal.gather-loop-piece-smaller
+gather-loop-piece-smaller n c = fewer_left c.in-Some.piece (units_left c.loop-piece.view) (units_left c.next.new.self) c.in-Some.ensures.some c.in-Some.ensures.within c.in-Some.ensures.lends
+
+pub gather-loop-piece-preserved : goal.gather-loop-piece-preserved
+gather-loop-piece-preserved n c = record {
+  pieces = piece_gathered c.args.way (value_within c.args.most (own_document c.args.replica.now)) c.loop-piece.gathering c.take_run.new.gathering c.in-Some.piece (units_left c.loop-piece.view) (units_left c.next.new.self)
+      c.in-Some.ensures.lends c.in_ok-take_run.ensures
+      ∙ c.loop-piece.invariant.pieces;
+  settled = c.in_ok-take_run.ensures.settled;
+}
+
+pub gather-returns : goal.gather-returns
+gather-returns n c =
+    let d = own_document c.args.replica.now in
+    let show = value_within c.args.most d in
+    c.in_ok-pieces.ensures c.args.way show
+    ∙ ap (λ us. gathered c.args.way show c.loop-piece.gathering (live_lent us)) (sym c.in_default.ensures.lends)
+    ∙ c.loop-piece.invariant.pieces
+    ∙ ap (λ us. gathered c.args.way show c.new-gathering.result (live_lent us)) c.list-view.ensures.units
+    ∙ c.new-gathering.ensures.pieces c.args.way show (live_lent (lent_units d c.args.list.now))
+    ∙ ap (map told) (pieces_seen (received_of c.args.replica.now).operations d c.args.list.now c.list-view.ensures.whole c.list-view.ensures.received c.args.way c.args.most no_fields)
+
+pub take_run-returns-then-piece : goal.take_run-returns-then-piece
+take_run-returns-then-piece n c =
+    subst (λ us. Gathers c.args.way (value_within c.args.most (own_document c.args.replica.now)) c.args.gathering.now c.args.gathering.now us) (sym (deleted_view c.args.piece.now c.if-piece.true))
+    (gathers_none c.args.way (value_within c.args.most (own_document c.args.replica.now)) c.args.gathering.now c.requires.settled)
+
+pub take_run-returns-in_default : goal.take_run-returns-in_default
+take_run-returns-in_default n c = on_ok_weaker c.take_piece.result (λ gathers.
+    subst (λ us. Gathers c.args.way (value_within c.args.most (own_document c.args.replica.now)) c.args.gathering.now c.take_piece.new.gathering us) (sym (live_view c.args.piece.now c.if-piece.false))
+    (gathers (value_within c.args.most (own_document c.args.replica.now)) (within_plain c.args.most (own_document c.args.replica.now)))) c.take_piece.ensures
+
+pub take_run-returns-in_ok-value-in-Nested : goal.take_run-returns-in_ok-value-in-Nested
+take_run-returns-in_ok-value-in-Nested n c = on_ok_weaker c.take_value.result (λ gathers.
+    let show = value_within c.args.most (own_document c.args.replica.now) in
+    let within = subst (λ v. c.args.piece.now.offset + c.args.piece.now.len ≤ len_of (content_value v)) c.in-Nested.is c.requires.within.units in
+    subst (λ us. Gathers c.args.way show c.args.gathering.now c.take_value.new.self us)
+    (sym (live_view c.args.piece.now c.if-piece.false ∙ one_view c.args.piece.now (Nested c.in-Nested.kind) (nested_type c.in-Nested.kind) c.if-piece.false c.in-Nested.is refl c.requires.some within))
+    (gathers c.args.way show (nested_type c.in-Nested.kind) (nested_role c.args.way c.in-Nested.kind) c.in_ok-value-in-Nested.ensures)) c.take_value.ensures
+
+-- ---- a type
+
+pub show_pieces-returns-in-Delta : goal.show_pieces-returns-in-Delta
+show_pieces-returns-in-Delta n c =
+    let d = own_document c.args.replica.now in
+    IfOk-weaker c.delta_of.result (λ shown. shown_tree shown ≡ list (told_inserts (map made c.in_ok-pieces.pieces.items))) (λ shown. shown_tree shown ≡ shown_by c.args.way (value_within c.args.most d) d c.args.parent.now)
+    (λ shown e. e ∙ delta_of (value_within c.args.most d) d c.args.parent.now c.args.way (map made c.in_ok-pieces.pieces.items) c.in_ok-list.list c.in-Delta.is c.in_ok-list.ensures c.in_ok-pieces.ensures)
+    c.delta_of.ensures
+
+pub show_pieces-returns : goal.show_pieces-returns
+show_pieces-returns n c =
+    let d = own_document c.args.replica.now in
+    IfOk-weaker c.list_of.result (λ shown. shown_tree shown ≡ list (told_values (map made c.in_ok-pieces.pieces.items))) (λ shown. shown_tree shown ≡ shown_by c.args.way (value_within c.args.most d) d c.args.parent.now)
+    (λ shown e. e ∙ list_of (value_within c.args.most d) d c.args.parent.now c.args.way (map made c.in_ok-pieces.pieces.items) c.in_ok-list.list c.in-Values.is c.in_ok-list.ensures c.in_ok-pieces.ensures)
+    c.list_of.ensures
+
+pub show_nested-returns : goal.show_nested-returns
+show_nested-returns n c =
+    let d = own_document c.args.replica.now in
+    IfOk-weaker c.show_type.result (λ shown. shown_tree shown ≡ shown_type (value_within (c.args.most - 1) d) d (Item c.args.id) c.args.kind.now) (λ shown. shown_tree shown ≡ value_within c.args.most d (bare c.args.id (nested_type c.args.kind.now)))
+    (λ shown e. e ∙ sym (within_nested c.args.most d c.args.id c.args.kind.now (omega (arith, c.if-most-eq0.false))))
+    c.show_type.ensures
+
+-- ---- a map
+
+pub show_map-loop-key-init : goal.show_map-loop-key-init
+show_map-loop-key-init n c =
+    let d = own_document c.args.replica.now in
+    let show = value_within c.args.most d in
+    let gives = c.into_iter-key-iterator.ensures.into_iter_gives in
+    record {
+      shown = ap (λ fs. joined_fields fs (fields_under show d c.args.parent.now (into_iter_items c.into_iter-key-iterator.result))) c.new-fields.ensures
+          ∙ ap (fields_under show d c.args.parent.now) (gives.0 ∙ c.in_ok-keys.ensures);
+      count = gives.1 ∙ sym c.as_slice-count.ensures.len ∙ ap length (c.as_slice-count.ensures.value ∙ sym gives.0);
+    }
+
+pub show_map-loop-key-preserved : goal.show_map-loop-key-preserved
+show_map-loop-key-preserved n c =
+    let d = own_document c.args.replica.now in
+    let show = value_within c.args.most d in
+    let old = shown_fields c.loop-key.fields in
+    let rest = fields_under show d c.args.parent.now (into_iter_items c.next.new.self) in
+    let steps = c.in-Some.ensures.steps in
+    record {
+      shown = c.in_ok-push_value.ensures rest
+          ∙ ap (λ v. joined_fields old (field_before c.in-Some.key v rest)) c.in_ok-value.ensures
+          ∙ ap (λ keys. joined_fields old (fields_under show d c.args.parent.now keys)) (sym steps.0)
+          ∙ c.loop-key.invariant.shown;
+      count = omega (arith, steps.1, c.loop-key.invariant.count, ap length steps.0);
+    }
+
+pub show_map-returns : goal.show_map-returns
+show_map-returns n c =
+    let d = own_document c.args.replica.now in
+    let none = no_items (into_iter_items c.loop-key.key-iterator) (sym c.loop-key.invariant.count ∙ c.in-None.ensures.steps.0) in
+    sym (joined_none (shown_fields c.loop-key.fields))
+    ∙ ap (λ keys. joined_fields (shown_fields c.loop-key.fields) (fields_under (value_within c.args.most d) d c.args.parent.now keys)) (sym none)
+    ∙ c.loop-key.invariant.shown
+
+pub show_under-returns-in_default : goal.show_under-returns-in_default
+show_under-returns-in_default n c =
+    let d = own_document c.args.replica.now in
+    under_none (value_within c.args.most d) d c.args.parent.now c.args.key.now
+    (ap (lent_units d) (sym c.in_ok-list.ensures) ∙ sym c.list.ensures.units ∙ c.in_default.ensures.none)
+
+pub show_under-returns-then-not-is_shown : goal.show_under-returns-then-not-is_shown
+show_under-returns-then-not-is_shown n c =
+    let d = own_document c.args.replica.now in
+    under_hidden (value_within c.args.most d) d c.args.parent.now c.args.key.now c.in-Some.unit (units_left c.list.result) c.in-Some.ensures.last.0 (within_bare c.args.most d)
+    c.in-Some.ensures.within c.in-Some.ensures.one (c.list.ensures.units ∙ ap (lent_units d) c.in_ok-list.ensures) c.in-Some.ensures.last.1 (sym c.is_shown.ensures ∙ c.if-not-is_shown.true)
+
+pub show_under-returns : goal.show_under-returns
+show_under-returns n c =
+    let d = own_document c.args.replica.now in
+    ap (λ v. Some v) c.in_ok-shown.ensures
+    ∙ under_shown (value_within c.args.most d) d c.args.parent.now c.args.key.now c.in-Some.unit (units_left c.list.result) c.in-Some.ensures.last.0 (within_bare c.args.most d)
+    c.in-Some.ensures.within c.in-Some.ensures.one (c.list.ensures.units ∙ ap (lent_units d) c.in_ok-list.ensures) c.in-Some.ensures.last.1 (sym c.is_shown.ensures ∙ c.if-not-is_shown.false)
+
+pub show_unit-returns-in-Nested : goal.show_unit-returns-in-Nested
+show_unit-returns-in-Nested n c =
+    let show = value_within c.args.most (own_document c.args.replica.now) in
+    IfOk-weaker c.show_nested.result (λ shown. shown_tree shown ≡ show (bare c.args.unit.now.id (nested_type c.in-Nested.kind))) (λ shown. shown_tree shown ≡ show (bare c.args.unit.now.id (unit_of_view c.args.unit.now).content))
+    (λ shown e. e ∙ ap (λ u. show (bare c.args.unit.now.id u)) (sym (nested_unit c.args.unit.now c.in-Nested.kind c.in-Nested.is c.requires.within c.requires.one)))
+    c.show_nested.ensures
+
+pub show_unit-returns-in_default : goal.show_unit-returns-in_default
+show_unit-returns-in_default n c =
+    let show = value_within c.args.most (own_document c.args.replica.now) in
+    let unit = (unit_of_view c.args.unit.now).content in
+    let there = unit_got c.args.unit.now c.requires.within c.requires.one in
+    IfOk-weaker c.plain_at.result (λ shown. (u : UnitContent) → slice_get (units_of_content (content_value c.args.unit.now.content.now)) c.args.unit.now.offset ≡ Some u → shown_tree shown ≡ plain_value u)
+    (λ shown. shown_tree shown ≡ show (bare c.args.unit.now.id unit))
+    (λ shown told. told unit there ∙ sym (within_plain c.args.most (own_document c.args.replica.now) c.args.unit.now.id unit (not_nested c.args.unit.now.content.now c.in_default.not-Nested c.args.unit.now.offset unit there)))
+    c.plain_at.ensures

@@ -1,0 +1,71 @@
+//! What is shown of a parent, in each mode.
+
+ghost use Rattle.std.specs.Prelude.{◌≡◌, IfOk, map};
+ghost use Rattle.yd_any.specs.Tree.{no_fields};
+ghost use Rattle.yd_doc.specs.Kept.{own_document};
+ghost use Rattle.yd_shown.specs.Pieces.{delta_pieces};
+ghost use Rattle.yd_shown.specs.Seen.{seen_units};
+ghost use Rattle.yd_shown.specs.Shown.{most_types as types_shown, shown, value_within};
+ghost use Rattle.yd_value.specs.View.{shown_tree};
+ghost use Rattle.yd_modes.specs.Gathering.{made, told};
+ghost use Rattle.yd_modes.specs.Modes.{mode_of};
+
+use crate::fault::NoMemory;
+use crate::mode::Mode;
+use crate::nesting::{gather, show_map, show_pieces, show_text};
+use crate::objects::tree_of;
+use crate::piece::Piece;
+use crate::way::Way;
+use std::alloc::Global;
+use yd_doc::Replica;
+use yd_ops::{List, Parent};
+use yd_value::Shown;
+
+/// What a parent shows in a mode, with the types that lie in it (Yjs 13, toString, toDelta and
+/// toJSON). A type inside 100 others is not shown: an object with the key `$deep` stands for it. Calls
+/// nest no deeper than these types. It goes once along the units of the lists that it shows. For each
+/// list it looks for the name among all names, and for each map among the names of all lists once
+/// more. It changes nothing, and where it finds no memory there is no value.
+pub fn show(
+    alloc: Global,
+    replica: &Replica,
+    parent: &Parent,
+    mode: Mode,
+) -> Result<Shown, NoMemory>
+    ensures { IfOk result (λ value. shown_tree value
+        ≡ shown (own_document replica.now) parent.now (mode_of mode)) }
+{
+    let most = most_types();
+    match mode {
+        Mode::Text => show_text(alloc, replica, parent),
+        Mode::Delta => show_pieces(alloc, replica, parent, Way::Delta, most),
+        Mode::Array => show_pieces(alloc, replica, parent, Way::Values, most),
+        Mode::Map => Ok(Shown::Fields(show_map(alloc, replica, parent, most)?)),
+        Mode::Tree => {
+            let attributes = show_map(alloc, replica, parent, most)?;
+            let children = show_pieces(alloc, replica, parent, Way::Values, most)?;
+            tree_of(alloc, attributes, children)
+        }
+    }
+}
+
+/// The pieces of a list as a delta: text, embeds and types, each under the attributes that the marks
+/// before it set (Yjs 13, toDelta; that neighbouring text with equal attributes is one piece is own).
+/// Any-, JSON and binary values give no piece. It takes time as [`show`] does.
+pub fn delta(alloc: Global, replica: &Replica, list: &List) -> Result<Vec<Piece>, NoMemory>
+    ensures { IfOk result (λ pieces. map made pieces.items
+        ≡ map told (delta_pieces (value_within types_shown (own_document replica.now)) no_fields
+        (seen_units (own_document replica.now) list.now))) }
+{
+    let most = most_types();
+    let pieces = gather(alloc, replica, list, Way::Delta, most)?;
+    Ok(pieces)
+}
+
+/// How many types inside one another are shown.
+#[tactic(auto, unfolding(yd_shown::specs::Shown::most_types))]
+fn most_types() -> u64
+    ensures { result ≡ types_shown }
+{
+    100
+}
