@@ -1,0 +1,4 @@
+pub mod PassingLemmas
+pub mod PastLemmas
+pub mod RuleLemmas
+pub mod DishonestLemmas
