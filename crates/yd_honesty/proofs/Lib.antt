@@ -2,3 +2,6 @@ pub mod PassingLemmas
 pub mod PastLemmas
 pub mod RuleLemmas
 pub mod DishonestLemmas
+pub mod ClocksLemmas
+pub mod NotingLemmas
+pub mod ToldLemmas

@@ -20,7 +20,7 @@ use Rattle.yd_honesty.specs.Dishonest.{needs_at, is_past_within, is_past}
 use Rattle.yd_honesty.proofs.PassingLemmas.{passes_found, found_passes, one_holds}
 
 -- what the operation with an id needs is what one that is there needs
-needs_there : (os : List Operation) (x z : Id) → IsIn z (needs_at os x) → (o : Operation) × IsIn o os × (o.id ≡ x) × IsIn z (needs o)
+pub needs_there : (os : List Operation) (x z : Id) → IsIn z (needs_at os x) → (o : Operation) × IsIn o os × (o.id ≡ x) × IsIn z (needs o)
 needs_there [] x z i = absurd i
 needs_there (o ∷ os) x z i = go (is_same o.id x) refl i (λ j. needs_there os x z j)
   where

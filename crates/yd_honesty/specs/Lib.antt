@@ -1,2 +1,3 @@
 pub mod Dishonest
 pub mod Law
+pub mod Pasts

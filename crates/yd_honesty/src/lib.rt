@@ -11,4 +11,10 @@
 //! ```
 #![tactic(auto)]
 
+mod fault;
 pub mod law;
+mod needs;
+mod pasts;
+
+pub use fault::NoMemory;
+pub use pasts::{is_past, pasts_of};
