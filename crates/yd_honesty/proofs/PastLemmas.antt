@@ -40,7 +40,7 @@ needs_at-one (p ∷ ps) a o (inr i) = elim (same_says p.id o.id) [
 ]
 
 -- what is of a past is needed, or is of the past of what is needed
-first_need : {held : List Operation} {x y : Id} → IsPast held x y →
+pub first_need : {held : List Operation} {x y : Id} → IsPast held x y →
     (o : Operation) × IsIn o held × (o.id ≡ x) × ((z : Id) × IsIn z (needs o) × ((z ≡ y) ⊎ IsPast held z y))
 first_need (of_need {y = y} o i e j) = (o, i, e, (y, j, inl refl))
 first_need {held = held} (of_past {z = z} p q) = let (o, i, e, found) = first_need p in let (v, j, way) = found in

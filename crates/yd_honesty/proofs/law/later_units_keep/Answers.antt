@@ -1,0 +1,5 @@
+use Rattle.yd_honesty.proofs.LaterLemmas.{later_meets}
+use Rattle.yd_honesty.proofs.law.later_units_keep.Goals as goal
+
+pub returns : goal.returns
+returns c = later_meets
