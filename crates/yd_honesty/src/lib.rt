@@ -4,10 +4,13 @@
 //! made so can be told of what is held: the left and the right origin of each are of one list, in
 //! this order, and nothing that its maker had stands between them (`MeetsRules`, yd_meaning). The
 //! smallest id of an operation that breaks this is a function of what is held (`dishonest_of`), and
-//! there is none exactly where what is held is honest ([`law`]).
+//! there is none exactly where what is held is honest ([`law`]). What a maker had is the past of an
+//! operation: [`pasts_of`] makes a vector of it for each entry, and [`is_past`] tells by these. What is
+//! not here yet: the order of each list beside them, and the call that answers the id.
 //!
 //! ```rust
-//! law::dishonest_is_smallest();
+//! let pasts = pasts_of(alloc, &received)?;
+//! let had = is_past(&received, &pasts, unit, other);
 //! ```
 #![tactic(auto)]
 
