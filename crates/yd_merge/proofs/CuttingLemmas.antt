@@ -214,12 +214,12 @@ unit_in runs t o is i = go t.is_gone refl is.told i
 
 -- ---- one entry
 
-filter-none : {X : Type 0} (test : X → Bool) (xs : List X) → ((x : X) → IsIn x xs → test x ≡ false) → filter test xs ≡ []
+pub filter-none : {X : Type 0} (test : X → Bool) (xs : List X) → ((x : X) → IsIn x xs → test x ≡ false) → filter test xs ≡ []
 filter-none test [] fails = refl
 filter-none test (x ∷ xs) fails = rw (fails x (inl refl), filter-none test xs (λ y i. fails y (inr i))) refl
 
 -- operations of which the first ones fail the test and the others pass it
-two_parts : (test : Operation → Bool) (front back os : List Operation) → front ++ back ≡ os → ((o : Operation) → IsIn o front → test o ≡ false) →
+pub two_parts : (test : Operation → Bool) (front back os : List Operation) → front ++ back ≡ os → ((o : Operation) → IsIn o front → test o ≡ false) →
     ((o : Operation) → IsIn o back → test o ≡ true) → back ≡ filter test os
 two_parts test front back os e fails passes = sym (ap (filter test) (sym e) ∙ filter-append test front back
     ∙ ap₂ (λ ps qs. ps ++ qs) (filter-none test front fails) (filter-all test back passes))
@@ -295,7 +295,7 @@ module _ (runs : List Run) (os : List Operation) (vector : ℕ → ℕ) (partner
   at_place o i = let (k, lt, e) = taken_id runs t o is i in (omega (arith, ap (λ (x : Id). x.clock) e), omega (arith, lt, ap (λ (x : Id). x.clock) e))
 
   -- the units behind the first ones have the operations that are in the cut
-  parts_operations : operations_in runs (parts_behind t n) ≡ filter (is_cut_in os vector) (operations_of_taken runs t)
+  pub parts_operations : operations_in runs (parts_behind t n) ≡ filter (is_cut_in os vector) (operations_of_taken runs t)
   parts_operations = go (nat_lt n t.len) refl
     where
       here : (k : ℕ) → k ≡ n → n < t.len → operations_of_taken runs (behind t k) ≡ filter (is_cut_in os vector) (operations_of_taken runs t)
@@ -388,7 +388,7 @@ module _ (runs : List Run) (vector : ℕ → ℕ) where
 -- ---- lemmas for callers
 
 -- one more entry is cut
-pushed-append : (built : Built) (groups others : List Group) → all_pushed built (groups ++ others) ≡ all_pushed (all_pushed built groups) others
+pub pushed-append : (built : Built) (groups others : List Group) → all_pushed built (groups ++ others) ≡ all_pushed (all_pushed built groups) others
 pushed-append built [] others = refl
 pushed-append built (group ∷ groups) others = pushed-append (with_pushed built group) groups others
 

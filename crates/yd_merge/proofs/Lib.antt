@@ -1,5 +1,6 @@
 pub mod ContentLemmas
 pub mod CuttingLemmas
+pub mod LentCutLemmas
 pub mod MergingLemmas
 pub mod NamedLemmas
 pub mod PuttingLemmas

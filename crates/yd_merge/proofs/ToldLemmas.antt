@@ -68,11 +68,11 @@ entry_group runs t is = go t.is_gone is.told
 
 -- ---- all entries
 
-entries-operations : (runs : List Run) (ts : List Entry) → Each (IsTakenOf runs) ts → operations_of_groups (map (group_of_entry runs) ts) ≡ operations_in runs ts
+pub entries-operations : (runs : List Run) (ts : List Entry) → Each (IsTakenOf runs) ts → operations_of_groups (map (group_of_entry runs) ts) ≡ operations_in runs ts
 entries-operations runs [] each = refl
 entries-operations runs (t ∷ ts) each = ap₂ (λ os ps. os ++ ps) (entry-operations runs t each.0) (entries-operations runs ts each.1)
 
-entries_groups : (runs : List Run) (ts : List Entry) → Each (IsTakenOf runs) ts → Each IsGroup (map (group_of_entry runs) ts)
+pub entries_groups : (runs : List Run) (ts : List Entry) → Each (IsTakenOf runs) ts → Each IsGroup (map (group_of_entry runs) ts)
 entries_groups runs [] each = tt
 entries_groups runs (t ∷ ts) each = (entry_group runs t each.0, entries_groups runs ts each.1)
 

@@ -47,7 +47,7 @@ struct-operations client clock (item run) = append-nil (operations_of_group (of_
 struct-operations client clock (skip count) = refl
 struct-operations client clock (gone count) = append-nil (operations_of_group (of_gone (record { client = client; clock = clock }) count))
 
-groups-append : (groups others : List Group) → operations_of_groups (groups ++ others) ≡ operations_of_groups groups ++ operations_of_groups others
+pub groups-append : (groups others : List Group) → operations_of_groups (groups ++ others) ≡ operations_of_groups groups ++ operations_of_groups others
 groups-append [] others = refl
 groups-append (group ∷ groups) others = ap (λ os. operations_of_group group ++ os) (groups-append groups others)
     ∙ sym (append_assoc (operations_of_group group) (operations_of_groups groups) (operations_of_groups others))

@@ -1,11 +1,18 @@
--- The cut of entries by a vector: which of an entry's units are in it (own).
-use Rattle.std.specs.Prelude.{ℕ, zero, suc, ◌+◌, ◌-◌, Bool, true, false, ◌&&◌, nat_le, nat_lt, List, [], ◌∷◌, ◌++◌, Option, Some, None, length, slice_get, slice_index, if◌then◌else◌}
-use Rattle.yd_ops.specs.Value.{ContentValue, any, binary, deleted, embed, format, json, nested, string}
+-- The cut of entries and of what is lent by a vector: which units are in it (own).
+use Rattle.std.specs.Prelude.{ℕ, zero, suc, ◌+◌, ◌-◌, Bool, true, false, ◌&&◌, nat_le, nat_lt, List, [], ◌∷◌, ◌++◌, Option, Some, None, map, length, slice_get, slice_index, if◌then◌else◌}
+use denote.Ref.{Bor}
+use Rattle.yd_ids.specs.declared.id.Id.{Id}
+use Rattle.yd_ops.specs.Operation.{later_id}
+use Rattle.yd_ops.specs.Value.{ContentValue, any, binary, deleted, embed, format, json, len_of, nested, string}
 use Rattle.yd_ops.specs.View.{content_value}
 use Rattle.yd_ops.specs.declared.runs.Run.{Run}
 use Rattle.yd_updates.specs.Pairs.{is_high, is_low}
+use Rattle.yd_grouping.specs.Groups.{Group, of_gone}
 use Rattle.yd_received.specs.Splitting.{back_of}
 use Rattle.yd_received.specs.declared.entry.Entry.{Entry}
+use Rattle.yd_received.specs.declared.place.Place.TheVariants.{Waits}
+use Rattle.yd_merge.specs.Told.{group_of_entry}
+use Rattle.yd_merge.specs.declared.lending.Lent.{Lent}
 
 -- whether a cut before unit n of a text parts a pair
 abbrev pub parts_text : List ℕ → ℕ → Bool
@@ -60,3 +67,27 @@ cut_entry runs clock t = parts_behind t (left_out runs clock t)
 abbrev pub cut_entries : List Run → (ℕ → ℕ) → List Entry → List Entry
 cut_entries runs vector [] = []
 cut_entries runs vector (t ∷ ts) = cut_entry runs (vector t.id.client.0) t ++ cut_entries runs vector ts
+
+-- ---- of what is lent
+
+-- all units of a run, as an entry of it alone
+abbrev pub whole_entry : Run → Entry
+whole_entry run = record { id = run.id; len = len_of (content_value run.content); left = run.left; right = run.right; run = 0; offset = 0; is_gone = false; place = Waits }
+
+-- of so many gone units from an id on those that are in the cut at a clock
+abbrev pub cut_gone : ℕ → Id → ℕ → List Group
+cut_gone clock id len = if nat_lt (clock - id.clock) len then of_gone (later_id id (clock - id.clock)) (len - (clock - id.clock)) ∷ [] else []
+
+-- those of a run, or else of so many gone units
+abbrev pub cut_in : ℕ → Option (Bor Run) → Id → ℕ → List Group
+cut_in clock None id len = cut_gone clock id len
+cut_in clock (Some run) id len = map (group_of_entry (run.now ∷ [])) (cut_entry (run.now ∷ []) clock (whole_entry run.now))
+
+-- what is lent and in the cut at a clock
+abbrev pub cut_lent : ℕ → Lent → List Group
+cut_lent clock lent = cut_in clock lent.run lent.id lent.len
+
+-- what is lent and in the cut by a vector
+abbrev pub cut_lents : (ℕ → ℕ) → List Lent → List Group
+cut_lents vector [] = []
+cut_lents vector (lent ∷ lents) = cut_lent (vector lent.id.client.0) lent ++ cut_lents vector lents

@@ -1,9 +1,10 @@
 //! Cutting what was received by a vector.
 
-ghost use Rattle.std.specs.Prelude.{◌≡◌, ◌<◌, map, IfOk, OnOk};
+ghost use Rattle.std.specs.Prelude.{◌≡◌, ◌<◌, [], ◌∷◌, map, IfOk, OnOk};
 ghost use Rattle.yd_ids.specs.Vector.{clock_of};
 ghost use Rattle.yd_ops.specs.Valid.{IsValidUpdate};
 ghost use Rattle.yd_ops.specs.View.{content_value, update_value};
+ghost use Rattle.yd_updates.specs.Received.{received_set};
 ghost use Rattle.yd_grouping.specs.Building.{all_pushed};
 ghost use Rattle.yd_grouping.specs.Grouped.{grouping_of};
 ghost use Rattle.yd_grouping.specs.Merged.{cut_of, cut_update};
@@ -16,6 +17,8 @@ ghost use Rattle.yd_merge.specs.Told.{group_of_entry};
 
 use crate::builder::Builder;
 use crate::fault::NoMemory;
+use crate::lending::{in_turn, lend_update};
+use crate::lent_cutting::cut_lent;
 use crate::naming::named_in;
 use crate::parts::group_of;
 use std::alloc::Global;
@@ -26,16 +29,56 @@ use yd_received::{Entry, Received};
 /// What an update says from a vector on, and all its deletions, as one grouped update (Yjs 13,
 /// diffUpdate; that it keeps pairs whole is own): the operations whose clock is not below their
 /// client's clock in the vector, and the high half of a pair whose low half has that clock. The cut
-/// and what lies below it give the whole (`yd_grouping::law::cuts_give_the_whole`).
+/// and what lies below it give the whole (`yd_grouping::law::cuts_give_the_whole`). Where no two structs
+/// have a unit with one id, nothing is copied but what is written. Else the update is taken in.
 pub fn cut(alloc: Global, update: &Update, vector: &Vector) -> Result<Update, NoMemory>
     requires { IsValidUpdate (update_value update.now) }
     ensures cut { IfOk result (λ cut. update_value cut
         ≡ cut_update (update_value update.now) (clock_of vector.now)) }
     ensures valid { IfOk result (λ cut. IsValidUpdate (update_value cut)) }
 {
+    let deletes = named_in(alloc, update)?;
+    let cut = cut_with(alloc, update, vector, deletes)?;
+    Ok(cut)
+}
+
+/// The same, where the ids that the update deletes by name are known.
+fn cut_with(
+    alloc: Global,
+    update: &Update,
+    vector: &Vector,
+    deletes: IdSet,
+) -> Result<Update, NoMemory>
+    requires valid { IsValidUpdate (update_value update.now) }
+    requires deletes { deletes ≡ (received_set (update_value update.now ∷ [])).deletes }
+    ensures { IfOk result (λ cut. update_value cut
+        ≡ cut_update (update_value update.now) (clock_of vector.now)) }
+{
+    let mut lents = Vec::new(alloc);
+    lend_update(&mut lents, update)?;
+    match in_turn(lents) {
+        Some(lents) => {
+            let cut = cut_lent(alloc, &lents, vector, deletes)?;
+            Ok(cut)
+        }
+        None => cut_taken(alloc, update, vector, deletes),
+    }
+}
+
+/// The same, by taking the update in.
+fn cut_taken(
+    alloc: Global,
+    update: &Update,
+    vector: &Vector,
+    deletes: IdSet,
+) -> Result<Update, NoMemory>
+    requires valid { IsValidUpdate (update_value update.now) }
+    requires deletes { deletes ≡ (received_set (update_value update.now ∷ [])).deletes }
+    ensures { IfOk result (λ cut. update_value cut
+        ≡ cut_update (update_value update.now) (clock_of vector.now)) }
+{
     let mut received = Received::new(alloc);
     received.take(update)?;
-    let deletes = named_in(alloc, update)?;
     let cut = write_cut(alloc, &received, vector, deletes)?;
     Ok(cut)
 }
@@ -80,7 +123,7 @@ fn cut_entries(
 }
 
 /// Puts the units of an entry behind what is built that are in the cut at a clock, if there are some.
-fn push_cut(
+pub fn push_cut(
     alloc: Global,
     builder: &mut Builder,
     runs: &[Run],

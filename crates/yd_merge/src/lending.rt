@@ -1,6 +1,6 @@
 //! What the structs of updates have, lent.
 
-ghost use Rattle.std.specs.Prelude.{◌≡◌, ◌↔◌, ◌+◌, ◌++◌, map, IsTrue, IfOk, IfSome, OnOk};
+ghost use Rattle.std.specs.Prelude.{◌≡◌, ◌↔◌, ◌+◌, ◌++◌, map, IsTrue, IfOk, IfSome, IfNone, OnOk};
 ghost use Rattle.std.specs.List.Sorted.{IsPermutation};
 ghost use Rattle.yd_words.specs.Each.{Each};
 ghost use Rattle.yd_ids.specs.Id.{IsClient, IsClock};
@@ -144,6 +144,7 @@ pub fn in_turn<'a>(mut lents: Vec<Lent<'a>>) -> Option<Vec<Lent<'a>>>
     requires { Each IsLent lents.items }
     ensures same { IfSome result (λ sorted. IsPermutation lents.entry.items sorted.items) }
     ensures in_turn { IfSome result (λ sorted. AreInTurn (map lent_group sorted.items)) }
+    ensures none { IfNone result (AreInTurn (map lent_group lents.entry.items) → ⊥) }
 {
     if are_in_turn(&lents) {
         return Some(lents);

@@ -1,13 +1,14 @@
-//! Updates without a document: merging them, cutting one, and how far one reaches.
+//! Updates without a document: merging them, cutting one, and how far some reach.
 //!
-//! [`merge`] makes the one grouped update that says what many say. It takes each into a `Received`
-//! and writes the entries out by runs. [`cut`] does so with one update, and writes what is not below
-//! a vector; [`write_cut`] writes that of what was received before. What is written goes through a
+//! [`merge`] makes the one grouped update that says what many say, and [`cut`] what one says from a
+//! vector on. Where no two structs have a unit with one id, what they have is lent, put in the order
+//! of writing and written. Else each update is taken into a `Received`, and the entries are written
+//! out by runs. [`write_cut`] writes that of what was received before. What is written goes through a
 //! [`Builder`]: it is pushed what structs have, in the order of writing and in pieces of any size, and
 //! joins each piece with the one before where they are one run that was cut, or gone units with clocks
 //! in a row. So what it makes is the grouping of all that it was pushed
 //! (`yd_grouping::law::builder_groups`). [`vector_of`] tells of each client the smallest clock that an
-//! update does not have.
+//! update does not have, and [`vector_of_all`] that of a merge, without merging.
 //!
 //! ```rust
 //! let merged = merge(alloc, &[first, second])?;
@@ -22,6 +23,7 @@ mod fault;
 mod group;
 mod growing;
 mod lending;
+mod lent_cutting;
 mod merging;
 mod naming;
 mod parts;

@@ -1,0 +1,8 @@
+use Rattle.yd_ids.specs.Vector.{clock_of}
+use Rattle.yd_ops.specs.View.{update_value}
+use Rattle.yd_merge.proofs.CuttingLemmas.{cut_received}
+use Rattle.yd_merge.proofs.cutting.cut_taken.Goals as goal
+
+pub returns : goal.returns
+returns c = cut_received (update_value c.args.update.now) c.new-received.result c.take.new.self (update_value c.in_ok-cut.cut) (clock_of c.args.vector.now)
+    c.args.deletes c.new-received.ensures c.in_ok-take.ensures.received c.requires.deletes c.in_ok-cut.ensures
