@@ -1,0 +1,123 @@
+-- Lines that are carried out one after another, and the first that is refused.
+use Rattle.std.proofs.Common.{◌≡◌, ◌⊎◌, ℕ, List, [], ◌∷◌, ◌++◌, Option, Some, None, Result, Ok, Err, OnErr, inl, inr, refl, sym, ap, ◌∙◌, subst, append_assoc}
+use Rattle.std.proofs.lemmas.List.{append-nil}
+use Rattle.yd_ids.specs.declared.id.Client.{Client}
+use Rattle.yd_ops.specs.Value.{UpdateValue}
+use Rattle.yd_updates.specs.Received.{Received, received_after, received_more}
+use Rattle.yd_meaning.specs.Document.{Document, IsDocumentOf}
+use Rattle.yd_editing.specs.Step.{Refusal, no_place, not_held, clock_full, inside_pair, own_waiting, past_end}
+use Rattle.yd_making.specs.Steps.{fault_of, IsCause}
+use Rattle.yd_making.specs.declared.fault.EditFault.{EditFault}
+use Rattle.yd_making.specs.declared.fault.EditFault.TheVariants as edits
+use Rattle.yd_script.specs.Line.{Line, line_of}
+use Rattle.yd_script.specs.declared.line.Line.{Line as LineSeen}
+use Rattle.yd_script.specs.declared.fault.LineFault.{LineFault}
+use Rattle.yd_script.specs.declared.fault.LineFault.TheVariants as faults
+use Rattle.yd_script.specs.Lines.{Numbered}
+use Rattle.yd_script.specs.Reading.{line_in, Reads}
+use Rattle.yd_playing.specs.Asked.{line_refusal}
+use Rattle.yd_playing.specs.Played.{basis_over, IsCarriedOut, ArePlayed, SoFar}
+use Rattle.yd_playing.specs.Stopped.{IsRefusedEdit, IsRefused, StopsFor, IsRefusedFor, IsUnread, refused_by}
+use Rattle.yd_playing.specs.declared.fault.LineCause.TheVariants.{BadLine, Edit}
+use Rattle.yd_playing.specs.declared.fault.PlayFault.{PlayFault}
+use Rattle.yd_playing.specs.declared.fault.PlayFault.TheVariants.{NoMemory, Refused}
+
+-- ---- lines in turn
+
+-- one update more was received
+received_one_more : (r : Received) (us : List UpdateValue) (u : UpdateValue) → received_more r (us ++ u ∷ []) ≡ received_after (received_more r us) u
+received_one_more r [] u = refl
+received_one_more r (v ∷ us) u = received_one_more (received_after r v) us u
+
+-- one line more was carried out
+played_more : (client : Client) (r : Received) (lines : List Numbered) (us : List UpdateValue) (line : Numbered) (u : UpdateValue) → ArePlayed client r lines us →
+    IsCarriedOut client (received_more r us) line.text u → ArePlayed client r (lines ++ line ∷ []) (us ++ u ∷ [])
+played_more client r [] [] line u played is = (is, tt)
+played_more client r [] (v ∷ us) line u played is = absurd played
+played_more client r (first ∷ lines) [] line u played is = absurd played
+played_more client r (first ∷ lines) (v ∷ us) line u played is = (played.0, played_more client (received_after r v) lines us line u played.1 is)
+
+-- ---- lemmas for callers: all lines
+
+-- at first none was carried out
+pub none_played : (client : Client) (r : Received) (lines : List Numbered) → SoFar client r r lines lines []
+none_played client r lines = record { before = []; lines_are = refl; are_played = tt; received = refl }
+
+-- a line more
+pub one_more : (client : Client) (r now new : Received) (lines behind left : List Numbered) (line : Numbered) (us : List UpdateValue) (u : UpdateValue) → SoFar client r now lines left us →
+    left ≡ line ∷ behind → IsCarriedOut client now line.text u → new ≡ received_after now u → SoFar client r new lines behind (us ++ u ∷ [])
+one_more client r now new lines behind left line us u so_far next is after = record {
+  before = so_far.before ++ line ∷ [];
+  lines_are = so_far.lines_are ∙ ap (λ ls. so_far.before ++ ls) next ∙ sym (append_assoc so_far.before (line ∷ []) behind);
+  are_played = played_more client r so_far.before us line u so_far.are_played (subst (λ (s : Received). IsCarriedOut client s line.text u) so_far.received is);
+  received = after ∙ ap (λ (s : Received). received_after s u) so_far.received ∙ sym (received_one_more r us u);
+}
+
+-- at the end all were
+pub at_end : (client : Client) (r now : Received) (lines left : List Numbered) (us : List UpdateValue) → SoFar client r now lines left us → left ≡ [] → ArePlayed client r lines us
+at_end client r now lines left us so_far none = subst (λ ls. ArePlayed client r ls us) (sym (so_far.lines_are ∙ ap (λ ls. so_far.before ++ ls) none ∙ append-nil so_far.before)) so_far.are_played
+
+-- the first that is refused
+pub stops_here : (client : Client) (r now : Received) (lines behind left : List Numbered) (line : Numbered) (us : List UpdateValue) (fault : PlayFault) → SoFar client r now lines left us →
+    left ≡ line ∷ behind → IsRefusedFor client now line fault → StopsFor client r lines fault
+stops_here client r now lines behind left line us NoMemory so_far next is = tt
+stops_here client r now lines behind left line us (Refused number cause) so_far next is = record {
+  before = so_far.before;
+  line = line;
+  behind = behind;
+  updates = us;
+  lines_are = so_far.lines_are ∙ ap (λ ls. so_far.before ++ ls) next;
+  are_played = so_far.are_played;
+  refused = subst (λ (s : Received). IsRefused client s line.text cause) so_far.received is.1;
+  number_is = is.0;
+}
+
+-- ---- lemmas for callers: one line
+
+-- what is read of a line
+pub read_as : (text : List ℕ) (seen : LineSeen) → (◌≡◌ {A = Result LineSeen LineFault} (Ok seen) (Err faults.NoMemory)) ⊎ Reads (line_in text) (Ok seen) → line_in text ≡ Some (line_of seen)
+read_as text seen (inl e) = absurd cc
+read_as text seen (inr reads) = go (line_in text) reads
+  where
+    go : (found : Option Line) → Reads found (Ok seen) → found ≡ Some (line_of seen)
+    go (Some line) e = ap (λ (l : Line). Some l) (sym e)
+    go None e = absurd cc
+
+pub read_as_none : (text : List ℕ) (fault : LineFault) → fault ≡ faults.BadLine →
+    (◌≡◌ {A = Result LineSeen LineFault} (Err fault) (Err faults.NoMemory)) ⊎ Reads (line_in text) (Err fault) → line_in text ≡ None
+read_as_none text fault bad h = by_both (subst (λ f. (◌≡◌ {A = Result LineSeen LineFault} (Err f) (Err faults.NoMemory)) ⊎ Reads (line_in text) (Err f)) bad h)
+  where
+    go : (found : Option Line) → Reads found (Err faults.BadLine) → found ≡ None
+    go (Some line) e = absurd cc
+    go None e = refl
+
+    by_both : (◌≡◌ {A = Result LineSeen LineFault} (Err faults.BadLine) (Err faults.NoMemory)) ⊎ Reads (line_in text) (Err faults.BadLine) → line_in text ≡ None
+    by_both (inl e) = absurd cc
+    by_both (inr reads) = go (line_in text) reads
+
+-- a line that is none is refused
+pub unread_refused : (client : Client) (r : Received) (line : Numbered) (fault : PlayFault) → IsUnread line fault → IsRefusedFor client r line fault
+unread_refused client r line NoMemory is = tt
+unread_refused client r line (Refused number BadLine) is = is
+unread_refused client r line (Refused number (Edit fault)) is = absurd is
+
+module _ (client : Client) (r : Received) (text : Numbered) (line : Line) (document : Document) (is_line : line_in text.text ≡ Some line) (is_document : IsDocumentOf document r) where
+  because : (refusal : Refusal) → line_refusal (basis_over client document r) line ≡ Some refusal → IsRefusedEdit client r text.text (fault_of refusal)
+  because refusal refused = record { line = line; document = document; refusal = refusal; is_line = is_line; is_document = is_document; refused = refused; fault_is = refl }
+
+  -- an edit that is refused says so
+  pub edit_refused : (fault : EditFault) → IsCause fault (line_refusal (basis_over client document r) line) → IsRefusedFor client r text (refused_by text.number fault)
+  edit_refused edits.NoMemory is = tt
+  edit_refused (edits.NoPlace id) is = (refl, because (no_place id) is)
+  edit_refused (edits.NotHeld id) is = (refl, because (not_held id) is)
+  edit_refused (edits.ClockFull clock) is = (refl, because (clock_full clock) is)
+  edit_refused (edits.InsidePair place) is = (refl, because (inside_pair place) is)
+  edit_refused (edits.OwnWaiting clock) is = (refl, because (own_waiting clock) is)
+  edit_refused (edits.PastEnd length) is = (refl, because (past_end length) is)
+  edit_refused edits.NoKey is = absurd is
+  edit_refused edits.Nothing is = absurd is
+
+-- what holds after an error
+pub on_error : {X E : Type 0} (P : Type 0) (r : Result X E) → P → OnErr r P
+on_error P (Ok x) p = tt
+on_error P (Err e) p = p

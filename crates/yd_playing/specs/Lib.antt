@@ -1,0 +1,4 @@
+pub mod Asked
+pub mod Law
+pub mod Played
+pub mod Stopped

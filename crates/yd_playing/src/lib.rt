@@ -1,0 +1,18 @@
+//! Scripts carried out: each line is one edit of a replica (own).
+//!
+//! [`play`] carries out the lines of a script in their order, and answers the updates of their edits,
+//! or the first line that is refused and why. The replica has then taken what the lines before it
+//! made.
+//!
+//! ```rust
+//! let updates = play(alloc, &mut replica, "[\"insert\",\"t\",0,\"Hi\"]\n")?;
+//! ```
+#![tactic(auto)]
+
+mod carrying;
+mod fault;
+pub mod law;
+mod playing;
+
+pub use fault::{LineCause, PlayFault};
+pub use playing::play;
