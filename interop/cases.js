@@ -10,6 +10,7 @@ const encoding = require('lib0/encoding');
 const Y = require('yjs');
 const { bytesOf, casesOf, wordsOf } = require('./case_file.js');
 const { APPLIED } = require('./session.js');
+const { MODES } = require('./shown.js');
 
 const CASES = path.join(__dirname, '..', 'crates', 'yd_cases');
 
@@ -20,11 +21,11 @@ function filesOfProgram() {
   return files.map((name) => path.join(CASES, 'data', name));
 }
 
-/** The text of a root, as Yjs shows it once it took the files in this order. */
-function shown(root, files) {
+/** A root in a mode, as Yjs has it once it took the files in this order. */
+function shown(mode, root, files) {
   const doc = new Y.Doc({ gc: false });
   files.forEach(([form, bytes]) => APPLIED[form](doc, bytes));
-  return Buffer.from(`${doc.getText(root)}\n`);
+  return Buffer.from(`${MODES[mode](doc, root)}\n`);
 }
 
 /** An update in a format, as the converters of Yjs write it. */
@@ -74,8 +75,8 @@ function cut(vector, [form, bytes]) {
 /** What Yjs makes of words, or null where it has no such call. */
 function answer({ files }, words) {
   const read = (from) => words.slice(from).flatMap((word) => updatesOf(files, word));
-  if (words[0] === 'show' && words[1] === '--text') {
-    return shown(words[2], read(3));
+  if (words[0] === 'show') {
+    return shown(words[1], words[2], read(3));
   }
   if (words[0] === 'pack') {
     return packed(read(1));

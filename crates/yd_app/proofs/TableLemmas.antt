@@ -3,10 +3,12 @@ use Rattle.std.proofs.Common.{◌≡◌, ◌⊎◌, ◌∙◌, ℕ, List, [], �
 use Rattle.std.proofs.lemmas.Slice.Eq.{bytes_eq-Decides}
 use Rattle.std.specs.Prelude.{codes}
 use Rattle.std.specs.Str.{bytes_eq}
-use Rattle.yd_app.specs.Command.{Command, arguments_of, convert, cut, merge, name_of, pack, show_text, vector, word_of, words_of}
-use Rattle.yd_app.specs.Table.{Begun, Row, command_in, convert_in, convert_to, cut_in, either, format_in, merge_in, merge_to, pack_in, row_in, show_in, table, vector_in}
+use Rattle.yd_app.specs.Command.{Command, arguments_of, convert, cut, merge, name_of, pack, show, vector, word_of, word_of_mode, words_of}
+use Rattle.yd_app.specs.Table.{Begun, Row, command_in, convert_in, convert_to, cut_in, either, format_in, merge_in, merge_to, mode_in, pack_in, row_in, show_in, show_to, table, vector_in}
 use Rattle.yd_app.specs.declared.format.Format.{Format}
 use Rattle.yd_app.specs.declared.format.Format.TheVariants.{V1, V2}
+use Rattle.yd_modes.specs.declared.mode.Mode.{Mode}
+use Rattle.yd_modes.specs.declared.mode.Mode.TheVariants.{Text, Delta, Array, Map, Tree}
 
 -- ---- what is read are the command's words
 
@@ -40,19 +42,38 @@ format_found word form is = by_first (bytes_eq word (codes "v1")) refl is
     by_first true same found = let form_is : V1 ≡ form = cc in subst (λ (f : Format). word ≡ word_of f) form_is ((bytes_eq-Decides word (codes "v1")).0 same)
     by_first false other found = by_second (bytes_eq word (codes "v2")) refl found
 
+-- a mode that is read of a word is the one that it names, where the words behind are so too
+mode_read : (word other : List ℕ) (mode this : Mode) (rest : Option Mode) → word_of_mode this ≡ other → either (bytes_eq word other) (Some this) rest ≡ Some mode → (word ≡ word_of_mode mode) ⊎ (rest ≡ Some mode)
+mode_read word other mode this rest named is = by_test (bytes_eq word other) refl is
+  where
+    by_test : (test : Bool) → bytes_eq word other ≡ test → either test (Some this) rest ≡ Some mode → (word ≡ word_of_mode mode) ⊎ (rest ≡ Some mode)
+    by_test true same found = let mode_is : this ≡ mode = cc in inl ((bytes_eq-Decides word other).0 same ∙ sym named ∙ ap word_of_mode mode_is)
+    by_test false same found = inr found
+
+mode_or : (word : List ℕ) (mode : Mode) (rest : Option Mode) → (word ≡ word_of_mode mode) ⊎ (rest ≡ Some mode) → (rest ≡ Some mode → word ≡ word_of_mode mode) → word ≡ word_of_mode mode
+mode_or word mode rest (inl is) more = is
+mode_or word mode rest (inr found) more = more found
+
+mode_found : (word : List ℕ) (mode : Mode) → mode_in word ≡ Some mode → word ≡ word_of_mode mode
+mode_found word mode is =
+    mode_or word mode _ (mode_read word (codes "--text") mode Text _ refl is) (λ is.
+    mode_or word mode _ (mode_read word (codes "--delta") mode Delta _ refl is) (λ is.
+    mode_or word mode _ (mode_read word (codes "--array") mode Array _ refl is) (λ is.
+    mode_or word mode _ (mode_read word (codes "--map") mode Map _ refl is) (λ is.
+    mode_or word mode _ (mode_read word (codes "--tree") mode Tree None refl is) (λ is. absurd cc)))))
+
 show_sound : IsSound (record { name = codes "show"; arguments = show_in })
 unfolding IsSound
 show_sound [] command names is = absurd cc
-show_sound (mode ∷ []) command names is = absurd cc
-show_sound (mode ∷ root ∷ rest) command names is = by_mode (bytes_eq mode (codes "--text")) refl is
+show_sound (word ∷ []) command names is = absurd cc
+show_sound (word ∷ root ∷ rest) command names is = by_mode (mode_in word) refl is
   where
-    by_mode : (test : Bool) → bytes_eq mode (codes "--text") ≡ test → either {X = Begun} test (Some (show_text root, rest)) None ≡ Some (command, names) → (codes "show" ≡ name_of command) × (mode ∷ root ∷ rest ≡ arguments_of command ++ names)
-    by_mode true same found =
-        let one = read_one (show_text root) command rest names (Some (show_text root, rest)) refl found in
-        let words_are : mode ∷ root ∷ rest ≡ codes "--text" ∷ root ∷ rest = ap (λ (w : List ℕ). w ∷ root ∷ rest) ((bytes_eq-Decides mode (codes "--text")).0 same) in
-        subst (λ (c : Command). (codes "show" ≡ name_of c) × (mode ∷ root ∷ rest ≡ arguments_of c ++ names)) one.0
-        (refl, subst (λ (ns : List (List ℕ)). mode ∷ root ∷ rest ≡ codes "--text" ∷ root ∷ ns) one.1 words_are)
-    by_mode false other found = absurd cc
+    by_mode : (read : Option Mode) → mode_in word ≡ read → show_to read root rest ≡ Some (command, names) → (codes "show" ≡ name_of command) × (word ∷ root ∷ rest ≡ arguments_of command ++ names)
+    by_mode (Some mode) named found =
+        let one = read_one (show mode root) command rest names (Some (show mode root, rest)) refl found in
+        subst (λ (c : Command). (codes "show" ≡ name_of c) × (word ∷ root ∷ rest ≡ arguments_of c ++ names)) one.0
+        (refl, subst (λ (ns : List (List ℕ)). word ∷ root ∷ rest ≡ word_of_mode mode ∷ root ∷ ns) one.1 (ap (λ (w : List ℕ). w ∷ root ∷ rest) (mode_found word mode named)))
+    by_mode None named found = absurd cc
 
 convert_sound : IsSound (record { name = codes "convert"; arguments = convert_in })
 unfolding IsSound
@@ -128,7 +149,11 @@ command_found (name ∷ words) command names is = row_found table table_sound na
 
 -- a command's words are read as that command
 pub command_read : (command : Command) (names : List (List ℕ)) → command_in (words_of command names) ≡ Some (command, names)
-command_read (show_text root) names = refl
+command_read (show Text root) names = refl
+command_read (show Delta root) names = refl
+command_read (show Array root) names = refl
+command_read (show Map root) names = refl
+command_read (show Tree root) names = refl
 command_read (convert V1) names = refl
 command_read (convert V2) names = refl
 command_read pack names = refl

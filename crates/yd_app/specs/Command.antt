@@ -3,20 +3,22 @@ use Rattle.std.specs.Prelude.{ℕ, ◌<◌, List, [], ◌∷◌, ◌++◌, lengt
 use Rattle.yd_files.specs.Files.{AreOneUpdate, File}
 use Rattle.yd_files.specs.declared.kind.Kind.TheVariants as kinds
 use Rattle.yd_app.specs.declared.command.Command.{Command as CommandSeen}
-use Rattle.yd_app.specs.declared.command.Command.TheVariants.{ShowText, Convert, Pack, Merge, Vector, Cut}
+use Rattle.yd_app.specs.declared.command.Command.TheVariants.{Show, Convert, Pack, Merge, Vector, Cut}
 use Rattle.yd_app.specs.declared.command.Wanted.{Wanted}
 use Rattle.yd_app.specs.declared.command.Wanted.TheVariants.{Several, OneUpdate}
 use Rattle.yd_app.specs.declared.format.Format.{Format}
 use Rattle.yd_app.specs.declared.format.Format.TheVariants.{V1, V2}
+use Rattle.yd_modes.specs.declared.mode.Mode.{Mode}
+use Rattle.yd_modes.specs.declared.mode.Mode.TheVariants.{Text, Delta, Array, Map, Tree}
 
 -- how the program is used
 abbrev pub usage_line : List ℕ
 usage_line = codes "usage: ydoc show|merge|cut|vector|convert|edit|serve|sync|check|generate|pack\n"
 
--- what is done with files: a root's text is shown of all that they hold, the one file is written in a format, all updates as one log
+-- what is done with files: a root is shown in a mode of all that they hold, the one file is written in a format, all updates as one log
 -- or as one update in a format, the vector that all reach together, or what the one file has from the vector in a file on
 pub data Command : Type 0 where
-  show_text : List ℕ → Command
+  show : Mode → List ℕ → Command
   convert : Format → Command
   pack : Command
   merge : Format → Command
@@ -25,7 +27,7 @@ pub data Command : Type 0 where
 
 -- the command that the code has, without where its texts lie in memory
 abbrev pub command_of : CommandSeen → Command
-command_of (ShowText root) = show_text root.now
+command_of (Show mode root) = show mode root.now
 command_of (Convert form) = convert form
 command_of Pack = pack
 command_of (Merge form) = merge form
@@ -34,7 +36,7 @@ command_of (Cut name) = cut name.now
 
 -- its name
 abbrev pub name_of : Command → List ℕ
-name_of (show_text root) = codes "show"
+name_of (show mode root) = codes "show"
 name_of (convert form) = codes "convert"
 name_of pack = codes "pack"
 name_of (merge form) = codes "merge"
@@ -46,9 +48,17 @@ abbrev pub word_of : Format → List ℕ
 word_of V1 = codes "v1"
 word_of V2 = codes "v2"
 
+-- the word that names a mode
+abbrev pub word_of_mode : Mode → List ℕ
+word_of_mode Text = codes "--text"
+word_of_mode Delta = codes "--delta"
+word_of_mode Array = codes "--array"
+word_of_mode Map = codes "--map"
+word_of_mode Tree = codes "--tree"
+
 -- the words behind its name that say how
 abbrev pub arguments_of : Command → List (List ℕ)
-arguments_of (show_text root) = codes "--text" ∷ root ∷ []
+arguments_of (show mode root) = word_of_mode mode ∷ root ∷ []
 arguments_of (convert form) = word_of form ∷ []
 arguments_of pack = []
 arguments_of (merge form) = word_of form ∷ []
@@ -57,7 +67,7 @@ arguments_of (cut name) = name ∷ []
 
 -- which files it wants
 abbrev pub wanted_by : Command → Wanted
-wanted_by (show_text root) = Several
+wanted_by (show mode root) = Several
 wanted_by (convert form) = OneUpdate
 wanted_by pack = Several
 wanted_by (merge form) = Several

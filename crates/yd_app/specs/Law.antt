@@ -11,7 +11,7 @@ use Rattle.yd_files.specs.Files.{File}
 use Rattle.yd_files.specs.Verdict.{Inputs, StandFor}
 use Rattle.yd_files.specs.declared.kind.Kind.{Kind}
 use Rattle.yd_files.specs.declared.kind.Kind.TheVariants as kinds
-use Rattle.yd_app.specs.Command.{Command, convert, merge, show_text, vector}
+use Rattle.yd_app.specs.Command.{Command, convert, merge, show, vector}
 use Rattle.yd_app.specs.Due.{Due, IsDue}
 use Rattle.yd_app.specs.Output.{IsMadeOf, IsOutputOf}
 use Rattle.yd_app.specs.Run.{Writes}
@@ -19,6 +19,7 @@ use Rattle.yd_app.specs.Words.{Asks}
 use Rattle.yd_app.specs.Writing.{TakesAll}
 use Rattle.yd_app.specs.declared.format.Format.{Format}
 use Rattle.yd_app.specs.declared.format.Format.TheVariants.{V1, V2}
+use Rattle.yd_modes.specs.declared.mode.Mode.{Mode}
 
 -- words ask for one command of one list of files at most
 abbrev pub AskForOne : Type 0
@@ -44,22 +45,22 @@ pub record SayOneThing (one other : List UpdateValue) : Type 0 where
 abbrev pub AreSameChanges : List UpdateValue → List UpdateValue → Type 0
 AreSameChanges one other = HaveOneContents one other ⊎ SayOneThing one other
 
--- files in any formats, by any names and in any libraries, show the same text of each root where they are the same changes
+-- files in any formats, by any names and in any libraries, show the same of each root, in every mode, where they are the same changes
 abbrev pub ShowsConverge : Type 0
-ShowsConverge = (shelf other : Shelf) (files others : List File) (one another : Inputs) (root : List ℕ) → StandFor (Some shelf) files one → StandFor (Some other) others another → AreSameChanges one.updates another.updates →
-    (bytes others_bytes : List ℕ) → IsOutputOf (show_text root) one bytes → IsOutputOf (show_text root) another others_bytes → bytes ≡ others_bytes
+ShowsConverge = (shelf other : Shelf) (files others : List File) (one another : Inputs) (mode : Mode) (root : List ℕ) → StandFor (Some shelf) files one → StandFor (Some other) others another → AreSameChanges one.updates another.updates →
+    (bytes others_bytes : List ℕ) → IsOutputOf (show mode root) one bytes → IsOutputOf (show mode root) another others_bytes → bytes ≡ others_bytes
 
--- the words ask to show the root of files that are read as these inputs, and what is promised for status 0 was written
-pub record Shows (root : List ℕ) (inputs : Inputs) (words : List (List ℕ)) (shelf : Shelf) (taken now : Option (List ℕ)) : Type 0 where
+-- the words ask to show the root in the mode, of files that are read as these inputs, and what is promised for status 0 was written
+pub record Shows (mode : Mode) (root : List ℕ) (inputs : Inputs) (words : List (List ℕ)) (shelf : Shelf) (taken now : Option (List ℕ)) : Type 0 where
   pub files : List File
-  pub asks : Asks words (show_text root) files
+  pub asks : Asks words (show mode root) files
   pub stand : StandFor (Some shelf) files inputs
   pub writes : Writes words (Some shelf) taken now
 
--- two runs that show a root of the same changes and answer 0 have written the same
+-- two runs that show a root in one mode of the same changes and answer 0 have written the same
 abbrev pub RunsConverge : Type 0
-RunsConverge = (root : List ℕ) (one another : Inputs) (words others : List (List ℕ)) (shelf other : Shelf) (taken now took took_now : Option (List ℕ)) →
-    Shows root one words shelf taken now → Shows root another others other took took_now → AreSameChanges one.updates another.updates →
+RunsConverge = (mode : Mode) (root : List ℕ) (one another : Inputs) (words others : List (List ℕ)) (shelf other : Shelf) (taken now took took_now : Option (List ℕ)) →
+    Shows mode root one words shelf taken now → Shows mode root another others other took took_now → AreSameChanges one.updates another.updates →
     (written : List ℕ) × TakesAll taken now written × TakesAll took took_now written
 
 -- ---- merges

@@ -5,16 +5,16 @@ use Rattle.yd_updates.specs.Received.{received_set}
 use Rattle.yd_files.specs.Verdict.{Inputs}
 use Rattle.yd_v1.specs.Log.{StandsForLog}
 use Rattle.yd_v1.specs.LogWriting.{log_bytes}
-use Rattle.yd_app.specs.Command.{Command, convert, cut, merge, pack, show_text, vector}
+use Rattle.yd_app.specs.Command.{Command, convert, cut, merge, pack, show, vector}
 use Rattle.yd_app.specs.Commands.Convert.{ConvertedStandsAgain, converted_output}
 use Rattle.yd_app.specs.Commands.Cut.{CutStandsAgain, cut_output}
 use Rattle.yd_app.specs.Commands.Merge.{MergedStandsAgain, merged_output}
-use Rattle.yd_app.specs.Commands.Show.{text_line}
+use Rattle.yd_app.specs.Commands.Show.{shown_line}
 use Rattle.yd_app.specs.Commands.Vector.{VectorStandsAgain, vector_output}
 
 -- what the command writes of its inputs, and of a document of what their updates bring together
 abbrev pub output_of : Command → Inputs → Document → List ℕ
-output_of (show_text root) inputs document = text_line root document
+output_of (show mode root) inputs document = shown_line mode root document
 output_of (convert form) inputs document = converted_output form inputs.updates
 output_of pack inputs document = log_bytes inputs.updates
 output_of (merge form) inputs document = merged_output form inputs.updates
@@ -23,7 +23,7 @@ output_of (cut name) inputs document = cut_output inputs.kinds inputs.vectors in
 
 -- what `convert` and `pack` write stands for the updates again, and what `merge`, `vector` and `cut` write for the merge, its vector and the cut
 abbrev pub StandsForAgain : Command → Inputs → Type 0
-StandsForAgain (show_text root) inputs = Unit {0}
+StandsForAgain (show mode root) inputs = Unit {0}
 StandsForAgain (convert form) inputs = ConvertedStandsAgain form inputs.updates
 StandsForAgain pack inputs = StandsForLog (log_bytes inputs.updates) inputs.updates
 StandsForAgain (merge form) inputs = MergedStandsAgain form inputs.updates

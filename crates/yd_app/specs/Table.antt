@@ -1,9 +1,11 @@
 -- The table of commands: a row for each, with its name and how the words behind it are read (own).
 use Rattle.std.specs.Prelude.{ℕ, List, [], ◌∷◌, Bool, true, false, Option, Some, None, codes}
 use Rattle.std.specs.Str.{bytes_eq}
-use Rattle.yd_app.specs.Command.{Command, convert, cut, merge, pack, show_text, vector}
+use Rattle.yd_app.specs.Command.{Command, convert, cut, merge, pack, show, vector}
 use Rattle.yd_app.specs.declared.format.Format.{Format}
 use Rattle.yd_app.specs.declared.format.Format.TheVariants.{V1, V2}
+use Rattle.yd_modes.specs.declared.mode.Mode.{Mode}
+use Rattle.yd_modes.specs.declared.mode.Mode.TheVariants.{Text, Delta, Array, Map, Tree}
 
 -- the first where the test holds, and else the second
 abbrev pub either : {X : Type 0} → Bool → X → X → X
@@ -23,13 +25,26 @@ pub record Row : Type 0 where
 abbrev pub format_in : List ℕ → Option Format
 format_in word = either (bytes_eq word (codes "v1")) (Some V1) (either (bytes_eq word (codes "v2")) (Some V2) None)
 
+-- the mode that a word names
+abbrev pub mode_in : List ℕ → Option Mode
+mode_in word =
+    either (bytes_eq word (codes "--text")) (Some Text)
+    (either (bytes_eq word (codes "--delta")) (Some Delta)
+    (either (bytes_eq word (codes "--array")) (Some Array)
+    (either (bytes_eq word (codes "--map")) (Some Map)
+    (either (bytes_eq word (codes "--tree")) (Some Tree) None))))
+
 -- ---- rows
 
--- `show --text NAME`
+-- `show MODE NAME`
+abbrev pub show_to : Option Mode → List ℕ → List (List ℕ) → Begun
+show_to None root names = None
+show_to (Some mode) root names = Some (show mode root, names)
+
 abbrev pub show_in : List (List ℕ) → Begun
 show_in [] = None
-show_in (mode ∷ []) = None
-show_in (mode ∷ root ∷ names) = either (bytes_eq mode (codes "--text")) (Some (show_text root, names)) None
+show_in (word ∷ []) = None
+show_in (word ∷ root ∷ names) = show_to (mode_in word) root names
 
 -- `convert FORM`
 abbrev pub convert_to : Option Format → List (List ℕ) → Begun

@@ -6,8 +6,10 @@ ghost use Rattle.yd_app.specs.Command.{AreWanted, command_of as seen, given_file
 ghost use Rattle.yd_app.specs.Table.{command_in, convert_in, cut_in, merge_in, row_in, show_in, table};
 
 use crate::format::{Format, format_named};
+use crate::mode::mode_named;
 use crate::word::Word;
 use yd_files::{File, Kind};
+use yd_modes::Mode;
 
 /// How the program is used.
 pub const USAGE: &str =
@@ -16,8 +18,8 @@ pub const USAGE: &str =
 /// What is done with files.
 #[derive(Clone, Copy)]
 pub enum Command<'a> {
-    /// The text of the root of this name is shown of all that the files hold.
-    ShowText { root: &'a str },
+    /// The root of this name is shown in a mode, of all that the files hold.
+    Show { mode: Mode, root: &'a str },
     /// The file's update is written in this format.
     Convert { form: Format },
     /// All updates are written as one log.
@@ -46,7 +48,7 @@ impl<'a> Command<'a> {
         ensures { result ≡ wanted_by (seen self.entry) }
     {
         match self {
-            Command::ShowText { .. } => Wanted::Several,
+            Command::Show { .. } => Wanted::Several,
             Command::Convert { .. } => Wanted::OneUpdate,
             Command::Pack => Wanted::Several,
             Command::Merge { .. } => Wanted::Several,
@@ -128,18 +130,16 @@ fn command_named<'a>(name: &str, words: &'a [Word]) -> Option<(Command<'a>, &'a 
     None
 }
 
-// `--text NAME`
+// `MODE NAME`
 fn show_of(words: &[Word]) -> Option<(Command<'_>, &[Word])>
     ensures found { IfSome result (λ both. show_in words.now ≡ Some (seen both.0, both.1.now)) }
     ensures none { IfNone result (show_in words.now ≡ None) }
 {
     match words {
         [mode, root, names @ ..] => {
-            if mode.as_str() != "--text" {
-                return None;
-            }
+            let mode = mode_named(mode.as_str())?;
             let root = root.as_str();
-            Some((Command::ShowText { root }, names))
+            Some((Command::Show { mode, root }, names))
         }
         _ => None,
     }

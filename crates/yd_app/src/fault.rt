@@ -64,6 +64,22 @@ impl From<yd_view::NoMemory> for NoMemory {
     }
 }
 
+impl From<yd_modes::NoMemory> for NoMemory {
+    ghost from_gives = { λ _ e. e ≡ record {} };
+
+    fn from(_refused: yd_modes::NoMemory) -> NoMemory {
+        NoMemory
+    }
+}
+
+impl From<yd_value::NoMemory> for NoMemory {
+    ghost from_gives = { λ _ e. e ≡ record {} };
+
+    fn from(_refused: yd_value::NoMemory) -> NoMemory {
+        NoMemory
+    }
+}
+
 impl From<yd_merge::NoMemory> for NoMemory {
     ghost from_gives = { λ _ e. e ≡ record {} };
 

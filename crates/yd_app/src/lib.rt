@@ -19,6 +19,7 @@ mod ending;
 mod fault;
 mod format;
 pub mod law;
+mod mode;
 mod program;
 mod receiving;
 mod refusal;

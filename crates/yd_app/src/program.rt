@@ -16,8 +16,9 @@ use yd_files::read_files;
 use yd_world::{Library, Sink, Switchboard};
 
 /// Does what the words ask for, and answers the status. The words that run are
-/// `show --text NAME FILE..`, `convert FORM FILE`, `pack FILE..`, `merge FORM FILE..`,
-/// `vector FILE..` and `cut VECTORFILE FILE`. FORM is `v1` or `v2`, and FILE is `v1:NAME` or `v2:NAME`.
+/// `show MODE NAME FILE..`, `convert FORM FILE`, `pack FILE..`, `merge FORM FILE..`,
+/// `vector FILE..` and `cut VECTORFILE FILE`. MODE is `--text`, `--delta`, `--array`, `--map` or
+/// `--tree`, FORM is `v1` or `v2`, and FILE is `v1:NAME` or `v2:NAME`.
 /// `FILE..` is one or more, and each may also be `log:NAME`. VECTORFILE is any word: the name of a state
 /// vector's file. Files are read and judged one by one in the order of the words, and nothing is
 /// written to out before all are accepted.

@@ -1,15 +1,11 @@
 -- What `show` writes of a document (own).
-use Rattle.std.specs.Prelude.{ℕ, List, [], ◌∷◌, ◌++◌, None}
+use Rattle.std.specs.Prelude.{ℕ, List, [], ◌∷◌, ◌++◌}
 use Rattle.yd_meaning.specs.Document.{Document}
-use Rattle.yd_meaning.specs.Text.{shown_text}
-use Rattle.yd_ops.specs.declared.lists.List.{List as DocList}
+use Rattle.yd_modes.specs.Modes.{mode_of}
+use Rattle.yd_modes.specs.declared.mode.Mode.{Mode}
 use Rattle.yd_ops.specs.declared.lists.Parent.TheVariants.{Root}
-use Rattle.yd_units.specs.Text.{text_of}
+use Rattle.yd_shown.specs.Shown.{printed_text, shown}
 
--- the list of the root with the name
-abbrev pub root_list : List ℕ → DocList
-root_list name = record { parent = Root name; key = None }
-
--- what the root shows as its text in a document, and a line feed
-abbrev pub text_line : List ℕ → Document → List ℕ
-text_line root document = text_of (shown_text document (root_list root)) ++ 10 ∷ []
+-- what the root shows in a mode in a document, as it is printed, and a line feed
+abbrev pub shown_line : Mode → List ℕ → Document → List ℕ
+shown_line mode root document = printed_text (mode_of mode) (shown document (Root root) (mode_of mode)) ++ 10 ∷ []

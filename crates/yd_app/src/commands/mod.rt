@@ -26,7 +26,7 @@ pub fn output_of(alloc: Global, command: Command<'_>, inputs: &Inputs) -> Result
         IsMadeOf (command_of command.entry) (inputs_of inputs.now) bytes.items) }
 {
     match command {
-        Command::ShowText { root } => show::show(alloc, root, inputs),
+        Command::Show { mode, root } => show::show(alloc, mode, root, inputs),
         Command::Convert { form } => convert::convert(alloc, form, inputs),
         Command::Pack => pack::pack(alloc, inputs),
         Command::Merge { form } => merge::merge(alloc, form, inputs),

@@ -1,0 +1,145 @@
+'use strict';
+
+// What a document of Yjs shows of a root in each mode, printed as ydoc prints it.
+
+const Y = require('yjs');
+
+/** How many types inside one another are shown. */
+const MOST_TYPES = 100;
+
+/** An object with one key. */
+function marked(key, value) {
+  return { [`$${key}`]: value };
+}
+
+/** The bytes of a float, in four bytes where these are enough. */
+function floatOf(number) {
+  const size = Math.fround(number) === number ? 4 : 8;
+  const bytes = Buffer.alloc(size);
+  bytes[size === 4 ? 'writeFloatBE' : 'writeDoubleBE'](number);
+  return marked(`raw${size}`, bytes.toString('hex'));
+}
+
+/** Whether a number is written as a whole one (lib0, writeAny). */
+function isWhole(number) {
+  return Number.isInteger(number) && Math.abs(number) <= 2 ** 31 - 1;
+}
+
+/** An any-value or a JSON value. */
+function plain(value) {
+  if (value === undefined) {
+    return marked('undefined', true);
+  }
+  if (typeof value === 'bigint') {
+    return marked('big', `${value}`);
+  }
+  if (typeof value === 'number' && !isWhole(value)) {
+    return floatOf(value);
+  }
+  if (value instanceof Uint8Array) {
+    return marked('blob', Buffer.from(value).toString('hex'));
+  }
+  if (Array.isArray(value)) {
+    return value.map(plain);
+  }
+  if (value !== null && typeof value === 'object') {
+    return Object.fromEntries(Object.entries(value).map(([key, each]) => [key, plain(each)]));
+  }
+  return value;
+}
+
+/** An object whose keys stand in the order of their bytes. */
+function byKey(entries) {
+  return Object.fromEntries(
+    entries.sort(([one], [other]) => Buffer.compare(Buffer.from(one), Buffer.from(other))),
+  );
+}
+
+/** A nested type by its kind, with at most so many types inside it. */
+function typeOf(type, most) {
+  if (most === 0) {
+    return marked('deep', true);
+  }
+  const left = most - 1;
+  switch (type.constructor) {
+    case Y.Map:
+      return mapOf(type, left);
+    case Y.Text:
+      return type.toString();
+    case Y.XmlText:
+      return deltaOf(type, left);
+    case Y.XmlHook:
+      return { attributes: mapOf(type, left), hook: type.hookName };
+    case Y.XmlElement:
+      return { ...treeOf(type, left), name: type.nodeName };
+    default:
+      return listOf(type, left);
+  }
+}
+
+/** A value, which may be a type. */
+function valueOf(value, most) {
+  return value instanceof Y.AbstractType ? typeOf(value, most) : plain(value);
+}
+
+/** The map of a type: what stands last under each key, where it is live and counted. */
+function mapOf(type, most) {
+  const live = [...type._map].filter(([, item]) => !item.deleted && item.countable);
+  return byKey(live.map(([key, item]) => [key, valueOf(item.content.getContent().at(-1), most)]));
+}
+
+/** The values of a type's list, with neighbouring text as one string. */
+function listOf(type, most) {
+  const values = [];
+  let wasText = false;
+  for (let item = type._start; item !== null; item = item.right) {
+    if (item.deleted || !item.countable) {
+      continue;
+    }
+    const isText = item.content instanceof Y.ContentString;
+    if (isText && wasText) {
+      values.push(values.pop() + item.content.str);
+    } else if (isText) {
+      values.push(item.content.str);
+    } else {
+      values.push(...item.content.getContent().map((value) => valueOf(value, most)));
+    }
+    wasText = isText;
+  }
+  return values;
+}
+
+/** The delta of a text. Yjs parts text at each mark; here neighbours with equal attributes are one. */
+function deltaOf(type, most) {
+  const pieces = [];
+  for (const { insert, attributes = {} } of Y.Text.prototype.toDelta.call(type)) {
+    const under = byKey(Object.entries(attributes).map(([key, value]) => [key, plain(value)]));
+    const is = JSON.stringify(under);
+    const last = pieces.at(-1);
+    if (typeof insert === 'string' && last !== undefined && last.isText && last.is === is) {
+      last.insert += insert;
+    } else {
+      const isText = typeof insert === 'string';
+      pieces.push({ is, isText, under, insert: isText ? insert : valueOf(insert, most) });
+    }
+  }
+  return pieces.map(({ is, under, insert }) =>
+    is === '{}' ? { insert } : { attributes: under, insert },
+  );
+}
+
+/** The map and the list of a type. */
+function treeOf(type, most) {
+  return { attributes: mapOf(type, most), children: listOf(type, most) };
+}
+
+/** The modes, by their words. */
+const MODES = {
+  '--text': (doc, root) => doc.getText(root).toString(),
+  '--delta': (doc, root) => JSON.stringify(deltaOf(doc.getText(root), MOST_TYPES)),
+  '--array': (doc, root) => JSON.stringify(listOf(doc.get(root), MOST_TYPES)),
+  '--map': (doc, root) => JSON.stringify(mapOf(doc.get(root), MOST_TYPES)),
+  '--tree': (doc, root) => JSON.stringify(treeOf(doc.get(root), MOST_TYPES)),
+};
+
+module.exports = { MODES };
