@@ -58,7 +58,8 @@ module _ (updates : List UpdateValue) (valid : Each IsValidUpdate updates) (runs
   unlike_there : (x : Id) → IsUnlike updates x → Unlike x
   unlike_there x u = elim u.unlike [ inl e ↦ inl (places e.0 e.1 e.2) | inr h ↦ inr (contents h.0 h.1 h.2) ]
     where
-      places : 0 < level_of u.one.content → 0 < level_of u.other.content → ((u.one.left_origin ≡ u.other.left_origin) × (u.one.right_origin ≡ u.other.right_origin) × (u.one.list ≡ u.other.list) → ⊥) →
+      places : 0 < level_of u.one.content → 0 < level_of u.other.content → ((u.one.left_origin ≡ u.other.left_origin) × (u.one.right_origin ≡ u.other.right_origin) ×
+          (u.one.list ≡ u.other.list) → ⊥) →
           DifferAmong place_of runs x
       places some more differ = go (told_run u.one u.one_there some) (told_run u.other u.other_there more)
         where

@@ -44,7 +44,8 @@ none_begins runs x count parted none r i by = subst (λ (n : ℕ). IsIn r (take 
 pub cover_tells : (runs : List RunValue) (x : Id) (count : ℕ) (cover : RunValue) → ArePartedAt runs x count → IsCover (take count runs) cover → IsCoverAt runs x cover
 cover_tells runs x count cover parted is = record {
   there = in_front runs count cover is.there;
-  begins = each_in (λ (r : RunValue). ComesBy r.id x) (take count runs) (in_each (λ (r : RunValue). ComesBy r.id x) (take count runs) (begun runs count parted.begun)) cover is.there;
+  begins = each_in (λ (r : RunValue). ComesBy r.id x) (take count runs)
+      (in_each (λ (r : RunValue). ComesBy r.id x) (take count runs) (begun runs count parted.begun)) cover is.there;
   last = λ r i by. each_in (λ (s : RunValue). EndsBy s cover) (take count runs) is.last r (in_front_by runs x count parted r i by);
 }
   where
@@ -70,7 +71,8 @@ later_is x y e = grind (arith, tests)
 ascending_at : (runs : List RunValue) (i j : ℕ) (d : RunValue) → AreAscending runs → i ≤ j → j < length runs → ComesBy (get_or runs i d).id (get_or runs j d).id
 ascending_at runs i j d a le lt = elim (split j i) [
   | inl same ↦ let one : i ≡ j = omega (arith, same, le) in subst (λ (n : ℕ). ComesBy (get_or runs i d).id (get_or runs n d).id) one (inr (refl, omega arith))
-  | inr less ↦ each_in (λ (s : RunValue). ComesBy s.id (get_or runs j d).id) (take j runs) (before_place runs j d a lt) (get_or runs i d) (in_front_at runs j i d less (omega (arith, less, lt)))
+  | inr less ↦ each_in (λ (s : RunValue). ComesBy s.id (get_or runs j d).id) (take j runs) (before_place runs j d a lt) (get_or runs i d)
+      (in_front_at runs j i d less (omega (arith, less, lt)))
 ]
 
 lent_id : (runs : List (Bor Run)) (n : ℕ) (d : Bor Run) (e : RunValue) → n < length runs → (get_or runs n d).now.id ≡ (get_or (lent_runs runs) n e).id
@@ -108,5 +110,6 @@ parted_is runs x count point = record { begun = begun; later = later }
 pub parted_by : (runs lent : List (Bor Run)) (x : Id) (count : ℕ) → AreAscending (lent_runs runs) → lent ≡ runs →
     (IsPartitionedBy (is_begun x) lent → IsPartitionPoint (λ (r : Bor Run). is_begun x r ≡ true) (λ (r : Bor Run). is_begun x r ≡ false) lent count) →
     ArePartedAt (lent_runs runs) x count
-parted_by runs lent x count a e point = parted_is runs x count (subst (λ rs. IsPartitionPoint (λ (r : Bor Run). is_begun x r ≡ true) (λ (r : Bor Run). is_begun x r ≡ false) rs count) e
+parted_by runs lent x count a e point = parted_is runs x count
+    (subst (λ rs. IsPartitionPoint (λ (r : Bor Run). is_begun x r ≡ true) (λ (r : Bor Run). is_begun x r ≡ false) rs count) e
     (point (subst (IsPartitionedBy (is_begun x)) (sym e) (begun_parted runs x a))))

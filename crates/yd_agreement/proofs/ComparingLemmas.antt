@@ -41,7 +41,8 @@ module _ (runs : List (Bor Run)) (next : ℕ) (cover run : Bor Run) (ranges : Ea
   cover_comes = each_in (λ (s : RunValue). ComesBy s.id (run_value run.now).id) (take next (lent_runs runs)) before (run_value cover.now) is.there
 
   pub cover_later : (later : RunValue) → IsLater (run_value cover.now) (run_value run.now) later → IsCover (take (suc next) (lent_runs runs)) later
-  cover_later later is_later = cover_more (lent_runs runs) next (run_value run.now) (run_value cover.now) later inside is (subst (λ (r : RunValue). IsLater (run_value cover.now) r later) here is_later)
+  cover_later later is_later = cover_more (lent_runs runs) next (run_value run.now) (run_value cover.now) later inside is
+      (subst (λ (r : RunValue). IsLater (run_value cover.now) r later) here is_later)
 
   pub compared : {V : Type 0} (told : Operation → V) → ((o p : Operation) → (told o ≡ told p) ⊎ (told o ≡ told p → ⊥)) → (best found new : Option Id) →
       IsFirst (DifferAmong told (take next (lent_runs runs))) best → IsFirst (Differ told (run_value cover.now) (run_value run.now)) found → new ≡ first_of best found →

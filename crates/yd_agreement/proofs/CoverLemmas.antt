@@ -76,7 +76,8 @@ covers_more runs old new k cover so_far e is = subst (λ cs. HaveCovers runs cs 
 -- the cover of the runs up to a place and the next one
 pub cover_more : (runs : List RunValue) (k : ℕ) (d cover later : RunValue) → k < length runs → IsCover (take k runs) cover → IsLater cover (get_or runs k d) later →
     IsCover (take (suc k) runs) later
-cover_more runs k d cover later lt is next_is = subst (λ rs. IsCover rs later) (sym (take_more runs k d lt) ∙ ap (λ (n : ℕ). take n runs) (add-one k)) (cover_next (take k runs) cover
+cover_more runs k d cover later lt is next_is = subst (λ rs. IsCover rs later) (sym (take_more runs k d lt) ∙ ap (λ (n : ℕ). take n runs) (add-one k))
+    (cover_next (take k runs) cover
     (get_or runs k d) later is next_is)
 
 -- ---- runs that are lent
@@ -99,7 +100,8 @@ in_front [] (suc n) r i = absurd i
 in_front (s ∷ ss) (suc n) r (inl e) = inl e
 in_front (s ∷ ss) (suc n) r (inr i) = inr (in_front ss n r i)
 
-pub each_lent : (P : RunValue → Type 0) (runs : List (Bor Run)) (n : ℕ) (run : Bor Run) → Each P (lent_runs runs) → n < length runs → run ≡ get_or runs n run → P (run_value run.now)
+pub each_lent : (P : RunValue → Type 0) (runs : List (Bor Run)) (n : ℕ) (run : Bor Run) → Each P (lent_runs runs) → n < length runs → run ≡ get_or runs n run →
+    P (run_value run.now)
 each_lent P runs n run each lt e = subst P (sym (lent_at runs n run (run_value run.now) lt e))
     (each_in P (lent_runs runs) each (get_or (lent_runs runs) n (run_value run.now)) (in_place (lent_runs runs) n (run_value run.now) (omega (arith, lt, length-lent runs))))
 

@@ -89,11 +89,14 @@ parted_with_last runs updates update less spells x = (there, back)
     ]
 
 -- one more update
-pub parted_next : (runs : List RunValue) (updates : List Update) (i : ℕ) (update : Update) (less : List Span) (best found new : Option Id) → i < length updates → update ≡ get_or updates i update →
-    ((x : Id) → SpellLess (operations_of (update_value update)) x ↔ HasId less x) → IsFirstBut (IsParted runs (map update_value (take i updates))) (DifferAmong content_of runs) best →
+pub parted_next : (runs : List RunValue) (updates : List Update) (i : ℕ) (update : Update) (less : List Span) (best found new : Option Id) → i < length updates →
+    update ≡ get_or updates i update →
+    ((x : Id) → SpellLess (operations_of (update_value update)) x ↔ HasId less x) → IsFirstBut (IsParted runs (map update_value (take i updates)))
+    (DifferAmong content_of runs) best →
     IsFirstBut (IsPartedBy runs less) (DifferAmong content_of runs) found → new ≡ first_of best found →
     IsFirstBut (IsParted runs (map update_value (take (i + 1) updates))) (DifferAmong content_of runs) new
-parted_next runs updates i update less best found new lt at spells first also e = subst (IsFirstBut (IsParted runs (map update_value (take (i + 1) updates))) (DifferAmong content_of runs)) (sym e)
+parted_next runs updates i update less best found new lt at spells first also e = subst (IsFirstBut (IsParted runs (map update_value (take (i + 1) updates)))
+    (DifferAmong content_of runs)) (sym e)
     (subst (λ us. IsFirstBut (IsParted runs us) (DifferAmong content_of runs) (first_of best found)) (sym more)
     (but_alike (λ x. IsParted runs (map update_value (take i updates)) x ⊎ IsPartedBy runs less x) (IsParted runs (map update_value (take i updates) ++ update_value update ∷ []))
     (DifferAmong content_of runs) (first_of best found) (parted_with_last runs (map update_value (take i updates)) (update_value update) less spells)
@@ -123,7 +126,8 @@ ends_next runs done span best found new first also e = subst (IsFirstBut (IsPart
     (any_with_last runs done span) (but_either (IsPartedAtAny runs done) (IsPartedAtEnds runs span) (DifferAmong content_of runs) best found first also))
 
 -- at the end all spans are looked at
-pub ends_all : (runs : List RunValue) (set done : List Span) (best : Option Id) → AreMaximal set → done ≡ set → IsFirstBut (IsPartedAtAny runs done) (DifferAmong content_of runs) best →
+pub ends_all : (runs : List RunValue) (set done : List Span) (best : Option Id) → AreMaximal set → done ≡ set →
+    IsFirstBut (IsPartedAtAny runs done) (DifferAmong content_of runs) best →
     IsFirstBut (IsPartedBy runs set) (DifferAmong content_of runs) best
 ends_all runs set done best maximal e first = but_alike (IsPartedAtAny runs set) (IsPartedBy runs set) (DifferAmong content_of runs) best (any_parted runs set maximal)
     (subst (λ ss. IsFirstBut (IsPartedAtAny runs ss) (DifferAmong content_of runs) best) e first)

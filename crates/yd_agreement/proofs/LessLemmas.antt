@@ -28,12 +28,14 @@ content_are_spans id (format key t) client end = tt
 content_are_spans id (nested kind) client end = tt
 content_are_spans id (any ts) client end = tt
 
-struct_are_spans : (client : Client) (clock : ℕ) (s : StructValue) → IsClient client → IsStructAt client clock s → IsClock (clock + clocks_of s) → Each IsSpan (struct_spans client clock s)
+struct_are_spans : (client : Client) (clock : ℕ) (s : StructValue) → IsClient client → IsStructAt client clock s → IsClock (clock + clocks_of s) →
+    Each IsSpan (struct_spans client clock s)
 struct_are_spans client clock (item run) is valid end = content_are_spans run.id run.content (rw valid.begins is) (rw valid.begins end)
 struct_are_spans client clock (skip count) is valid end = tt
 struct_are_spans client clock (gone count) is valid end = (record { client = is; end = end }, tt)
 
-structs_are_spans : (client : Client) (clock : ℕ) (structs : List StructValue) → IsClient client → AreStructsFrom client clock structs → Each IsSpan (structs_spans client clock structs)
+structs_are_spans : (client : Client) (clock : ℕ) (structs : List StructValue) → IsClient client → AreStructsFrom client clock structs →
+    Each IsSpan (structs_spans client clock structs)
 structs_are_spans client clock [] is valid = tt
 structs_are_spans client clock (s ∷ structs) is valid = each_append IsSpan (struct_spans client clock s) (structs_spans client (clock + clocks_of s) structs)
     (struct_are_spans client clock s is valid.0 valid.1) (structs_are_spans client (clock + clocks_of s) structs is valid.2)
@@ -65,8 +67,10 @@ pub noted_are_spans : (update : UpdateValue) (spans : List Span) → IsValidUpda
 noted_are_spans update spans valid e = subst (Each IsSpan) (sym e) (blocks_are_spans update.blocks valid.blocks)
 
 -- a set of the same ids has those that are spelled less than full
-pub less_is : (update : UpdateValue) (spans set : List Span) → spans ≡ blocks_spans update.blocks → HaveSameIds set spans → (x : Id) → SpellLess (operations_of update) x ↔ HasId set x
+pub less_is : (update : UpdateValue) (spans set : List Span) → spans ≡ blocks_spans update.blocks → HaveSameIds set spans → (x : Id) →
+    SpellLess (operations_of update) x ↔ HasId set x
 less_is update spans set e same x = (
-  (λ less. (same x).1 (subst (λ ss. HasId ss x) (sym e) (elim ((deletes_of-spans (bare update) x).0 ((deletes_of-ids (bare update) x).1 (inl less))) [ inl h ↦ h | inr h ↦ absurd h ]))),
+  (λ less. (same x).1 (subst (λ ss. HasId ss x) (sym e) (elim ((deletes_of-spans (bare update) x).0 ((deletes_of-ids (bare update) x).1
+      (inl less))) [ inl h ↦ h | inr h ↦ absurd h ]))),
   (λ h. elim ((deletes_of-ids (bare update) x).0 ((deletes_of-spans (bare update) x).1 (inl (subst (λ ss. HasId ss x) e ((same x).0 h))))) [ inl less ↦ less | inr k ↦ absurd k ]),
 )

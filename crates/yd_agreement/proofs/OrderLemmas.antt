@@ -81,13 +81,18 @@ not_less a b h = go (nat_lt a.client.0 b.client.0) refl (nat_eq a.client.0 b.cli
     go false x true y false z e = rw (x, y, z) refl
     go false x false y r z e = rw (x, y) refl
 
-ascending_from : (runs : List (Bor Run)) → ((k : ℕ) (d : Bor Run) → suc k < length runs → ComesBy (get_or runs k d).now.id (get_or runs (suc k) d).now.id) → AreAscending (lent_runs runs)
+ascending_from : (runs : List (Bor Run)) → ((k : ℕ) (d : Bor Run) → suc k < length runs → ComesBy (get_or runs k d).now.id (get_or runs (suc k) d).now.id) →
+    AreAscending (lent_runs runs)
 ascending_from [] h = tt
 ascending_from (x ∷ []) h = (tt, tt)
 ascending_from (x ∷ y ∷ runs) h =
     let first : ComesBy x.now.id y.now.id = h 0 x (omega arith) in
     let rest = ascending_from (y ∷ runs) (λ k z lt. h (suc k) z (omega arith)) in (
-      (first, each_weaker (λ (s : RunValue). ComesBy y.now.id s.id) (λ (s : RunValue). ComesBy x.now.id s.id) (λ s c. by_through x.now.id y.now.id s.id first c) (lent_runs runs) rest.0),
+      (
+        first,
+        each_weaker (λ (s : RunValue). ComesBy y.now.id s.id) (λ (s : RunValue). ComesBy x.now.id s.id) (λ s c. by_through x.now.id y.now.id s.id first c)
+            (lent_runs runs) rest.0,
+      ),
       rest,
     )
 

@@ -83,7 +83,8 @@ module _ (runs : List RunValue) (low : Id) where
 
   module _ (high : Id) (is : high ≡ record { client = low.client; clock = low.clock - 1 }) (some : low.clock ≡ 0 → ⊥) where
     high_of : (x : Id) → later_id x 1 ≡ low → x ≡ high
-    high_of x e = same_numbers x high (ap (λ (y : Id). y.client.0) e ∙ sym (ap (λ (y : Id). y.client.0) is)) (omega (arith, ap (λ (y : Id). y.clock) e, ap (λ (y : Id). y.clock) is))
+    high_of x e = same_numbers x high (ap (λ (y : Id). y.client.0) e ∙ sym (ap (λ (y : Id). y.client.0) is))
+        (omega (arith, ap (λ (y : Id). y.clock) e, ap (λ (y : Id). y.clock) is))
 
     low_of : later_id high 1 ≡ low
     low_of = same_numbers (later_id high 1) low (ap (λ (y : Id). y.client.0) is) (elim (zero_or low.clock) [

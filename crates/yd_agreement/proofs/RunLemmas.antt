@@ -67,14 +67,16 @@ updates_run (update ∷ updates) o i some = elim (in_parts o (operations_of upda
 ]
 
 -- a run of updates is one of them's
-pub update_of : (updates : List UpdateValue) (run : RunValue) → IsIn run (runs_of_updates updates) → (update : UpdateValue) × IsIn update updates × IsIn run (runs_of_blocks update.blocks)
+pub update_of : (updates : List UpdateValue) (run : RunValue) → IsIn run (runs_of_updates updates) → (update : UpdateValue) × IsIn update updates ×
+    IsIn run (runs_of_blocks update.blocks)
 update_of [] run i = absurd i
 update_of (update ∷ updates) run i = elim (in_parts run (runs_of_blocks update.blocks) (runs_of_updates updates) i) [
   | inl j ↦ (update, inl refl, j)
   | inr j ↦ let (u, k, l) = update_of updates run j in (u, inr k, l)
 ]
 
-pub of_update : (updates : List UpdateValue) (update : UpdateValue) (run : RunValue) → IsIn update updates → IsIn run (runs_of_blocks update.blocks) → IsIn run (runs_of_updates updates)
+pub of_update : (updates : List UpdateValue) (update : UpdateValue) (run : RunValue) → IsIn update updates → IsIn run (runs_of_blocks update.blocks) →
+    IsIn run (runs_of_updates updates)
 of_update [] update run i j = absurd i
 of_update (u ∷ us) update run (inl e) j = in_left_part run (runs_of_blocks u.blocks) (runs_of_updates us) (subst (λ (v : UpdateValue). IsIn run (runs_of_blocks v.blocks)) e j)
 of_update (u ∷ us) update run (inr i) j = in_right_part run (runs_of_blocks u.blocks) (runs_of_updates us) (of_update us update run i j)

@@ -60,7 +60,8 @@ pub record IsSound (run : RunValue) : Type 0 where
 run_sound : (client : Client) (clock : ℕ) (run : RunValue) → IsRunAt client clock run → IsClock (clock + len_of run.content) → IsSound run
 run_sound client clock run is end = record { range = record { some = is.has_units; end = rw is.begins end }; content = is.content }
 
-structs_sound : (client : Client) (clock : ℕ) (structs : List StructValue) → AreStructsFrom client clock structs → (run : RunValue) → IsIn run (runs_of_structs structs) → IsSound run
+structs_sound : (client : Client) (clock : ℕ) (structs : List StructValue) → AreStructsFrom client clock structs → (run : RunValue) → IsIn run (runs_of_structs structs) →
+    IsSound run
 structs_sound client clock [] valid run i = absurd i
 structs_sound client clock (item r ∷ structs) valid run (inl e) = subst IsSound (sym e) (run_sound client clock r valid.0 valid.1)
 structs_sound client clock (item r ∷ structs) valid run (inr i) = structs_sound client (clock + len_of r.content) structs valid.2 run i

@@ -29,12 +29,7 @@ const HIGH_GONE: [u8; 7] = [1, 1, 1, 0, 0, 1, 0];
 const BOTH_DELETED: [u8; 10] = [1, 1, 1, 0, 1, 1, 1, 0x74, 2, 0];
 
 /// The id on which three updates disagree.
-fn disagreement(
-    alloc: Global,
-    one: &[u8],
-    other: &[u8],
-    third: &[u8],
-) -> Result<Option<Id>, Fail> {
+fn disagreement(alloc: Global, one: &[u8], other: &[u8], third: &[u8]) -> Result<Option<Id>, Fail> {
     let mut updates = Vec::new(alloc);
     updates.push(read_v1(alloc, one)?)?;
     updates.push(read_v1(alloc, other)?)?;
@@ -70,8 +65,17 @@ fn a_longer_deleted_run_hides_nothing(rt: HostRuntime) -> Result<(), Fail> {
 
 #[test]
 fn a_pair_is_collected_whole(rt: HostRuntime) -> Result<(), Fail> {
-    assert_eq!(rt; disagreement(rt.alloc(), &PAIR, &LOW_DELETED, &NOTHING)?, first());
-    assert_eq!(rt; disagreement(rt.alloc(), &HIGH_GONE, &PAIR, &PAIR)?, first());
-    assert_eq!(rt; disagreement(rt.alloc(), &BOTH_DELETED, &PAIR, &NOTHING)?, None);
+    assert_eq!(rt;
+        disagreement(rt.alloc(), &PAIR, &LOW_DELETED, &NOTHING)?,
+        first()
+    );
+    assert_eq!(rt;
+        disagreement(rt.alloc(), &HIGH_GONE, &PAIR, &PAIR)?,
+        first()
+    );
+    assert_eq!(rt;
+        disagreement(rt.alloc(), &BOTH_DELETED, &PAIR, &NOTHING)?,
+        None
+    );
     Ok(())
 }
