@@ -35,7 +35,9 @@ use Rattle.yd_merge.specs.Cutting.{cut_entry, cut_gone, cut_in, cut_lent, cut_le
 use Rattle.yd_merge.specs.Lending.{AreInTurn, IsLent, IsOfUpdate, blocks_groups, group_in, lent_group}
 use Rattle.yd_merge.specs.Told.{group_of_entry}
 use Rattle.yd_merge.specs.declared.lending.Lent.{Lent}
-use Rattle.yd_merge.proofs.CuttingLemmas.{cut_taken, filter-none, is_left_out, parts_operations, pushed-append, two_parts}
+use Rattle.yd_merge.proofs.CutEntriesLemmas.{cut_taken, pushed-append}
+use Rattle.yd_merge.proofs.CuttingLemmas.{filter-none, parts_operations, two_parts}
+use Rattle.yd_merge.proofs.LeavingLemmas.{is_left_out}
 use Rattle.yd_merge.proofs.ToldLemmas.{entries-operations, entries_groups}
 use Rattle.yd_merge.proofs.TurnLemmas.{groups-append, of_update, turn_groupable, turn_received}
 

@@ -1,7 +1,7 @@
 -- Groups that are written one wholly before the next: their operations stand in the order of writing, and what updates have, put so, is their merge.
-use Rattle.std.proofs.Common.{◌≡◌, ◌↔◌, ℕ, ◌+◌, ◌<◌, ◌≤◌, true, List, [], ◌∷◌, ◌++◌, inl, inr, map, drop, length, get_or, refl, sym, ap, ap₂, ◌∙◌, subst, arith, tests, append_assoc, append-nil}
+use Rattle.std.proofs.Common.{◌≡◌, ◌↔◌, ℕ, ◌+◌, ◌<◌, ◌≤◌, true, List, [], ◌∷◌, ◌++◌, inl, inr, map, drop, length, refl, sym, ap, ap₂, ◌∙◌, subst, arith, tests, append_assoc, append-nil}
 use Rattle.std.specs.List.Sorted.{IsPermutation}
-use Rattle.std.proofs.lemmas.List.{drop_all, drop_more, length-drop}
+use Rattle.std.proofs.lemmas.List.{drop_all, length-drop}
 use Rattle.std.proofs.lemmas.List.Sorted.{IsPermutation-sym}
 use Rattle.yd_words.specs.Each.{Each}
 use Rattle.yd_words.specs.Member.{IsIn}
@@ -24,7 +24,7 @@ use Rattle.yd_updates.proofs.GroupLemmas.{deletes_of-ids}
 use Rattle.yd_updates.proofs.RunLemmas.{run_written}
 use Rattle.yd_updates.proofs.SpellingLemmas.{gone_written}
 use Rattle.yd_updates.proofs.WritingLemmas.{written_agrees}
-use Rattle.yd_grouping.specs.Building.{Built, all_pushed, finished, nothing_built, with_pushed}
+use Rattle.yd_grouping.specs.Building.{Built, all_pushed, finished, nothing_built}
 use Rattle.yd_grouping.specs.Groupable.{AreGroupable}
 use Rattle.yd_grouping.specs.Grouped.{blocks_of, grouping_of}
 use Rattle.yd_grouping.specs.Groups.{Group, IsGroup, of_gone, of_run, operations_of_group, operations_of_groups, size_of, start_of, struct_of}
@@ -265,49 +265,27 @@ pub turn_merge : (updates : List UpdateValue) (groups : List Group) (deletes : L
     IsPermutation (updates_groups updates) groups → AreInTurn groups → deletes ≡ (received_set updates).deletes → grouping_of (operations_of_groups groups) deletes ≡ merge_of updates
 turn_merge updates groups deletes valid each p turn e = ap₂ (λ os ds. grouping_of os ds) (turn_received updates groups valid each p turn) e
 
--- ---- one after another
+-- ---- what is lent
 
-module _ (lents : List Lent) where
-  -- one more is pushed
-  pub push_next : (i : ℕ) (lent : Lent) (old new : Built) → i < length lents → lent ≡ get_or lents i lent → new ≡ with_pushed old (lent_group lent) →
-      all_pushed new (map lent_group (drop (i + 1) lents)) ≡ all_pushed old (map lent_group (drop i lents))
-  push_next i lent old new lt at e = ap (λ b. all_pushed b (map lent_group (drop (i + 1) lents))) e
-      ∙ ap (λ ls. all_pushed old (map lent_group ls)) (sym (drop_more lents i lent lt ∙ ap (λ (l : Lent). l ∷ drop (i + 1) lents) (sym at)))
+pub of_update : (lents : List Lent) → Each IsLent lents → Each IsOfUpdate (map lent_group lents)
+of_update [] each = tt
+of_update (lent ∷ lents) each = (each.0.valid, of_update lents each.1)
 
-  lent_units : (lents : List Lent) → Each IsLent lents → Each IsOfUpdate (map lent_group lents)
-  lent_units [] each = tt
-  lent_units (lent ∷ lents) each = (each.0.valid, lent_units lents each.1)
+-- at the end all are pushed, and so grouped
+pub all_lent : (lents : List Lent) (i : ℕ) (built : Built) (deletes : List Span) → Each IsLent lents → AreInTurn (map lent_group lents) → length lents ≤ i →
+    all_pushed built (map lent_group (drop i lents)) ≡ all_pushed nothing_built (map lent_group lents) →
+    finished built deletes ≡ grouping_of (operations_of_groups (map lent_group lents)) deletes
+all_lent lents i built deletes each turn le e = ap (λ b. finished b deletes) (sym (ap (λ ls. all_pushed built (map lent_group ls)) (drop_all i lents le)) ∙ e)
+    ∙ builder_groups (map lent_group lents) deletes groups (turn_written (map lent_group lents) (groups_units (map lent_group lents) groups) turn)
+  where
+    groups : Each IsGroup (map lent_group lents)
+    groups = are_groups (map lent_group lents) (of_update lents each)
 
-  pub of_update : Each IsLent lents → Each IsOfUpdate (map lent_group lents)
-  of_update each = lent_units lents each
+few_turn : (lents : List Lent) → length lents ≤ 1 → AreInTurn (map lent_group lents)
+few_turn [] le = tt
+few_turn (lent ∷ []) le = tt
+few_turn (lent ∷ next ∷ lents) le = absurd (omega (arith, le))
 
-  -- at the end all are pushed, and so grouped
-  pub all_lent : (i : ℕ) (built : Built) (deletes : List Span) → Each IsLent lents → AreInTurn (map lent_group lents) → length lents ≤ i →
-      all_pushed built (map lent_group (drop i lents)) ≡ all_pushed nothing_built (map lent_group lents) →
-      finished built deletes ≡ grouping_of (operations_of_groups (map lent_group lents)) deletes
-  all_lent i built deletes each turn le e = ap (λ b. finished b deletes) (sym (ap (λ ls. all_pushed built (map lent_group ls)) (drop_all i lents le)) ∙ e)
-      ∙ builder_groups (map lent_group lents) deletes (are_groups (map lent_group lents) (of_update each))
-      (turn_written (map lent_group lents) (groups_units (map lent_group lents) (are_groups (map lent_group lents) (of_update each))) turn)
-
-  -- the first two of those that are left
-  two_left : (i : ℕ) (d : Lent) → i + 1 < length lents → drop i lents ≡ get_or lents i d ∷ get_or lents (i + 1) d ∷ drop (i + 1 + 1) lents
-  two_left i d lt = drop_more lents i d (omega (arith, lt)) ∙ ap (λ ls. get_or lents i d ∷ ls) (drop_more lents (i + 1) d lt)
-
-  pub turn_next : (i : ℕ) (d : Lent) → i + 1 < length lents → GoesBefore (lent_group (get_or lents i d)) (lent_group (get_or lents (i + 1) d)) →
-      AreInTurn (map lent_group lents) ↔ AreInTurn (map lent_group (drop i lents)) → AreInTurn (map lent_group lents) ↔ AreInTurn (map lent_group (drop (i + 1) lents))
-  turn_next i d lt goes all = (
-    (λ t. subst (λ ls. AreInTurn (map lent_group ls)) (sym (drop_more lents (i + 1) d lt)) (subst (λ ls. AreInTurn (map lent_group ls)) (two_left i d lt) (all.0 t)).1),
-    (λ t. all.1 (subst (λ ls. AreInTurn (map lent_group ls)) (sym (two_left i d lt)) (goes, subst (λ ls. AreInTurn (map lent_group ls)) (drop_more lents (i + 1) d lt) t))),
-  )
-
-  pub turn_not : (i : ℕ) (d : Lent) → i + 1 < length lents → (GoesBefore (lent_group (get_or lents i d)) (lent_group (get_or lents (i + 1) d)) → ⊥) →
-      AreInTurn (map lent_group lents) ↔ AreInTurn (map lent_group (drop i lents)) → AreInTurn (map lent_group lents) → ⊥
-  turn_not i d lt never all t = never (subst (λ ls. AreInTurn (map lent_group ls)) (two_left i d lt) (all.0 t)).0
-
-  few_turn : (ls : List Lent) → length ls ≤ 1 → AreInTurn (map lent_group ls)
-  few_turn [] le = tt
-  few_turn (l ∷ []) le = tt
-  few_turn (l ∷ m ∷ ls) le = absurd (omega (arith, le))
-
-  pub turn_end : (i : ℕ) → length lents ≤ i + 1 → AreInTurn (map lent_group lents) ↔ AreInTurn (map lent_group (drop i lents)) → AreInTurn (map lent_group lents)
-  turn_end i le all = all.1 (few_turn (drop i lents) (omega (arith, le, length-drop i lents)))
+-- where at most one is left, all are in turn
+pub turn_end : (lents : List Lent) (i : ℕ) → length lents ≤ i + 1 → AreInTurn (map lent_group lents) ↔ AreInTurn (map lent_group (drop i lents)) → AreInTurn (map lent_group lents)
+turn_end lents i le all = all.1 (few_turn (drop i lents) (omega (arith, le, length-drop i lents)))

@@ -1,6 +1,6 @@
 use Rattle.yd_ids.specs.Vector.{clock_of}
 use Rattle.yd_ops.specs.View.{update_value}
-use Rattle.yd_merge.proofs.CuttingLemmas.{cut_received}
+use Rattle.yd_merge.proofs.CutEntriesLemmas.{cut_received}
 use Rattle.yd_merge.proofs.cutting.cut_taken.Goals as goal
 
 pub returns : goal.returns

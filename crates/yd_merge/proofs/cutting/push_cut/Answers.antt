@@ -1,4 +1,4 @@
-use Rattle.yd_merge.proofs.CuttingLemmas.{part_taken}
+use Rattle.yd_merge.proofs.CutEntriesLemmas.{part_taken}
 use Rattle.yd_merge.proofs.cutting.push_cut.Goals as goal
 
 pub group_of-requires : goal.group_of-requires
