@@ -1,6 +1,9 @@
 -- What is due: one thing, and there always is one.
-use Rattle.std.proofs.Common.{◌≡◌, ◌⊎◌, ◌∙◌, ℕ, List, Option, Some, None, inl, inr, refl, sym, subst, ap}
-use Rattle.yd_meaning.specs.Document.{document_of}
+use Rattle.std.proofs.Common.{◌≡◌, ◌⊎◌, ◌∙◌, ℕ, List, [], Option, Some, None, inl, inr, refl, sym, subst, ap, ap₂}
+use Rattle.yd_meaning.specs.Document.{Document, document_of}
+use Rattle.yd_ops.specs.Value.{UpdateValue}
+use Rattle.yd_playing.proofs.EndLemmas.{lines_end}
+use Rattle.yd_playing.specs.declared.fault.LineCause.{LineCause}
 use Rattle.yd_updates.specs.Received.{received_set}
 use Rattle.yd_world.specs.Shelf.{Shelf}
 use Rattle.yd_world.specs.Traffic.{Traffic}
@@ -8,11 +11,12 @@ use Rattle.yd_files.proofs.VerdictLemmas.{files_judged, stand_apart, stand_one, 
 use Rattle.yd_files.specs.Files.{File}
 use Rattle.yd_files.specs.Verdict.{Inputs, IsTold, StandFor, StopsAt, Verdict, accepted, missing, refused, too_large}
 use Rattle.yd_app.proofs.WordLemmas.{asked_or_not, asks_same}
-use Rattle.yd_app.specs.Command.{Command}
-use Rattle.yd_app.specs.Due.{Due, IsDue, lacking, no_step_2, output, over_limit, refusal, usage}
+use Rattle.yd_app.specs.Command.{Command, convert, cut, edit, merge, pack, show, vector}
+use Rattle.yd_app.specs.Commands.Edit.{lines_of_first, refused_script_line}
+use Rattle.yd_app.specs.Due.{Due, IsDue, Refuses, lacking, no_step_2, output, over_limit, refusal, usage}
 use Rattle.yd_app.specs.Law.{OneIsDue}
 use Rattle.yd_app.specs.Lines.{refused_line}
-use Rattle.yd_app.specs.Output.{IsOutputOf, output_of}
+use Rattle.yd_app.specs.Output.{AreMade, IsOutputOf, IsRefusalOf, output_of}
 use Rattle.yd_app.specs.Words.{AreOfNoForm, Asks, AsksFor}
 
 -- what holds of what is asked for holds of each thing that is asked for
@@ -32,30 +36,86 @@ due_of file (refused fault) = refusal (refused_line file fault)
 due_of file too_large = over_limit file.name
 due_of file missing = lacking file.name
 
--- a command writes one output of its inputs
+-- ---- what a command makes of its inputs
+
+-- it makes one row of updates
+made_one : (command : Command) (inputs : Inputs) (made other : List UpdateValue) → AreMade command inputs made → AreMade command inputs other → made ≡ other
+made_one (show mode root) inputs made other a b = a ∙ sym b
+made_one (convert form) inputs made other a b = a ∙ sym b
+made_one pack inputs made other a b = a ∙ sym b
+made_one (merge form) inputs made other a b = a ∙ sym b
+made_one vector inputs made other a b = a ∙ sym b
+made_one (cut name) inputs made other a b = a ∙ sym b
+made_one (edit client name) inputs made other a b = lines_end.one_row client _ _ made other a b
+
+-- it writes one output
 output_one : (command : Command) (inputs : Inputs) (bytes other : List ℕ) → IsOutputOf command inputs bytes → IsOutputOf command inputs other → bytes ≡ other
-output_one command inputs bytes other a b = a.bytes_are ∙ ap (output_of command inputs) (a.is_document ∙ sym b.is_document) ∙ sym b.bytes_are
+output_one command inputs bytes other a b = a.bytes_are
+    ∙ ap₂ (λ (document : Document) made. output_of command inputs document made) (a.is_document ∙ sym b.is_document) (made_one command inputs a.made b.made a.are_made b.are_made) ∙ sym b.bytes_are
 
--- and it writes one
-output_some : (command : Command) (inputs : Inputs) → (bytes : List ℕ) × IsOutputOf command inputs bytes
-output_some command inputs = let document = document_of (received_set inputs.updates) in (output_of command inputs document, record { document = document; is_document = refl; bytes_are = refl })
+-- or it refuses them with one line
+refusal_one : (command : Command) (inputs : Inputs) (line other : List ℕ) → IsRefusalOf command inputs line → IsRefusalOf command inputs other → line ≡ other
+refusal_one (show mode root) inputs line other a b = absurd a
+refusal_one (convert form) inputs line other a b = absurd a
+refusal_one pack inputs line other a b = absurd a
+refusal_one (merge form) inputs line other a b = absurd a
+refusal_one vector inputs line other a b = absurd a
+refusal_one (cut name) inputs line other a b = absurd a
+refusal_one (edit client name) inputs line other a b =
+    let same = lines_end.one_stop client _ _ a.0 b.0 a.1 b.1 a.2 b.2 in a.3 ∙ ap₂ (λ number (cause : LineCause). refused_script_line name number cause) same.0 same.1 ∙ sym b.3
 
--- all files are accepted, and the output is due; or one is the first that is not, and what it is
+-- and not both
+output_apart : (command : Command) (inputs : Inputs) (bytes line : List ℕ) → IsOutputOf command inputs bytes → IsRefusalOf command inputs line → ⊥
+output_apart (show mode root) inputs bytes line a b = b
+output_apart (convert form) inputs bytes line a b = b
+output_apart pack inputs bytes line a b = b
+output_apart (merge form) inputs bytes line a b = b
+output_apart vector inputs bytes line a b = b
+output_apart (cut name) inputs bytes line a b = b
+output_apart (edit client name) inputs bytes line a b = lines_end.apart client _ _ a.made b.0 b.1 a.are_made b.2
+
+-- where it made these, it writes something
+output_made : (command : Command) (inputs : Inputs) (made : List UpdateValue) → AreMade command inputs made → (bytes : List ℕ) × IsOutputOf command inputs bytes
+output_made command inputs made are = let document = document_of (received_set inputs.updates) in
+    (output_of command inputs document made, record { document = document; is_document = refl; made = made; are_made = are; bytes_are = refl })
+
+-- one of the two comes
+output_or_refusal : (command : Command) (inputs : Inputs) → ((bytes : List ℕ) × IsOutputOf command inputs bytes) ⊎ ((line : List ℕ) × IsRefusalOf command inputs line)
+output_or_refusal (show mode root) inputs = inl (output_made (show mode root) inputs [] refl)
+output_or_refusal (convert form) inputs = inl (output_made (convert form) inputs [] refl)
+output_or_refusal pack inputs = inl (output_made pack inputs [] refl)
+output_or_refusal (merge form) inputs = inl (output_made (merge form) inputs [] refl)
+output_or_refusal vector inputs = inl (output_made vector inputs [] refl)
+output_or_refusal (cut name) inputs = inl (output_made (cut name) inputs [] refl)
+output_or_refusal (edit client name) inputs = elim (lines_end.some client (received_set inputs.updates) (lines_of_first inputs.scripts)) [
+  | inl played ↦ inl (output_made (edit client name) inputs played.0 played.1)
+  | inr stops ↦ inr (refused_script_line name stops.0 stops.1, (stops.0, stops.1, stops.2, refl))
+]
+
+-- ---- what is due
+
+-- all files are accepted, and the output is due; or one is the first that is not, and what it is; or the command refuses them all
 abbrev Answers : Option Shelf → Due → Command → List File → Type 0
 Answers told due command files =
     ((inputs : Inputs) × StandFor told files inputs × (bytes : List ℕ) × IsOutputOf command inputs bytes × (due ≡ output bytes))
     ⊎ ((file : File) × (verdict : Verdict) × StopsAt told files file verdict × (due ≡ due_of file verdict))
+    ⊎ ((inputs : Inputs) × StandFor told files inputs × (line : List ℕ) × IsRefusalOf command inputs line × (due ≡ refusal line))
 
 -- the words are of no form, or ask for one of these
 abbrev Judged : List (List ℕ) → Option Shelf → Due → Type 0
 Judged words told due = (AreOfNoForm words × (due ≡ usage)) ⊎ AsksFor words (Answers told due)
 
+-- a refusal of a file, or of a command
+refusal_answers : (told : Option Shelf) (line : List ℕ) (command : Command) (files : List File) → Refuses told command files line → Answers told (refusal line) command files
+refusal_answers told line command files (inl r) = inr (inl (r.0, refused r.1, r.2, ap refusal r.3))
+refusal_answers told line command files (inr r) = inr (inr (r.0, r.1, line, r.2, refl))
+
 -- what is due is one of these
 judged : (words : List (List ℕ)) (told : Option Shelf) (traffic : Option Traffic) (due : Due) → IsDue words told traffic due → Judged words told due
 judged words told traffic usage d = inl (d, refl)
-judged words told traffic (refusal line) d = inr (record { command = d.command; files = d.files; asks = d.asks; holds = inr (d.holds.0, refused d.holds.1, d.holds.2, ap refusal d.holds.3) })
-judged words told traffic (over_limit name) d = inr (record { command = d.command; files = d.files; asks = d.asks; holds = inr (d.holds.0, too_large, d.holds.1, ap over_limit d.holds.2) })
-judged words told traffic (lacking name) d = inr (record { command = d.command; files = d.files; asks = d.asks; holds = inr (d.holds.0, missing, d.holds.1, ap lacking d.holds.2) })
+judged words told traffic (refusal line) d = inr (record { command = d.command; files = d.files; asks = d.asks; holds = refusal_answers told line d.command d.files d.holds })
+judged words told traffic (over_limit name) d = inr (record { command = d.command; files = d.files; asks = d.asks; holds = inr (inl (d.holds.0, too_large, d.holds.1, ap over_limit d.holds.2)) })
+judged words told traffic (lacking name) d = inr (record { command = d.command; files = d.files; asks = d.asks; holds = inr (inl (d.holds.0, missing, d.holds.1, ap lacking d.holds.2)) })
 judged words told traffic no_step_2 d = absurd d
 judged words told traffic (output bytes) d = inr (record { command = d.command; files = d.files; asks = d.asks; holds = inl (d.holds.0, d.holds.1, bytes, d.holds.2, refl) })
 
@@ -64,11 +124,20 @@ answers_one : (shelf : Shelf) (command : Command) (files : List File) (due other
 answers_one shelf command files due other (inl a) (inl b) =
     let same = stand_one shelf files a.0 b.0 a.1 b.1 in
     a.4 ∙ ap output (output_one command b.0 a.2 b.2 (subst (λ (inputs : Inputs). IsOutputOf command inputs a.2) same a.3) b.3) ∙ sym b.4
-answers_one shelf command files due other (inl a) (inr b) = absurd (stand_apart shelf files a.0 b.0 b.1 a.1 b.2)
-answers_one shelf command files due other (inr a) (inl b) = absurd (stand_apart shelf files b.0 a.0 a.1 b.1 a.2)
-answers_one shelf command files due other (inr a) (inr b) =
+answers_one shelf command files due other (inl a) (inr (inl b)) = absurd (stand_apart shelf files a.0 b.0 b.1 a.1 b.2)
+answers_one shelf command files due other (inl a) (inr (inr b)) =
+    absurd (output_apart command b.0 a.2 b.2 (subst (λ (inputs : Inputs). IsOutputOf command inputs a.2) (stand_one shelf files a.0 b.0 a.1 b.1) a.3) b.3)
+answers_one shelf command files due other (inr (inl a)) (inl b) = absurd (stand_apart shelf files b.0 a.0 a.1 b.1 a.2)
+answers_one shelf command files due other (inr (inl a)) (inr (inl b)) =
     let same = stops_one shelf files a.0 b.0 a.1 b.1 a.2 b.2 in
     a.3 ∙ ap (λ (f : File). due_of f a.1) same.0 ∙ ap (due_of b.0) same.1 ∙ sym b.3
+answers_one shelf command files due other (inr (inl a)) (inr (inr b)) = absurd (stand_apart shelf files b.0 a.0 a.1 b.1 a.2)
+answers_one shelf command files due other (inr (inr a)) (inl b) =
+    absurd (output_apart command a.0 b.2 a.2 (subst (λ (inputs : Inputs). IsOutputOf command inputs b.2) (stand_one shelf files b.0 a.0 b.1 a.1) b.3) a.3)
+answers_one shelf command files due other (inr (inr a)) (inr (inl b)) = absurd (stand_apart shelf files a.0 b.0 b.1 a.1 b.2)
+answers_one shelf command files due other (inr (inr a)) (inr (inr b)) =
+    let same = stand_one shelf files a.0 b.0 a.1 b.1 in
+    a.4 ∙ ap refusal (refusal_one command b.0 a.2 b.2 (subst (λ (inputs : Inputs). IsRefusalOf command inputs a.2) same a.3) b.3) ∙ sym b.4
 
 judged_one : (words : List (List ℕ)) (shelf : Shelf) (due other : Due) → Judged words (Some shelf) due → Judged words (Some shelf) other → due ≡ other
 judged_one words shelf due other (inl a) (inl b) = a.1 ∙ sym b.1
@@ -93,15 +162,19 @@ due_some words shelf traffic =
   where
     by_first : (command : Command) (files : List File) → Asks words command files → (file : File) (verdict : Verdict) → StopsAt (Some shelf) files file verdict → (due : Due) × IsDue words (Some shelf) traffic due
     by_first command files asks file (accepted content) stops = absurd stops.not_accepted
-    by_first command files asks file (refused fault) stops = (refusal (refused_line file fault), record { command = command; files = files; asks = asks; holds = (file, fault, stops, refl) })
+    by_first command files asks file (refused fault) stops = (refusal (refused_line file fault), record { command = command; files = files; asks = asks; holds = inl (file, fault, stops, refl) })
     by_first command files asks file too_large stops = (over_limit file.name, record { command = command; files = files; asks = asks; holds = (file, stops, refl) })
     by_first command files asks file missing stops = (lacking file.name, record { command = command; files = files; asks = asks; holds = (file, stops, refl) })
+
+    by_command : (command : Command) (files : List File) → Asks words command files → (inputs : Inputs) → StandFor (Some shelf) files inputs
+        → ((bytes : List ℕ) × IsOutputOf command inputs bytes) ⊎ ((line : List ℕ) × IsRefusalOf command inputs line) → (due : Due) × IsDue words (Some shelf) traffic due
+    by_command command files asks inputs read (inl made) = (output made.0, record { command = command; files = files; asks = asks; holds = (inputs, read, made.1) })
+    by_command command files asks inputs read (inr told) = (refusal told.0, record { command = command; files = files; asks = asks; holds = inr (inputs, read, told.1) })
 
     by_files : (command : Command) (files : List File) → Asks words command files
         → ((inputs : Inputs) × StandFor (Some shelf) files inputs) ⊎ ((file : File) × (verdict : Verdict) × StopsAt (Some shelf) files file verdict)
         → (due : Due) × IsDue words (Some shelf) traffic due
-    by_files command files asks (inl read) =
-        let made = output_some command read.0 in (output made.0, record { command = command; files = files; asks = asks; holds = (read.0, read.1, made.1) })
+    by_files command files asks (inl read) = by_command command files asks read.0 read.1 (output_or_refusal command read.0)
     by_files command files asks (inr stops) = by_first command files asks stops.0 stops.1 stops.2
 
 -- so one thing is due

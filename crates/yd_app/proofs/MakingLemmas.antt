@@ -1,7 +1,8 @@
 -- What was made and what was written of it, as the ending of a run.
-use Rattle.std.proofs.Common.{◌≡◌, ◌≢◌, ◌⊎◌, ◌∙◌, ℕ, List, Option, Result, Ok, Err, IsErr, IsErrAnd, IsOk, refl, inl, inr, subst, sym, ap, arith}
+use Rattle.std.proofs.Common.{◌≡◌, ◌≢◌, ◌⊎◌, ◌∙◌, ℕ, List, [], Option, Result, Ok, Err, IsErr, IsErrAnd, IsOk, refl, inl, inr, subst, sym, ap, arith}
 use Rattle.std.specs.Global.{Vec}
 use Rattle.yd_meaning.specs.Document.{Document, IsDocumentOf, document_of}
+use Rattle.yd_ops.specs.Value.{UpdateValue}
 use Rattle.yd_updates.specs.Received.{Received, received_set}
 use Rattle.yd_world.specs.Shelf.{Shelf}
 use Rattle.yd_world.specs.Traffic.{Traffic}
@@ -13,15 +14,15 @@ use Rattle.yd_files.specs.Reading.{StopsAmong}
 use Rattle.yd_files.specs.Seen.{file_of}
 use Rattle.yd_files.specs.declared.fault.FileFault.{FileFault}
 use Rattle.yd_files.specs.declared.fault.FileFault.TheVariants as faults
-use Rattle.yd_files.specs.Verdict.{Inputs}
+use Rattle.yd_files.specs.Verdict.{Inputs, StandFor}
 use Rattle.yd_app.proofs.DueLemmas.{weaker}
 use Rattle.yd_app.specs.Asking.{StopsAsking}
 use Rattle.yd_app.specs.Command.{Command}
 use Rattle.yd_app.specs.Due.{IsDue, output}
 use Rattle.yd_app.specs.Ending.{Delivers, Ends, status_of}
-use Rattle.yd_app.specs.Output.{IsMadeOf, StandsForAgain, output_of}
+use Rattle.yd_app.specs.Output.{AreMade, IsMadeOf, StandsForAgain, output_of}
 use Rattle.yd_app.specs.Run.{TakesAllOf, Writes}
-use Rattle.yd_app.specs.Stopping.{Makes, MakesOf, stop_of_fault, stop_of_outage}
+use Rattle.yd_app.specs.Stopping.{Makes, MakesOf, StopsMaking, StopsOver, stop_of_fault, stop_of_outage}
 use Rattle.yd_app.specs.Words.{Asks, AsksFor}
 use Rattle.yd_app.specs.Writing.{CountsFault, TakesFront}
 use Rattle.yd_app.specs.declared.stop.Stop.{Stop}
@@ -30,13 +31,16 @@ use Rattle.yd_app.specs.declared.stop.Stop.TheVariants.{Usage, Refused, ReadFaul
 -- ---- what is made of inputs
 
 -- of a document of what was received
-pub made_of_document : (command : Command) (inputs : Inputs) (received : Received) (document : Document) (bytes : List ℕ) → received ≡ received_set inputs.updates → IsDocumentOf document received → StandsForAgain command inputs → bytes ≡ output_of command inputs document
+pub made_of_document : (command : Command) (inputs : Inputs) (received : Received) (document : Document) (made : List UpdateValue) (bytes : List ℕ) → received ≡ received_set inputs.updates → IsDocumentOf document received → AreMade command inputs made
+    → StandsForAgain command inputs → bytes ≡ output_of command inputs document made
     → IsMadeOf command inputs bytes
-made_of_document command inputs received document bytes is of again bytes_are = record { is_output = record { document = document; is_document = subst (IsDocumentOf document) is of; bytes_are = bytes_are }; again = again }
+made_of_document command inputs received document made bytes is of are again bytes_are =
+    record { is_output = record { document = document; is_document = subst (IsDocumentOf document) is of; made = made; are_made = are; bytes_are = bytes_are }; again = again }
 
 -- of the inputs alone, whatever the document
-pub made_of_updates : (command : Command) (inputs : Inputs) (bytes : List ℕ) → StandsForAgain command inputs → ((document : Document) → bytes ≡ output_of command inputs document) → IsMadeOf command inputs bytes
-made_of_updates command inputs bytes again bytes_are = made_of_document command inputs (received_set inputs.updates) (document_of (received_set inputs.updates)) bytes refl refl again (bytes_are (document_of (received_set inputs.updates)))
+pub made_of_updates : (command : Command) (inputs : Inputs) (bytes : List ℕ) → AreMade command inputs [] → StandsForAgain command inputs → ((document : Document) → bytes ≡ output_of command inputs document []) → IsMadeOf command inputs bytes
+made_of_updates command inputs bytes none again bytes_are =
+    made_of_document command inputs (received_set inputs.updates) (document_of (received_set inputs.updates)) [] bytes refl refl none again (bytes_are (document_of (received_set inputs.updates)))
 
 -- ---- what was made
 
@@ -55,7 +59,14 @@ asks_none Calm words told told_now reads (Err other) WriteFault is asking = absu
 pub reads_none : (Calm : Type 0) (words : List (List ℕ)) (command : Command) (files : List File) (told told_now : Option Shelf) (reads : Count) (result : Result (Vec ℕ) Stop) (fault : FileFault) → IsErr result × IsErrAnd result (λ s. s ≡ stop_of_fault fault)
     → Asks words command files → StopsAmong Calm told told_now files reads fault → Makes Calm words told told_now reads result
 reads_none Calm words command files told told_now reads (Ok bytes) fault is asks stops = absurd is.1
-reads_none Calm words command files told told_now reads (Err stop) fault is asks stops = inr (inr (record { command = command; files = files; asks = asks; holds = (fault, is.1, stops) }))
+reads_none Calm words command files told told_now reads (Err stop) fault is asks stops = inr (inr (inl (record { command = command; files = files; asks = asks; holds = (fault, is.1, stops) })))
+
+-- inputs of which the command makes nothing
+pub refuses_some : (Calm : Type 0) (words : List (List ℕ)) (command : Command) (files : List File) (told told_now : Option Shelf) (reads : Count) (inputs : Inputs) (result : Result (Vec ℕ) Stop) (stop : Stop) → IsErr result × IsErrAnd result (λ s. s ≡ stop)
+    → Asks words command files → StandFor told files inputs → StopsMaking command inputs stop → Makes Calm words told told_now reads result
+refuses_some Calm words command files told told_now reads inputs (Ok bytes) stop is asks stand stops = absurd is.1
+refuses_some Calm words command files told told_now reads inputs (Err other) stop is asks stand stops =
+    inr (inr (inr (record { command = command; files = files; asks = asks; holds = (inputs, stand, subst (StopsMaking command inputs) (sym is.1) stops) })))
 
 -- no memory to make it
 pub makes_none : (Calm : Type 0) (words : List (List ℕ)) (told told_now : Option Shelf) (reads : Count) (result : Result (Vec ℕ) Stop) → IsErr result × IsErrAnd result (λ s. s ≡ NoMemory) → Makes Calm words told told_now reads result
@@ -68,20 +79,32 @@ makes_none Calm words told told_now reads (Err stop) is = inl is.1
 stopped : (Calm : Type 0) (words : List (List ℕ)) (told told_now : Option Shelf) (traffic : Option Traffic) (reads writes : Count) (taken now : Option (List ℕ)) (fault : FileFault) → now ≡ taken → (command : Command) (files : List File) → Asks words command files
     → StopsAmong Calm told told_now files reads fault → Ends Calm words told told_now traffic reads writes taken now (Err (stop_of_fault fault))
 stopped Calm words told told_now traffic reads writes taken now (faults.Refused file cause spot) same command files asks stops =
-    record { command = command; files = files; asks = asks; holds = (file_of file, record { cause = cause; spot = spot }, stops, refl) }
+    record { command = command; files = files; asks = asks; holds = inl (file_of file, record { cause = cause; spot = spot }, stops, refl) }
 stopped Calm words told told_now traffic reads writes taken now (faults.ReadFault file) same command files asks stops =
     (stops.0, record { command = command; files = files; asks = asks; holds = (file_of file, stops.1, refl) })
 stopped Calm words told told_now traffic reads writes taken now (faults.TooLarge file) same command files asks stops =
     record { command = command; files = files; asks = asks; holds = (file_of file, stops, refl) }
 stopped Calm words told told_now traffic reads writes taken now faults.NoMemory same command files asks stops = inl same
 
+-- a command that stopped
+refused_made : (Calm : Type 0) (words : List (List ℕ)) (told told_now : Option Shelf) (traffic : Option Traffic) (reads writes : Count) (taken now : Option (List ℕ)) (stop : Stop) → now ≡ taken → (command : Command) (files : List File) → Asks words command files
+    → StopsOver command files told stop → Ends Calm words told told_now traffic reads writes taken now (Err stop)
+refused_made Calm words told told_now traffic reads writes taken now NoMemory same command files asks over = inl same
+refused_made Calm words told told_now traffic reads writes taken now (Refused what) same command files asks over = record { command = command; files = files; asks = asks; holds = inr over }
+refused_made Calm words told told_now traffic reads writes taken now Usage same command files asks over = absurd over.2
+refused_made Calm words told told_now traffic reads writes taken now (ReadFault file) same command files asks over = absurd over.2
+refused_made Calm words told told_now traffic reads writes taken now (TooLarge file) same command files asks over = absurd over.2
+refused_made Calm words told told_now traffic reads writes taken now WriteFault same command files asks over = absurd over.2
+
 -- what stopped before anything was written
 unwritten : (Calm : Type 0) (words : List (List ℕ)) (told told_now : Option Shelf) (traffic : Option Traffic) (reads writes : Count) (taken now : Option (List ℕ)) (stop : Stop) → now ≡ taken
     → Makes Calm words told told_now reads (Err stop) → Ends Calm words told told_now traffic reads writes taken now (Err stop)
 unwritten Calm words told told_now traffic reads writes taken now stop same (inl none) = subst (λ (s : Stop). Ends Calm words told told_now traffic reads writes taken now (Err s)) (sym none) (inl same)
 unwritten Calm words told told_now traffic reads writes taken now stop same (inr (inl none)) = subst (λ (s : Stop). Ends Calm words told told_now traffic reads writes taken now (Err s)) (sym none.0) none.1
-unwritten Calm words told told_now traffic reads writes taken now stop same (inr (inr asks)) =
+unwritten Calm words told told_now traffic reads writes taken now stop same (inr (inr (inl asks))) =
     subst (λ (s : Stop). Ends Calm words told told_now traffic reads writes taken now (Err s)) (sym asks.holds.1) (stopped Calm words told told_now traffic reads writes taken now asks.holds.0 same asks.command asks.files asks.asks asks.holds.2)
+unwritten Calm words told told_now traffic reads writes taken now stop same (inr (inr (inr asks))) =
+    refused_made Calm words told told_now traffic reads writes taken now stop same asks.command asks.files asks.asks asks.holds
 
 -- writing stopped
 pub written_err : (bytes : Vec ℕ) (before now : ℕ) (taken next : Option (List ℕ)) (result : Result (Unit {0}) Stop) (outage : Outage) → IsErr result × IsErrAnd result (λ s. s ≡ stop_of_outage outage)
@@ -129,7 +152,8 @@ no_write_fault Calm words told told_now reads writes taken now (Err stop) e m d 
     by_stop : (s : Stop) → Makes Calm words told told_now reads (Err s) → status_of (Err s) ≡ 4 → ⊥
     by_stop WriteFault (inl none) same = cc
     by_stop WriteFault (inr (inl none)) same = let is : WriteFault ≡ Usage = none.0 in cc
-    by_stop WriteFault (inr (inr asks)) same = no_fault asks.holds.0 asks.holds.1
+    by_stop WriteFault (inr (inr (inl asks))) same = no_fault asks.holds.0 asks.holds.1
+    by_stop WriteFault (inr (inr (inr asks))) same = absurd asks.holds.2
     by_stop (Refused what) made same = omega (arith, same)
     by_stop Usage made same = omega (arith, same)
     by_stop (ReadFault file) made same = omega (arith, same)

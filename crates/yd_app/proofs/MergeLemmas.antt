@@ -12,7 +12,7 @@ use Rattle.yd_files.specs.Verdict.{AreRead, Content, Inputs, StandFor, StandsIn,
 use Rattle.yd_files.specs.declared.kind.Kind.{Kind}
 use Rattle.yd_app.proofs.LawLemmas.{received_same}
 use Rattle.yd_app.proofs.WordLemmas.{asks_same}
-use Rattle.yd_app.specs.Command.{Command, convert, cut, merge, pack, show, vector}
+use Rattle.yd_app.specs.Command.{Command, convert, cut, edit, merge, pack, show, vector}
 use Rattle.yd_app.specs.Commands.Convert.{StandsAgain, converted_bytes, converted_output}
 use Rattle.yd_app.specs.Commands.Vector.{vector_bytes}
 use Rattle.yd_grouping.specs.Reach.{reach_of}
@@ -30,6 +30,7 @@ output_same (show mode root) one another bytes others_bytes of same a b = absurd
 output_same (convert form) one another bytes others_bytes of same a b = absurd of
 output_same pack one another bytes others_bytes of same a b = absurd of
 output_same (cut name) one another bytes others_bytes of same a b = absurd of
+output_same (edit client name) one another bytes others_bytes of same a b = absurd of
 output_same (merge form) one another bytes others_bytes of same a b = a.bytes_are ∙ ap (converted_bytes form) same ∙ sym b.bytes_are
 output_same vector one another bytes others_bytes of same a b = a.bytes_are ∙ ap (λ (u : UpdateValue). vector_bytes (reach_of u)) same ∙ sym b.bytes_are
 
@@ -87,5 +88,7 @@ merges_converted shelf other files name form to inputs others bytes written read
     record {
       document = made.is_output.document;
       is_document = made.is_output.is_document;
+      made = [];
+      are_made = refl;
       bytes_are = converts.bytes_are ∙ ap (converted_output to) one;
     }

@@ -1,10 +1,14 @@
 -- The table of commands: what each row reads, and that a command's words are read as that command.
-use Rattle.std.proofs.Common.{◌≡◌, ◌⊎◌, ◌∙◌, ℕ, List, [], ◌∷◌, ◌++◌, Bool, true, false, Option, Some, None, inl, inr, refl, sym, ap, subst}
+use Rattle.std.proofs.Common.{◌≡◌, ◌⊎◌, ◌∙◌, ◌<◌, ◌≤◌, ◌^◌, ◌&&◌, ℕ, nat_lt, Result, Ok, Err, List, [], ◌∷◌, ◌++◌, Bool, true, false, Option, Some, None, inl, inr, refl, sym, ap, ap₂, subst, arith, tests}
 use Rattle.std.proofs.lemmas.Slice.Eq.{bytes_eq-Decides}
-use Rattle.std.specs.Prelude.{codes}
+use Rattle.std.proofs.lemmas.Fmt.{decimal_is_IsNumeral, parse-decimal}
+use Rattle.std.specs.Prelude.{codes, decimal}
+use Rattle.std.specs.Str.Parse.{ParsesUnsigned, digits_value}
+use Rattle.yd_ids.specs.Id.{IsClient}
+use Rattle.yd_ids.specs.declared.id.Client.{Client}
 use Rattle.std.specs.Str.{bytes_eq}
-use Rattle.yd_app.specs.Command.{Command, arguments_of, convert, cut, merge, name_of, pack, show, vector, word_of, word_of_mode, words_of}
-use Rattle.yd_app.specs.Table.{Begun, Row, command_in, convert_in, convert_to, cut_in, either, format_in, merge_in, merge_to, mode_in, pack_in, row_in, show_in, show_to, table, vector_in}
+use Rattle.yd_app.specs.Command.{Command, HasRange, arguments_of, convert, cut, edit, merge, name_of, pack, show, vector, word_of, word_of_mode, words_of}
+use Rattle.yd_app.specs.Table.{Begun, Row, client_in, client_with, command_in, convert_in, convert_to, cut_in, edit_by, edit_in, either, format_in, merge_in, merge_to, mode_in, pack_in, row_in, show_in, show_to, table, vector_in}
 use Rattle.yd_app.specs.declared.format.Format.{Format}
 use Rattle.yd_app.specs.declared.format.Format.TheVariants.{V1, V2}
 use Rattle.yd_modes.specs.declared.mode.Mode.{Mode}
@@ -118,6 +122,93 @@ cut_sound (word ∷ rest) command names is =
     let one = read_one (cut word) command rest names (Some (cut word, rest)) refl is in
     subst (λ (c : Command). (codes "cut" ≡ name_of c) × (word ∷ rest ≡ arguments_of c ++ names)) one.0 (refl, ap (λ (ns : List (List ℕ)). word ∷ ns) one.1)
 
+-- the word of a client writes its number, which is in range
+client_tested : (word : List ℕ) (number : ℕ) (client : Client) → client_with word number ≡ Some client → (word ≡ decimal client.0) × IsClient client
+client_tested word number client is = by_range (nat_lt number (2 ^ 53)) refl is
+  where
+    by_word : (test : Bool) → bytes_eq word (decimal number) ≡ test → number < 2 ^ 53 → either test (Some (record { 0 = number })) None ≡ Some client → (word ≡ decimal client.0) × IsClient client
+    by_word true same few found = let one : record { 0 = number } ≡ client = cc in
+        subst (λ (c : Client). (word ≡ decimal c.0) × IsClient c) one ((bytes_eq-Decides word (decimal number)).0 same, few)
+    by_word false other few found = absurd cc
+
+    by_range : (test : Bool) → nat_lt number (2 ^ 53) ≡ test → either (test && bytes_eq word (decimal number)) (Some (record { 0 = number })) None ≡ Some client → (word ≡ decimal client.0) × IsClient client
+    by_range true few found = by_word (bytes_eq word (decimal number)) refl (grind (arith, tests)) found
+    by_range false many found = absurd cc
+
+pub client_named : (word : List ℕ) (client : Client) → client_in word ≡ Some client → (word ≡ decimal client.0) × IsClient client
+client_named word client is = client_tested word (digits_value 10 word) client is
+
+-- and what is so written is read as the client
+pub client_read : (client : Client) → IsClient client → client_in (decimal client.0) ≡ Some client
+client_read client few = ap (client_with (decimal client.0)) ((decimal_is_IsNumeral client.0 (omega (arith, few))).1)
+    ∙ ap (λ t. either (t && bytes_eq (decimal client.0) (decimal client.0)) (Some (record { 0 = client.0 })) None) within
+    ∙ ap (λ t. either t (Some (record { 0 = client.0 })) None) ((bytes_eq-Decides (decimal client.0) (decimal client.0)).1 refl)
+  where
+    within : nat_lt client.0 (2 ^ 53) ≡ true
+    within = grind (arith, tests)
+
+-- ---- lemmas for callers: the number of a client
+
+-- what the word writes in range
+pub client_some : (word : List ℕ) (number : ℕ) → number < 2 ^ 53 → bytes_eq word (decimal number) ≡ true → client_with word number ≡ Some (record { 0 = number })
+client_some word number few same = ap₂ (λ s t. either (s && t) (Some (record { 0 = number })) None) within same
+  where
+    within : nat_lt number (2 ^ 53) ≡ true
+    within = grind (arith, tests)
+
+-- a number past the range is none, and so is one that the word does not write so
+pub client_past : (word : List ℕ) (number : ℕ) → 2 ^ 53 ≤ number → client_with word number ≡ None
+client_past word number many = ap (λ s. either (s && bytes_eq word (decimal number)) (Some (record { 0 = number })) None) past
+  where
+    past : nat_lt number (2 ^ 53) ≡ false
+    past = grind (arith, tests)
+
+pub client_other : (word : List ℕ) (number : ℕ) → bytes_eq word (decimal number) ≡ false → client_with word number ≡ None
+client_other word number other = ap (λ t. either {X = Option Client} (nat_lt number (2 ^ 53) && t) (Some (record { 0 = number })) None) other ∙ go (nat_lt number (2 ^ 53))
+  where
+    go : (s : Bool) → either {X = Option Client} (s && false) (Some (record { 0 = number })) None ≡ None
+    go true = refl
+    go false = refl
+
+-- a word that is no number names no client
+pub client_unparsed : (E : Type 0) (word : List ℕ) (error : E) → ParsesUnsigned 64 10 word (Err error) → client_in word ≡ None
+client_unparsed E word error parses = go (client_in word) refl
+  where
+    go : (found : Option Client) → client_in word ≡ found → found ≡ None
+    go None is = refl
+    go (Some client) is = let named = client_named word client is in
+        let parsed : ◌≡◌ {A = Result ℕ E} (Err error) (Ok client.0) = parse-decimal 64 client.0 word (Err error) (omega (arith, named.1)) (omega (arith, named.1)) named.0 parses in absurd cc
+
+-- of another its number decides
+pub client_parsed : (E : Type 0) (word : List ℕ) (number : ℕ) → ParsesUnsigned {E = E} 64 10 word (Ok number) → client_with word number ≡ client_in word
+client_parsed E word number parses = go (client_in word) refl (client_with word number) refl
+  where
+    go : (found : Option Client) → client_in word ≡ found → (other : Option Client) → client_with word number ≡ other → other ≡ found
+    go None is None also = refl
+    go None is (Some client) also = let named = client_tested word number client also in
+        let read : client_in word ≡ Some client = ap client_in named.0 ∙ client_read client named.1 in absurd (none client (sym read ∙ is))
+      where
+        none : (c : Client) → Some c ≡ None → ⊥
+        none c e = cc
+    go (Some client) is other also = let named = client_named word client is in
+        let parsed : ◌≡◌ {A = Result ℕ E} (Ok number) (Ok client.0) = parse-decimal 64 client.0 word (Ok number) (omega (arith, named.1)) (omega (arith, named.1)) named.0 parses in
+        let same : number ≡ client.0 = cc in
+        sym also ∙ ap (client_with word) same
+        ∙ client_some word client.0 named.1 ((bytes_eq-Decides word (decimal client.0)).1 named.0)
+
+edit_sound : IsSound (record { name = codes "edit"; arguments = edit_in })
+unfolding IsSound
+edit_sound [] command names is = absurd cc
+edit_sound (word ∷ []) command names is = absurd cc
+edit_sound (word ∷ name ∷ rest) command names is = by_client (client_in word) refl is
+  where
+    by_client : (read : Option Client) → client_in word ≡ read → edit_by read name rest ≡ Some (command, names) → (codes "edit" ≡ name_of command) × (word ∷ name ∷ rest ≡ arguments_of command ++ names)
+    by_client (Some client) named found =
+        let one = read_one (edit client name) command rest names (Some (edit client name, rest)) refl found in
+        subst (λ (c : Command). (codes "edit" ≡ name_of c) × (word ∷ name ∷ rest ≡ arguments_of c ++ names)) one.0
+        (refl, subst (λ (ns : List (List ℕ)). word ∷ name ∷ rest ≡ decimal client.0 ∷ name ∷ ns) one.1 (ap (λ (w : List ℕ). w ∷ name ∷ rest) (client_named word client named).0))
+    by_client None named found = absurd cc
+
 -- all rows are so
 AreSound : List Row → Type 0
 AreSound [] = Unit {0}
@@ -125,7 +216,7 @@ AreSound (row ∷ rows) = IsSound row × AreSound rows
 
 table_sound : AreSound table
 unfolding AreSound
-table_sound = (show_sound, (convert_sound, (pack_sound, (merge_sound, (vector_sound, (cut_sound, tt))))))
+table_sound = (show_sound, (convert_sound, (pack_sound, (merge_sound, (vector_sound, (cut_sound, (edit_sound, tt)))))))
 
 row_found : (rows : List Row) → AreSound rows → (name : List ℕ) (words : List (List ℕ)) (command : Command) (names : List (List ℕ)) → row_in rows name words ≡ Some (command, names) → name ∷ words ≡ words_of command names
 unfolding AreSound IsSound
@@ -148,16 +239,34 @@ command_found [] command names is = absurd cc
 command_found (name ∷ words) command names is = row_found table table_sound name words command names is
 
 -- a command's words are read as that command
-pub command_read : (command : Command) (names : List (List ℕ)) → command_in (words_of command names) ≡ Some (command, names)
-command_read (show Text root) names = refl
-command_read (show Delta root) names = refl
-command_read (show Array root) names = refl
-command_read (show Map root) names = refl
-command_read (show Tree root) names = refl
-command_read (convert V1) names = refl
-command_read (convert V2) names = refl
-command_read pack names = refl
-command_read (merge V1) names = refl
-command_read (merge V2) names = refl
-command_read vector names = refl
-command_read (cut name) names = refl
+pub command_read : (command : Command) (names : List (List ℕ)) → HasRange command → command_in (words_of command names) ≡ Some (command, names)
+command_read (show Text root) names range = refl
+command_read (show Delta root) names range = refl
+command_read (show Array root) names range = refl
+command_read (show Map root) names range = refl
+command_read (show Tree root) names range = refl
+command_read (convert V1) names range = refl
+command_read (convert V2) names range = refl
+command_read pack names range = refl
+command_read (merge V1) names range = refl
+command_read (merge V2) names range = refl
+command_read vector names range = refl
+command_read (cut name) names range = refl
+command_read (edit client name) names range = ap (λ (found : Option Client). edit_by found name names) (client_read client range)
+
+-- what words are read as has its numbers in range
+pub range_found : (words : List (List ℕ)) (command : Command) (names : List (List ℕ)) → command_in words ≡ Some (command, names) → HasRange command
+range_found words (show mode root) names is = tt
+range_found words (convert form) names is = tt
+range_found words pack names is = tt
+range_found words (merge form) names is = tt
+range_found words vector names is = tt
+range_found words (cut name) names is = tt
+range_found words (edit client name) names is =
+    by_client (client_in (decimal client.0)) refl (subst (λ (ws : List (List ℕ)). command_in ws ≡ Some (edit client name, names)) (command_found words (edit client name) names is) is)
+  where
+    by_client : (read : Option Client) → client_in (decimal client.0) ≡ read → edit_by read name names ≡ Some (edit client name, names) → IsClient client
+    by_client None named found = absurd cc
+    by_client (Some other) named found =
+        let same : edit other name ≡ edit client name = (read_one (edit other name) (edit client name) names names (Some (edit other name, names)) refl found).0 in
+        let one : other ≡ client = cc in subst IsClient one (client_named (decimal client.0) other named).1

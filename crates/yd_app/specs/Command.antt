@@ -1,11 +1,13 @@
 -- The commands: what each is called, how its words go on, and which files it wants (own).
-use Rattle.std.specs.Prelude.{ℕ, ◌<◌, List, [], ◌∷◌, ◌++◌, length, codes, Option, Some, None}
+use Rattle.std.specs.Prelude.{ℕ, ◌<◌, List, [], ◌∷◌, ◌++◌, length, codes, decimal, Option, Some, None}
+use Rattle.yd_ids.specs.declared.id.Client.{Client}
+use Rattle.yd_ids.specs.Id.{IsClient}
 use Rattle.yd_files.specs.Files.{AreOneUpdate, File}
 use Rattle.yd_files.specs.declared.kind.Kind.TheVariants as kinds
 use Rattle.yd_app.specs.declared.command.Command.{Command as CommandSeen}
-use Rattle.yd_app.specs.declared.command.Command.TheVariants.{Show, Convert, Pack, Merge, Vector, Cut}
+use Rattle.yd_app.specs.declared.command.Command.TheVariants.{Show, Convert, Pack, Merge, Vector, Cut, Edit}
 use Rattle.yd_app.specs.declared.command.Wanted.{Wanted}
-use Rattle.yd_app.specs.declared.command.Wanted.TheVariants.{Several, OneUpdate}
+use Rattle.yd_app.specs.declared.command.Wanted.TheVariants.{Several, OneUpdate, Any}
 use Rattle.yd_app.specs.declared.format.Format.{Format}
 use Rattle.yd_app.specs.declared.format.Format.TheVariants.{V1, V2}
 use Rattle.yd_modes.specs.declared.mode.Mode.{Mode}
@@ -16,7 +18,8 @@ abbrev pub usage_line : List ℕ
 usage_line = codes "usage: ydoc show|merge|cut|vector|convert|edit|serve|sync|check|generate|pack\n"
 
 -- what is done with files: a root is shown in a mode of all that they hold, the one file is written in a format, all updates as one log
--- or as one update in a format, the vector that all reach together, or what the one file has from the vector in a file on
+-- or as one update in a format, the vector that all reach together, or what the one file has from the vector in a file on; or a client
+-- plays the script in a file on all that they hold, and what its lines made is written as one update
 pub data Command : Type 0 where
   show : Mode → List ℕ → Command
   convert : Format → Command
@@ -24,6 +27,7 @@ pub data Command : Type 0 where
   merge : Format → Command
   vector : Command
   cut : List ℕ → Command
+  edit : Client → List ℕ → Command
 
 -- the command that the code has, without where its texts lie in memory
 abbrev pub command_of : CommandSeen → Command
@@ -33,6 +37,7 @@ command_of Pack = pack
 command_of (Merge form) = merge form
 command_of Vector = vector
 command_of (Cut name) = cut name.now
+command_of (Edit client name) = edit client name.now
 
 -- its name
 abbrev pub name_of : Command → List ℕ
@@ -42,6 +47,7 @@ name_of pack = codes "pack"
 name_of (merge form) = codes "merge"
 name_of vector = codes "vector"
 name_of (cut name) = codes "cut"
+name_of (edit client name) = codes "edit"
 
 -- the word that names a format
 abbrev pub word_of : Format → List ℕ
@@ -64,6 +70,12 @@ arguments_of pack = []
 arguments_of (merge form) = word_of form ∷ []
 arguments_of vector = []
 arguments_of (cut name) = name ∷ []
+arguments_of (edit client name) = decimal client.0 ∷ name ∷ []
+
+-- the numbers among its arguments are in range
+abbrev pub HasRange : Command → Type 0
+HasRange (edit client name) = IsClient client
+HasRange command = Unit {0}
 
 -- which files it wants
 abbrev pub wanted_by : Command → Wanted
@@ -73,10 +85,12 @@ wanted_by pack = Several
 wanted_by (merge form) = Several
 wanted_by vector = Several
 wanted_by (cut name) = OneUpdate
+wanted_by (edit client name) = Any
 
 -- the files that its own words name, which are read before all others
 abbrev pub own_files : Command → List File
 own_files (cut name) = record { kind = kinds.Vector; name = name } ∷ []
+own_files (edit client name) = record { kind = kinds.Script; name = name } ∷ []
 own_files command = []
 
 -- a file, if it is given
@@ -84,10 +98,11 @@ abbrev pub given_files : Option File → List File
 given_files None = []
 given_files (Some file) = file ∷ []
 
--- these are such: one or more, or one that stands for one update
+-- these are such: one or more, or one that stands for one update, or any
 abbrev pub AreWanted : Wanted → List File → Type 0
 AreWanted Several files = 0 < length files
 AreWanted OneUpdate files = AreOneUpdate files
+AreWanted Any files = Unit {0}
 
 -- the command's words, and then those that name the files
 abbrev pub words_of : Command → List (List ℕ) → List (List ℕ)

@@ -1,6 +1,7 @@
 -- The commands, each in a file of its own.
 pub mod Convert
 pub mod Cut
+pub mod Edit
 pub mod Merge
 pub mod Show
 pub mod Vector

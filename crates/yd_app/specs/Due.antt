@@ -1,13 +1,13 @@
 -- What is due in a run, by its words, its files and its network: one thing, with its status and its line on err (own).
-use Rattle.std.specs.Prelude.{◌≡◌, ℕ, List, [], ◌∷◌, Option}
+use Rattle.std.specs.Prelude.{◌≡◌, ◌⊎◌, ℕ, List, [], ◌∷◌, Option}
 use Rattle.yd_parts.specs.Fault.{Fault}
 use Rattle.yd_world.specs.Shelf.{Shelf}
 use Rattle.yd_world.specs.Traffic.{Traffic}
 use Rattle.yd_files.specs.Files.{File}
 use Rattle.yd_files.specs.Verdict.{Inputs, StandFor, StopsAt, missing, refused, too_large}
-use Rattle.yd_app.specs.Command.{usage_line}
+use Rattle.yd_app.specs.Command.{Command, usage_line}
 use Rattle.yd_app.specs.Lines.{limit_line, no_step_2_line, read_fault_line, refused_line}
-use Rattle.yd_app.specs.Output.{IsOutputOf}
+use Rattle.yd_app.specs.Output.{IsOutputOf, IsRefusalOf}
 use Rattle.yd_app.specs.Status as status
 use Rattle.yd_app.specs.Words.{AreOfNoForm, AsksFor}
 
@@ -21,11 +21,17 @@ pub data Due : Type 0 where
   no_step_2 : Due
   output : List ℕ → Due
 
+-- the line says what is refused: the first of the files that is not accepted, or by the command something of what they all stand for
+abbrev pub Refuses : Option Shelf → Command → List File → List ℕ → Type 0
+Refuses told command files line =
+    ((file : File) × (fault : Fault) × StopsAt told files file (refused fault) × (line ≡ refused_line file fault))
+    ⊎ ((inputs : Inputs) × StandFor told files inputs × IsRefusalOf command inputs line)
+
 -- usage where the words are of no form; what the command makes of its files where all are accepted; and else what the first is that
--- is not: refused, too large or missing
+-- is not: refused, too large or missing; or what the command refuses of its files where all are accepted
 abbrev pub IsDue : List (List ℕ) → Option Shelf → Option Traffic → Due → Type 0
 IsDue words told traffic usage = AreOfNoForm words
-IsDue words told traffic (refusal line) = AsksFor words (λ command files. (file : File) × (fault : Fault) × StopsAt told files file (refused fault) × (line ≡ refused_line file fault))
+IsDue words told traffic (refusal line) = AsksFor words (λ command files. Refuses told command files line)
 IsDue words told traffic (over_limit name) = AsksFor words (λ command files. (file : File) × StopsAt told files file too_large × (name ≡ file.name))
 IsDue words told traffic (lacking name) = AsksFor words (λ command files. (file : File) × StopsAt told files file missing × (name ≡ file.name))
 IsDue words told traffic no_step_2 = ⊥

@@ -3,9 +3,10 @@ use Rattle.std.specs.Prelude.{ℕ, List, ◌++◌, codes}
 use Rattle.yd_parts.specs.Fault.{Fault}
 use Rattle.yd_files.specs.Files.{File, file_word}
 use Rattle.yd_files.specs.Seen.{file_of}
+use Rattle.yd_app.specs.Commands.Edit.{refused_script_line}
 use Rattle.yd_app.specs.Reason.{fault_text}
 use Rattle.yd_app.specs.declared.refusal.Refusal.{Refusal}
-use Rattle.yd_app.specs.declared.refusal.Refusal.TheVariants.{OfFile}
+use Rattle.yd_app.specs.declared.refusal.Refusal.TheVariants.{OfFile, OfLine}
 
 -- the file is refused for this fault
 abbrev pub refused_line : File → Fault → List ℕ
@@ -14,6 +15,7 @@ refused_line file fault = codes "refused " ++ file_word file ++ codes " " ++ fau
 -- what the code refuses
 abbrev pub refusal_line : Refusal → List ℕ
 refusal_line (OfFile file cause spot) = refused_line (file_of file) (record { cause = cause; spot = spot })
+refusal_line (OfLine script number cause) = refused_script_line script.now number cause
 
 -- the library failed at the name
 abbrev pub read_fault_line : List ℕ → List ℕ

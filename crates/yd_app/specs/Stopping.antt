@@ -11,7 +11,8 @@ use Rattle.yd_files.specs.Verdict.{Inputs, StandFor}
 use Rattle.yd_files.specs.declared.fault.FileFault.{FileFault}
 use Rattle.yd_files.specs.declared.fault.FileFault.TheVariants as faults
 use Rattle.yd_app.specs.Command.{Command}
-use Rattle.yd_app.specs.Output.{IsMadeOf}
+use Rattle.yd_app.specs.Lines.{refusal_line}
+use Rattle.yd_app.specs.Output.{IsMadeOf, IsRefusalOf}
 use Rattle.yd_app.specs.Words.{AreOfNoForm, Asks, AsksFor}
 use Rattle.yd_app.specs.declared.refusal.Refusal.TheVariants.{OfFile}
 use Rattle.yd_app.specs.declared.stop.Stop.{Stop}
@@ -37,10 +38,25 @@ MakesOf command files told bytes = (inputs : Inputs) × StandFor told files inpu
 abbrev pub StopsFor : Type 0 → Option Shelf → Option Shelf → List File → Count → Stop → Type 0
 StopsFor Calm told told_now files reads stop = (fault : FileFault) × (stop ≡ stop_of_fault fault) × StopsAmong Calm told told_now files reads fault
 
--- what is made is what the words ask for; or they are of no form, reading the files stopped, or memory is wanted
+-- why a command makes nothing of its inputs: it refuses them, or memory is wanted
+abbrev pub StopsMaking : Command → Inputs → Stop → Type 0
+StopsMaking command inputs NoMemory = Unit {0}
+StopsMaking command inputs (Refused what) = IsRefusalOf command inputs (refusal_line what)
+StopsMaking command inputs Usage = ⊥
+StopsMaking command inputs (ReadFault file) = ⊥
+StopsMaking command inputs (TooLarge file) = ⊥
+StopsMaking command inputs WriteFault = ⊥
+
+-- so it is of what the files stand for
+abbrev pub StopsOver : Command → List File → Option Shelf → Stop → Type 0
+StopsOver command files told stop = (inputs : Inputs) × StandFor told files inputs × StopsMaking command inputs stop
+
+-- what is made is what the words ask for; or they are of no form, reading the files stopped, the command refuses what they stand for, or
+-- memory is wanted
 abbrev pub Makes : Type 0 → List (List ℕ) → Option Shelf → Option Shelf → Count → Result (Vec ℕ) Stop → Type 0
 Makes Calm words told told_now reads (Ok bytes) = AsksFor words (λ command files. MakesOf command files told bytes.items)
-Makes Calm words told told_now reads (Err stop) = (stop ≡ NoMemory) ⊎ ((stop ≡ Usage) × AreOfNoForm words) ⊎ AsksFor words (λ command files. StopsFor Calm told told_now files reads stop)
+Makes Calm words told told_now reads (Err stop) = (stop ≡ NoMemory) ⊎ ((stop ≡ Usage) × AreOfNoForm words)
+    ⊎ AsksFor words (λ command files. StopsFor Calm told told_now files reads stop) ⊎ AsksFor words (λ command files. StopsOver command files told stop)
 
 -- of the files that the words ask for, reading counts no fault where the first that is not accepted, if there is one, is there
 abbrev pub ReadsAsked : List (List ℕ) → Option Shelf → Count → Type 0

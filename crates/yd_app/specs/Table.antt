@@ -1,7 +1,9 @@
 -- The table of commands: a row for each, with its name and how the words behind it are read (own).
-use Rattle.std.specs.Prelude.{ℕ, List, [], ◌∷◌, Bool, true, false, Option, Some, None, codes}
+use Rattle.std.specs.Prelude.{ℕ, ◌^◌, ◌&&◌, List, [], ◌∷◌, Bool, true, false, nat_lt, Option, Some, None, codes, decimal}
+use Rattle.std.specs.Str.Parse.{digits_value}
+use Rattle.yd_ids.specs.declared.id.Client.{Client}
 use Rattle.std.specs.Str.{bytes_eq}
-use Rattle.yd_app.specs.Command.{Command, convert, cut, merge, pack, show, vector}
+use Rattle.yd_app.specs.Command.{Command, convert, cut, edit, merge, pack, show, vector}
 use Rattle.yd_app.specs.declared.format.Format.{Format}
 use Rattle.yd_app.specs.declared.format.Format.TheVariants.{V1, V2}
 use Rattle.yd_modes.specs.declared.mode.Mode.{Mode}
@@ -77,6 +79,24 @@ abbrev pub cut_in : List (List ℕ) → Begun
 cut_in [] = None
 cut_in (name ∷ names) = Some (cut name, names)
 
+-- the client with a number that a word writes, in decimal digits without a zero in front
+abbrev pub client_with : List ℕ → ℕ → Option Client
+client_with word number = either (nat_lt number (2 ^ 53) && bytes_eq word (decimal number)) (Some (record { 0 = number })) None
+
+-- the client that a word names
+abbrev pub client_in : List ℕ → Option Client
+client_in word = client_with word (digits_value 10 word)
+
+-- `edit CLIENT SCRIPT`
+abbrev pub edit_by : Option Client → List ℕ → List (List ℕ) → Begun
+edit_by None name names = None
+edit_by (Some client) name names = Some (edit client name, names)
+
+abbrev pub edit_in : List (List ℕ) → Begun
+edit_in [] = None
+edit_in (word ∷ []) = None
+edit_in (word ∷ name ∷ names) = edit_by (client_in word) name names
+
 -- ---- the table
 
 abbrev pub table : List Row
@@ -87,6 +107,7 @@ table =
     ∷ record { name = codes "merge"; arguments = merge_in }
     ∷ record { name = codes "vector"; arguments = vector_in }
     ∷ record { name = codes "cut"; arguments = cut_in }
+    ∷ record { name = codes "edit"; arguments = edit_in }
     ∷ []
 
 -- the row of the name reads the words behind it

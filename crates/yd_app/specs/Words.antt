@@ -2,13 +2,14 @@
 use Rattle.std.specs.Prelude.{◌≡◌, ◌++◌, ℕ, List, map}
 use Rattle.yd_words.specs.Each.{Each}
 use Rattle.yd_files.specs.Files.{File, IsNamed, file_word}
-use Rattle.yd_app.specs.Command.{AreWanted, Command, own_files, wanted_by, words_of}
+use Rattle.yd_app.specs.Command.{AreWanted, Command, HasRange, own_files, wanted_by, words_of}
 
 -- the words are those of the command and of files that a word of their own names; with those that the command's words name in front of
 -- them these are the files
 pub record Asks (words : List (List ℕ)) (command : Command) (files : List File) : Type 0 where
   pub named : List File
   pub words_are : words ≡ words_of command (map file_word named)
+  pub in_range : HasRange command
   pub are_wanted : AreWanted (wanted_by command) named
   pub are_named : Each IsNamed named
   pub files_are : files ≡ own_files command ++ named

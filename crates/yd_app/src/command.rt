@@ -3,12 +3,14 @@
 ghost use Rattle.std.specs.Prelude.{◌≡◌, ◌↔◌, IfSome, IfNone, IsTrue, Some, None, map, option_map};
 ghost use Rattle.yd_files.specs.Seen.{file_of};
 ghost use Rattle.yd_app.specs.Command.{AreWanted, command_of as seen, given_files, own_files, wanted_by};
-ghost use Rattle.yd_app.specs.Table.{command_in, convert_in, cut_in, merge_in, row_in, show_in, table};
+ghost use Rattle.yd_app.specs.Table.{client_in, client_with, command_in, convert_in, cut_in, edit_in, merge_in, row_in, show_in, table};
 
 use crate::format::{Format, format_named};
 use crate::mode::mode_named;
 use crate::word::Word;
+use itoa::Buffer;
 use yd_files::{File, Kind};
+use yd_ids::Client;
 use yd_modes::Mode;
 
 /// How the program is used.
@@ -31,6 +33,9 @@ pub enum Command<'a> {
     /// What the file's update has from the state vector under this name on is written in the file's
     /// format.
     Cut { vector: &'a str },
+    /// The script under this name is played by this client on what the files hold, and what its lines
+    /// made is written as one update.
+    Edit { client: Client, script: &'a str },
 }
 
 /// Which files a command wants.
@@ -40,6 +45,8 @@ pub enum Wanted {
     Several,
     /// One, which stands for one update.
     OneUpdate,
+    /// None or more.
+    Any,
 }
 
 impl<'a> Command<'a> {
@@ -54,6 +61,7 @@ impl<'a> Command<'a> {
             Command::Merge { .. } => Wanted::Several,
             Command::Vector => Wanted::Several,
             Command::Cut { .. } => Wanted::OneUpdate,
+            Command::Edit { .. } => Wanted::Any,
         }
     }
 
@@ -65,6 +73,10 @@ impl<'a> Command<'a> {
             Command::Cut { vector } => Some(File {
                 kind: Kind::Vector,
                 name: vector,
+            }),
+            Command::Edit { script, .. } => Some(File {
+                kind: Kind::Script,
+                name: script,
             }),
             _ => None,
         }
@@ -78,6 +90,7 @@ pub fn are_wanted(wanted: Wanted, files: &[File<'_>]) -> bool
     match wanted {
         Wanted::Several => !files.is_empty(),
         Wanted::OneUpdate => is_one_update(files),
+        Wanted::Any => true,
     }
 }
 
@@ -126,6 +139,9 @@ fn command_named<'a>(name: &str, words: &'a [Word]) -> Option<(Command<'a>, &'a 
     }
     if name == "cut" {
         return cut_of(words);
+    }
+    if name == "edit" {
+        return edit_of(words);
     }
     None
 }
@@ -185,4 +201,46 @@ fn cut_of(words: &[Word]) -> Option<(Command<'_>, &[Word])>
         }
         _ => None,
     }
+}
+
+// `CLIENT SCRIPT`
+fn edit_of(words: &[Word]) -> Option<(Command<'_>, &[Word])>
+    ensures found { IfSome result (λ both. edit_in words.now ≡ Some (seen both.0, both.1.now)) }
+    ensures none { IfNone result (edit_in words.now ≡ None) }
+{
+    match words {
+        [client, script, names @ ..] => {
+            let client = client_of(client.as_str())?;
+            let script = script.as_str();
+            Some((Command::Edit { client, script }, names))
+        }
+        _ => None,
+    }
+}
+
+/// The greatest number of a client.
+const MOST_CLIENT: u64 = (1 << 53) - 1;
+
+// The client whose number the word writes, in decimal digits without a zero in front.
+fn client_of(word: &str) -> Option<Client>
+    ensures { result ≡ client_in word.now }
+{
+    match word.parse::<u64>() {
+        Ok(number) => client_with(word, number),
+        Err(_) => None,
+    }
+}
+
+// The client with this number, if the word writes it so.
+fn client_with(word: &str, number: u64) -> Option<Client>
+    ensures { result ≡ client_with word.now number }
+{
+    if number > MOST_CLIENT {
+        return None;
+    }
+    let mut digits = Buffer::new();
+    if word == digits.format(number) {
+        return Some(Client(number));
+    }
+    None
 }

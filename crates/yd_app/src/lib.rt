@@ -24,6 +24,7 @@ mod program;
 mod receiving;
 mod refusal;
 mod request;
+mod script;
 mod status;
 mod stop;
 mod word;

@@ -3,6 +3,7 @@
 ghost use Rattle.std.specs.Prelude.{◌≡◌, map, IfOk};
 ghost use Rattle.yd_words.specs.Each.{Each};
 ghost use Rattle.yd_doc.specs.Kept.{received_of};
+ghost use Rattle.yd_ids.specs.Id.{IsClient};
 ghost use Rattle.yd_updates.specs.Received.{received_set};
 ghost use Rattle.yd_ops.specs.Valid.{IsValidUpdate};
 ghost use Rattle.yd_ops.specs.View.{update_value};
@@ -13,14 +14,15 @@ use yd_doc::Replica;
 use yd_ids::Client;
 use yd_ops::Update;
 
-/// A replica that received the updates.
-pub fn receive_all(alloc: Global, updates: &[Update]) -> Result<Replica, NoMemory>
-    requires { Each IsValidUpdate (map update_value updates.now) }
-    ensures { IfOk result (λ replica.
+/// A replica of the client that received the updates.
+pub fn receive_all(alloc: Global, client: Client, updates: &[Update]) -> Result<Replica, NoMemory>
+    requires client { IsClient client }
+    requires valid { Each IsValidUpdate (map update_value updates.now) }
+    ensures received { IfOk result (λ replica.
         received_of replica ≡ received_set (map update_value updates.now)) }
+    ensures client { IfOk result (λ replica. replica.client ≡ client) }
 {
-    // It makes no edits, so any client serves.
-    let mut replica = Replica::new(alloc, Client(0))?;
+    let mut replica = Replica::new(alloc, client)?;
     for update in updates {
         replica.apply(update)?;
     }

@@ -7,9 +7,11 @@ ghost use Rattle.yd_app.specs.Lines.{refusal_line, refused_line};
 ghost use Rattle.yd_app.specs.Writing.{TakesAll, TakesFront, CountsFault};
 
 use crate::ending::write_line;
+use crate::script::tell_line;
 use itoa::Buffer;
 use yd_files::{File, prefix};
 use yd_parts::{Cause, Column, Spot};
+use yd_playing::LineCause;
 use yd_world::{Outage, Sink};
 
 /// What is refused, and why.
@@ -20,6 +22,12 @@ pub enum Refusal<'a> {
         file: File<'a>,
         cause: Cause,
         spot: Spot,
+    },
+    /// The line with this number of the script under this name is none, or its edit is refused.
+    OfLine {
+        script: &'a str,
+        number: u64,
+        cause: LineCause,
     },
 }
 
@@ -33,6 +41,11 @@ pub fn tell_refusal<S: Sink>(err: &mut S, refusal: Refusal<'_>) -> Result<(), Ou
 {
     match refusal {
         Refusal::OfFile { file, cause, spot } => tell_file(err, file, cause, spot),
+        Refusal::OfLine {
+            script,
+            number,
+            cause,
+        } => tell_line(err, script, number, cause),
     }
 }
 

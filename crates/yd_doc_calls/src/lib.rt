@@ -7,6 +7,8 @@
 #[cfg(test)]
 mod collected;
 #[cfg(test)]
+mod edits;
+#[cfg(test)]
 mod replicas;
 #[cfg(test)]
 mod replies;

@@ -22,6 +22,7 @@ use yd_any::Text;
 use yd_doc::Replica;
 use yd_doc::law::own_document_is_defined;
 use yd_files::Inputs;
+use yd_ids::Client;
 use yd_modes::Mode;
 use yd_ops::{List, Parent};
 use yd_value::print;
@@ -33,7 +34,8 @@ pub fn show(alloc: Global, mode: Mode, root: &str, inputs: &Inputs) -> Result<Ve
     ensures { IfOk result (λ line.
         IsMadeOf (shows mode root.now) (inputs_of inputs.now) line.items) }
 {
-    let replica = receive_all(alloc, inputs.updates.as_slice())?;
+    // It makes no edits, so any client serves.
+    let replica = receive_all(alloc, Client(0), inputs.updates.as_slice())?;
     own_document_is_defined(&replica);
     let mut line = print_root(alloc, &replica, mode, root)?;
     line.push(b'\n')?;

@@ -5,4 +5,7 @@ use Rattle.yd_ops.specs.View.{update_value}
 use Rattle.yd_app.proofs.receiving.receive_all.Given as goal
 
 abbrev pub invariant-loop-update : goal.invariant-loop-update
-invariant-loop-update l = received_of l.replica ≡ received_set (map update_value (take l.update-index l.updates))
+invariant-loop-update l = record {
+  received : received_of l.replica ≡ received_set (map update_value (take l.update-index l.updates));
+  client : l.replica.client ≡ l.fn.client;
+}

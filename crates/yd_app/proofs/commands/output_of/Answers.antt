@@ -1,0 +1,10 @@
+use Rattle.std.proofs.Common.{sym, subst}
+use Rattle.yd_files.specs.Seen.{inputs_of}
+use Rattle.yd_app.specs.Command.{command_of}
+use Rattle.yd_app.specs.Output.{IsMadeOf}
+use Rattle.yd_app.specs.declared.command.Command.{Command as CommandSeen}
+use Rattle.yd_app.proofs.commands.output_of.Goals as goal
+
+pub returns-in_ok-cut-in-Cut-clause-made : goal.returns-in_ok-cut-in-Cut-clause-made
+returns-in_ok-cut-in-Cut-clause-made c = subst (λ (command : CommandSeen). IsMadeOf (command_of command) (inputs_of c.args.inputs.now) c.in_ok-cut-in-Cut.field-0.items)
+    (sym c.in-Cut.is) (c.in_ok-cut-in-Cut.ensures c.in-Cut.vector.now)
