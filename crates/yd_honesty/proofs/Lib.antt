@@ -1,8 +1,17 @@
+pub mod PartedLemmas
 pub mod PassingLemmas
 pub mod PastLemmas
 pub mod RuleLemmas
+pub mod BestLemmas
 pub mod DishonestLemmas
 pub mod LaterLemmas
 pub mod ClocksLemmas
+pub mod EndingLemmas
+pub mod EndsLemmas
+pub mod JudgeLemmas
+pub mod JudgingLemmas
+pub mod OriginsLemmas
+pub mod PlacesLemmas
 pub mod NotingLemmas
+pub mod SmallestListLemmas
 pub mod ToldLemmas

@@ -1,3 +1,4 @@
 pub mod Dishonest
+pub mod Judging
 pub mod Law
 pub mod Pasts

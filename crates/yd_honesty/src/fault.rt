@@ -36,3 +36,23 @@ impl From<yd_ids::NoMemory> for NoMemory {
         NoMemory
     }
 }
+
+impl From<yd_order::NoMemory> for NoMemory {
+    ghost use Rattle.std.specs.Prelude.{◌≡◌};
+
+    ghost from_gives = { λ _ e. e ≡ record {} };
+
+    fn from(_error: yd_order::NoMemory) -> NoMemory {
+        NoMemory
+    }
+}
+
+impl From<yd_state::NoMemory> for NoMemory {
+    ghost use Rattle.std.specs.Prelude.{◌≡◌};
+
+    ghost from_gives = { λ _ e. e ≡ record {} };
+
+    fn from(_error: yd_state::NoMemory) -> NoMemory {
+        NoMemory
+    }
+}

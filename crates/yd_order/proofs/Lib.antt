@@ -1,6 +1,7 @@
 pub mod AmongLemmas
 pub mod ArrangementLemmas
 pub mod AscendingLemmas
+pub mod ComparingLemmas
 pub mod CountingLemmas
 pub mod FillingLemmas
 pub mod HeadLemmas

@@ -7,6 +7,7 @@ use Rattle.yd_ids.specs.declared.id.Id.{Id}
 use Rattle.yd_ids.specs.Ids.{is_same, is_smaller}
 use Rattle.yd_ids.proofs.IdLemmas.{same_says}
 use Rattle.yd_origins.specs.Table.{OriginTable, ids_of, left_of, right_of, IsTable}
+use Rattle.yd_origins.specs.Before.{is_before}
 use Rattle.yd_origins.specs.Sorted.{origin_order}
 use Rattle.yd_origins.proofs.MemberLemmas.{place, Rising}
 use Rattle.yd_origins.proofs.LineLemmas.{Reasons}
@@ -15,7 +16,7 @@ use Rattle.yd_order.specs.Linking.{id_at, left_at, right_at, id_of_link, unlinke
 use Rattle.yd_order.specs.Seating.{AreSeated, seat_of, is_passed, is_ahead, has_reason, AllStand, AllBelow}
 use Rattle.yd_order.proofs.LinkedLemmas.{left_inside, right_inside, in_table, one_place, left_is, right_is}
 use Rattle.yd_order.proofs.SortedLemmas.{in_order_is_order}
-use Rattle.yd_order.proofs.StandingLemmas.{Stand, rising_goes_first}
+use Rattle.yd_order.proofs.StandingLemmas.{Stand, before_is_front, rising_goes_first}
 
 -- ---- lists of ids by places
 
@@ -207,6 +208,16 @@ module _ (rows : List LinkedRow) (t : IsTable (table_of_linked rows)) (linked : 
       (rising_goes_first table t pos end (omega arith) stands list into
       (rising pos (id_at rows) order (λ k j less lt. omega (arith, pos_in_order k (omega arith), pos_in_order j lt, less))))
       (λ x. (into x, all_in x))
+
+  -- of two rows the one that stands in front is before the other
+  pub seated_before : (i j : ℕ) → i < length order → j < length order →
+      is_before table (id_at rows (slice_index order i)) (id_at rows (slice_index order j)) ≡ nat_lt i j
+  seated_before i j p q = before_is_front table t pos end (omega arith) stands (id_at rows (slice_index order i)) (id_at rows (slice_index order j))
+      (in_table rows (slice_index order i) (order_inside i p)) (in_table rows (slice_index order j) (order_inside j q))
+      ∙ both (pos (id_at rows (slice_index order i))) (pos (id_at rows (slice_index order j))) (pos_in_order i p) (pos_in_order j q)
+    where
+      both : (m n : ℕ) → m ≡ suc i → n ≡ suc j → nat_lt m n ≡ nat_lt i j
+      both m n e f = grind (arith, tests)
 
 -- the order's places are rows
 pub seated_below : (count : ℕ) (order seats : List ℕ) → AreSeated count order seats → AllBelow count order

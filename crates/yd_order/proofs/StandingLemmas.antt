@@ -136,7 +136,7 @@ module _ (table : OriginTable) (t : IsTable table) (pos : Id → ℕ) (end : ℕ
       cases : (a b : Id) → (a ≡ b) ⊎ (a ≢ b)
       cases a b = elim (same_says a b) [ inl e ↦ inl e.1 | inr e ↦ inr e.1 ]
 
-  before_is_front : (x y : Id) → P x → P y → is_before table x y ≡ front x y
+  pub before_is_front : (x y : Id) → P x → P y → is_before table x y ≡ front x y
   before_is_front x y p q = before_within (suc (t.ends.height x + t.ends.height y)) x y p q (omega arith)
 
   -- and what stands in front goes first

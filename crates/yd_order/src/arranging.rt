@@ -75,7 +75,7 @@ fn arrange_linked(alloc: Global, rows: &[LinkedRow]) -> Result<Vec<Id>, NoMemory
 
 /// The ids of the rows as they are proposed, if each row is there once, and they stand there as
 /// their links ask.
-fn accepted(
+pub(crate) fn accepted(
     alloc: Global,
     rows: &[LinkedRow],
     proposal: &[usize],

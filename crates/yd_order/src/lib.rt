@@ -14,6 +14,7 @@
 #![tactic(auto)]
 
 mod arranging;
+mod comparing;
 mod counting;
 mod fault;
 mod filling;
@@ -29,6 +30,7 @@ mod stretch;
 mod turns;
 
 pub use arranging::arrange_stretches;
+pub use comparing::{Comparison, compare_stretches};
 pub use fault::NoMemory;
 pub use runs::arrange;
 pub use stretch::Stretch;

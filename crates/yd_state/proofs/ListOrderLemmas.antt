@@ -13,6 +13,7 @@ use Rattle.yd_ops.specs.declared.runs.Run.{Run}
 use Rattle.yd_ops.specs.Operation.{Operation}
 use Rattle.yd_origins.specs.Table.{ids_of, IsTable}
 use Rattle.yd_origins.specs.Sorted.{origin_order}
+use Rattle.yd_origins.specs.Operations.{table_of_list}
 use Rattle.yd_meaning.specs.Names.{same_list}
 use Rattle.yd_meaning.specs.ListNames.{same_list_decides}
 use Rattle.yd_meaning.specs.Order.{rows_of, list_of, operation_set, order_of}
@@ -76,6 +77,10 @@ module _ (k : HeldValue) (holds : HoldsAll k) where
         (stretch_of t))) → is_own x ≡ nat_eq m n)) ts own_entry)
 
     -- ---- lemmas for callers
+
+    -- the rows of a list are those of the stretches with its number
+    pub list_table : table_of_list (operation_set stands) name ≡ among_rows (rows_of_stretches (stretches_in n ts))
+    list_table = table_of_list-among (operation_set stands) (stands_table k holds) name ∙ ap among_rows own_rows
 
     -- the order of a list is that of the stretches with its number
     pub order_of-stretches : order_of stands name ≡ order_by_stretches n ts

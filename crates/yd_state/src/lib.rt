@@ -27,4 +27,5 @@ mod waiting;
 
 pub use fault::NoMemory;
 pub use listing::{ListView, RunView};
+pub use ordering::gathered;
 pub use state::State;

@@ -31,7 +31,11 @@ pub(crate) fn arranged(alloc: Global, held: &Held, stale: &[bool]) -> Result<Vec
 
 /// The stretches of each list with a mark, in the order of writing: one pass over the lists, and
 /// one over what was taken. What waits or is lost is in no list.
-fn gathered(alloc: Global, taken: &[Entry], stale: &[bool]) -> Result<Vec<Vec<Stretch>>, NoMemory>
+pub fn gathered(
+    alloc: Global,
+    taken: &[Entry],
+    stale: &[bool],
+) -> Result<Vec<Vec<Stretch>>, NoMemory>
     ensures { IfOk result (λ buckets.
         AreGathered stale.now taken.now (stretch_lists buckets.items)) }
 {
