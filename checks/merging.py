@@ -81,6 +81,11 @@ def edited(count):
     return b"\x01" + number(count) + b"\x01\x00" + bytes(structs) + b"\x00"
 
 
+def in_one(info, size):
+    """One update: a text (info 4) or a byte string (info 3) of so many bytes."""
+    return b"\x01\x01\x01\x00" + bytes([info]) + b"\x01\x01t" + number(size) + b"a" * size + b"\x00"
+
+
 def run(command, out):
     """The seconds of processor and the megabytes that the command takes."""
     with open(out, "wb") as sink:
@@ -132,10 +137,15 @@ def main():
     random.Random(1).shuffle(all_typed)
     mixed = put("mixed.log", b"".join(map(entry, all_typed)))
     two = put("two.log", b"".join(map(entry, by_two(12_001))))
+    size = os.path.getsize(log)
+    text = put("text.log", entry(in_one(4, size)))
+    blob = put("blob.log", entry(in_one(3, size)))
     whole = put("edited.bin", edited(260_000))
     vector = put("vector.bin", b"\x01\x01" + number(130_000))
 
     tell("pack of %d keystrokes" % KEYSTROKES, best([program, "pack", "log:" + log], "out"))
+    tell("pack of one text of as many bytes", best([program, "pack", "log:" + text], "out"))
+    tell("pack of one byte string of as many bytes", best([program, "pack", "log:" + blob], "out"))
     tell("merge of them", best([program, "merge", "v1", "log:" + log], "out"))
     tell("merge of half of them", best([program, "merge", "v1", "log:" + half], "out"))
     tell("merge of them in random order", best([program, "merge", "v1", "log:" + mixed], "out"))
