@@ -77,15 +77,14 @@ function holdings(doc, roots) {
 
 /**
  * A document with these roots that has taken the files, one after another, and again until it takes
- * nothing more: Yjs may let a struct wait although all that it needs has come. It takes them as if it
- * had made them, since Yjs deletes marks that say nothing from what others made.
+ * nothing more: Yjs may let a struct wait although all that it needs has come.
  */
 function documentOf(roots, files) {
   const doc = newDocument(roots);
   let before;
   do {
     before = vectorOf(doc);
-    doc.transact(() => files.forEach(({ form, bytes }) => APPLIED[form](doc, bytes)));
+    files.forEach(({ form, bytes }) => APPLIED[form](doc, bytes));
   } while (written(vectorOf(doc)) !== written(before));
   return doc;
 }

@@ -322,121 +322,12 @@ function deletedTypes(gc) {
   return session.settled();
 }
 
-/** What one document does, and undoes and does again by Yjs's own undo, beside another. */
-function undone(gc) {
-  const roots = { [ROOT]: 'text', list: 'array', map: 'map', tree: 'fragment' };
-  const session = new Session('undone', roots, [111, 112], gc);
-  const [doc, other] = session.documents;
-  const types = [doc.getText(ROOT), doc.getArray('list'), doc.getMap('map')];
-  const undo = new Y.UndoManager([...types, doc.getXmlFragment('tree')], { captureTimeout: 0 });
-  const edits = [
-    insert(0, `some words ${SMILE}`),
-    () => doc.getText(ROOT).format(0, 4, { bold: true }),
-    remove(5, 5),
-    () => doc.getMap('map').set('k', 1),
-    () => doc.getMap('map').set('k', new Y.Map([['in', 'side']])),
-    () => doc.getArray('list').insert(0, [1, new Y.Text('deep'), 'x']),
-    () => doc.getArray('list').delete(1, 2),
-    () => doc.getXmlFragment('tree').insert(0, [new Y.XmlElement('p'), new Y.XmlText('in it')]),
-    () => doc.getXmlFragment('tree').get(0).setAttribute('class', 'wide'),
-  ];
-  edits.forEach((edit, at) => {
-    session.edit(0, edit);
-    if (at % 3 === 2) {
-      session.settle();
-      session.edit(1, insert(other.getText(ROOT).length, `+${at}`));
-      session.edit(1, () => other.getMap('map').set(`of-${at}`, at));
-    }
-  });
-  for (const step of ['undo', 'undo', 'redo', 'undo', 'undo', 'undo', 'redo', 'undo', 'undo']) {
-    undo[step]();
-    session.bring(0, 1);
-  }
-  undo.destroy();
-  return session.settled();
-}
-
-/** A new value for a list or under a key, which may be a type. */
-function anyValue(chance) {
-  const values = [
-    () => chance.below(1000) - 500,
-    () => chance.pick(WORDS),
-    () => ({ b: [true, null], a: chance.below(9) }),
-    () => new Uint8Array([chance.below(256), 255]),
-    () => new Y.Map([['k', chance.below(9)]]),
-    () => Y.Array.from([chance.below(9), 'in']),
-    () => new Y.Text(chance.pick(WORDS)),
-    () => new Y.XmlElement(chance.pick(['p', 'li'])),
-    () => new Y.XmlText(chance.pick(WORDS)),
-  ];
-  return chance.pick(values)();
-}
-
-/** A new child for an element. */
-function anyChild(chance) {
-  const name = chance.pick(['p', 'li']);
-  return chance.below(2) === 0 ? new Y.XmlElement(name) : new Y.XmlText(chance.pick(WORDS));
-}
-
-/** All live types of a document, the roots first, each after the one that it lies in. */
-function typesOf(type) {
-  const inMap = [...type._map.values()].filter((item) => !item.deleted);
-  const inList = [];
-  for (let item = type._start; item !== null; item = item.right) {
-    inList.push(item);
-  }
-  const held = [...inMap, ...inList.filter((item) => !item.deleted)];
-  const inner = held.filter(({ content }) => content instanceof Y.ContentType);
-  return [type, ...inner.flatMap(({ content }) => typesOf(content.type))];
-}
-
-/** Changes a type by chance, as its kind allows. */
-function changeType(chance, type) {
-  const index = type.length === undefined ? 0 : chance.below(type.length + 1);
-  const isRemoving = chance.below(4) === 0 && index < type.length;
-  if (type instanceof Y.Map) {
-    const key = chance.pick(['a', 'b', 'é', '']);
-    return chance.below(4) === 0 ? type.delete(key) : type.set(key, anyValue(chance));
-  }
-  if (type instanceof Y.XmlElement && chance.below(3) === 0) {
-    return type.setAttribute(chance.pick(['id', 'class']), `${chance.below(9)}`);
-  }
-  if (type instanceof Y.Text) {
-    const at = wholeIndex(type, index);
-    return chance.below(3) === 0 && at < type.length
-      ? type.format(at, wholeIndex(type, type.length) - at, { bold: chance.pick([true, null]) })
-      : type.insert(at, chance.pick(WORDS), chance.below(2) === 0 ? {} : { size: chance.below(3) });
-  }
-  if (isRemoving) {
-    return type.delete(index, 1);
-  }
-  const isTree = type instanceof Y.XmlFragment;
-  return type.insert(index, [isTree ? anyChild(chance) : anyValue(chance)]);
-}
-
-/** Types inside one another, made and changed by chance in several documents. */
-function nesting(gc) {
-  const roots = { list: 'array', map: 'map', tree: 'fragment' };
-  const session = new Session('nesting', roots, [121, 123, 122], gc);
-  const { chance } = session;
-  for (let step = 0; step < 45; step += 1) {
-    session.edit(step % 3, (doc) => {
-      const types = Object.keys(roots).flatMap((root) => typesOf(doc.get(root)));
-      changeType(chance, chance.pick(types));
-    });
-    if (step % 4 === 3) {
-      session.bring(step % 3, (step + 1 + chance.below(2)) % 3);
-    }
-  }
-  return session.settled();
-}
-
 /** All sessions of documents that collect, or of such that do not. */
 function sessionsWith(gc) {
   const ofTexts = [oneString, typing, samePlace, interleaving, endsOfText, deletions];
   const ofUnits = [pairs, lonelyHalves, longTexts];
   const ofSyncs = [partialSyncs, lostUpdates, severalRoots];
-  const ofContents = [formatting, listsAndMaps, elements, deletedTypes, undone, nesting];
+  const ofContents = [formatting, listsAndMaps, elements, deletedTypes];
   const made = [...ofTexts, ...ofUnits, ...ofSyncs, ...ofContents].map((session) => session(gc));
   return [...made, ...[2, 3, 4].map((count) => byChance(gc, count))];
 }

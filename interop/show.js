@@ -1,27 +1,15 @@
 'use strict';
 
-// The cases of `ydoc show`: it prints what Yjs has in a root once it took the same files.
+// The cases of `ydoc show --text`: it prints the text that Yjs has once it took the same files.
 
 const assert = require('node:assert');
 const { FORMS, fileOf, mergeOf, mixedFiles, stateOf } = require('./files.js');
 const { documentOf } = require('./reading.js');
 const { isWaiting } = require('./session.js');
-const { MODES } = require('./shown.js');
 
-/** The modes in which a root of each kind is shown, besides as text. */
-const OTHER_MODES = { text: ['--delta'], array: ['--array'], map: ['--map'], fragment: ['--tree'] };
-
-/** What Yjs has of a root in a mode once it has taken the files. */
-function shownOf(session, [mode, root], files) {
-  return MODES[mode](documentOf(session.roots, files), root);
-}
-
-/** The texts of a session, and all its roots in the other modes. */
-function readingsOf(session) {
-  const others = Object.entries(session.roots).flatMap(([root, kind]) =>
-    OTHER_MODES[kind].map((mode) => [mode, root]),
-  );
-  return { texts: session.texts().map((root) => ['--text', root]), others };
+/** The text that Yjs has in a root once it has taken the files. */
+function textOf(session, root, files) {
+  return documentOf(session.roots, files).getText(root).toString();
 }
 
 /** The ways in which all updates of a session are handed in. */
@@ -59,12 +47,11 @@ function waitingPart(session) {
 }
 
 /** The case that ydoc shows of these files what Yjs shows of them. */
-function showCase(session, name, reading, files) {
-  const [mode, root] = reading;
-  const output = `${shownOf(session, reading, files)}\n`;
+function showCase(session, name, root, files) {
+  const output = `${textOf(session, root, files)}\n`;
   return {
-    name: `${session.name}.show${mode}.${name}`,
-    words: ['show', mode, root],
+    name: `${session.name}.show.${name}`,
+    words: ['show', '--text', root],
     files,
     output,
     judge({ how, status, compared }) {
@@ -77,30 +64,20 @@ function showCase(session, name, reading, files) {
   };
 }
 
-/**
- * The cases of a session: each way of handing in updates is tried on one of its texts in turn, and on
- * one of its roots in another mode.
- */
+/** The cases of a session: each way of handing in updates is tried on one of its texts in turn. */
 function showCases(session) {
-  const { texts, others } = readingsOf(session);
+  const texts = session.texts();
   const ways = wholes(session);
-  // Marks that the documents of the session deleted of their own are in none of its updates.
-  const settled = [...texts, ...others].filter(([mode]) => mode !== '--delta');
-  for (const [name, files] of Object.entries(ways)) {
-    for (const [mode, root] of settled) {
-      const wanted = MODES[mode](session.documents[0], root);
-      assert.equal(shownOf(session, [mode, root], files), wanted, `${session.name}: ${name}`);
-    }
+  for (const [name, root] of Object.keys(ways).flatMap((way) => texts.map((text) => [way, text]))) {
+    const settled = session.documents[0].getText(root).toString();
+    assert.equal(textOf(session, root, ways[name]), settled, `${session.name}: ${name}`);
   }
   if (session.updates.length > 1) {
     ways['waiting-1'] = waitingPart(session);
     ways['waiting-2'] = waitingPart(session);
   }
-  return [texts, others].filter((turns) => turns.length > 0).flatMap((turns) =>
-    Object.entries(ways).map(([name, files], at) =>
-      showCase(session, name, turns[at % turns.length], files),
-    ),
-  );
+  const turns = texts.length === 0 ? [] : Object.entries(ways);
+  return turns.map(([name, files], at) => showCase(session, name, texts[at % texts.length], files));
 }
 
 module.exports = { showCases };
