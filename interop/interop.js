@@ -8,6 +8,7 @@ const os = require('node:os');
 const path = require('node:path');
 const { parseArgs } = require('node:util');
 const { convertCases } = require('./convert.js');
+const { editCases } = require('./edit.js');
 const { mergeCases } = require('./merge.js');
 const { answersOf } = require('./program.js');
 const { sessions } = require('./sessions.js');
@@ -15,7 +16,7 @@ const { showCases } = require('./show.js');
 
 /** The cases whose names have the word. */
 function casesWith(word) {
-  const made = [convertCases, showCases, mergeCases];
+  const made = [convertCases, showCases, mergeCases, editCases];
   const all = sessions().flatMap((session) => made.flatMap((cases) => cases(session)));
   const cases = all.filter(({ name }) => name.includes(word));
   if (cases.length === 0) {
@@ -32,9 +33,10 @@ function tell({ name, words, files }, { lines }, { expected, came }) {
   console.log(`  came: ${[came, ...lines].join('\n  | ')}`);
 }
 
-/** Runs the cases, tells each that failed, and gives how many these are. */
-async function failures(cases, folder, builds) {
+/** Runs the cases, tells each that failed, and gives how many these are, and those that follow. */
+async function played(cases, folder, builds) {
   const answers = await answersOf(cases, folder, builds);
+  const follow = [];
   let failed = 0;
   for (const asked of cases) {
     const answer = answers.get(asked.name);
@@ -42,9 +44,19 @@ async function failures(cases, folder, builds) {
     if (wrong !== null) {
       tell(asked, answer, wrong);
       failed += 1;
+    } else if (asked.next !== undefined) {
+      follow.push(asked.next(answer));
     }
   }
-  return failed;
+  return { failed, follow };
+}
+
+/** Runs the cases, then those that follow from what came, and gives how many these were and failed. */
+async function allPlayed(cases, folder, builds) {
+  const first = await played(cases, path.join(folder, 'first'), builds);
+  const { follow } = first;
+  const then = follow.length > 0 ? await played(follow, path.join(folder, 'then'), builds) : null;
+  return [cases.length + follow.length, first.failed + (then?.failed ?? 0)];
 }
 
 async function main() {
@@ -53,12 +65,12 @@ async function main() {
   const { values, positionals } = parseArgs({ options: { builds }, allowPositionals: true });
   const cases = casesWith(positionals[0] ?? '');
   const folder = fs.mkdtempSync(path.join(os.tmpdir(), 'interop-'));
-  const failed = await failures(cases, folder, Number(values.builds));
+  const [count, failed] = await allPlayed(cases, folder, Number(values.builds));
   if (failed === 0) {
     fs.rmSync(folder, { recursive: true });
-    console.log(`interop: ok, ${cases.length} cases`);
+    console.log(`interop: ok, ${count} cases`);
   } else {
-    console.log(`interop: ${failed} of ${cases.length} cases failed; their files are in ${folder}`);
+    console.log(`interop: ${failed} of ${count} cases failed; their files are in ${folder}`);
     process.exitCode = 1;
   }
 }

@@ -77,14 +77,15 @@ function holdings(doc, roots) {
 
 /**
  * A document with these roots that has taken the files, one after another, and again until it takes
- * nothing more: Yjs may let a struct wait although all that it needs has come.
+ * nothing more: Yjs may let a struct wait although all that it needs has come. One transaction of its
+ * own takes them, since in others Yjs deletes marks that say nothing so far.
  */
 function documentOf(roots, files) {
   const doc = newDocument(roots);
   let before;
   do {
     before = vectorOf(doc);
-    files.forEach(({ form, bytes }) => APPLIED[form](doc, bytes));
+    doc.transact(() => files.forEach(({ form, bytes }) => APPLIED[form](doc, bytes)));
   } while (written(vectorOf(doc)) !== written(before));
   return doc;
 }

@@ -1,15 +1,20 @@
 'use strict';
 
-// The cases of `ydoc show --text`: it prints the text that Yjs has once it took the same files.
+// The cases of `ydoc show`: it prints what Yjs shows once it took the same files, in each mode.
 
 const assert = require('node:assert');
 const { FORMS, fileOf, mergeOf, mixedFiles, stateOf } = require('./files.js');
 const { documentOf } = require('./reading.js');
 const { isWaiting } = require('./session.js');
+const { MODES } = require('./shown.js');
 
-/** The text that Yjs has in a root once it has taken the files. */
-function textOf(session, root, files) {
-  return documentOf(session.roots, files).getText(root).toString();
+/** The modes in which a root is shown. Yjs tells texts apart from other roots. */
+const MODES_OF = (kind) =>
+  Object.keys(MODES).filter((mode) => kind === 'text' || !['--text', '--delta'].includes(mode));
+
+/** What Yjs shows of a root in a mode once it has taken the files. */
+function shownOf(session, mode, root, files) {
+  return MODES[mode](documentOf(session.roots, files), root);
 }
 
 /** The ways in which all updates of a session are handed in. */
@@ -47,11 +52,11 @@ function waitingPart(session) {
 }
 
 /** The case that ydoc shows of these files what Yjs shows of them. */
-function showCase(session, name, root, files) {
-  const output = `${textOf(session, root, files)}\n`;
+function showCase(session, name, [mode, root], files) {
+  const output = `${shownOf(session, mode, root, files)}\n`;
   return {
-    name: `${session.name}.show.${name}`,
-    words: ['show', '--text', root],
+    name: `${session.name}.show${mode}.${name}`,
+    words: ['show', mode, root],
     files,
     output,
     judge({ how, status, compared }) {
@@ -64,20 +69,32 @@ function showCase(session, name, root, files) {
   };
 }
 
-/** The cases of a session: each way of handing in updates is tried on one of its texts in turn. */
+/** The roots of a session, each in each of its modes: all texts as texts come first. */
+function viewsOf({ roots }) {
+  const views = Object.keys(roots).flatMap((root) =>
+    MODES_OF(roots[root]).map((mode) => [mode, root]),
+  );
+  return views.sort(([one], [other]) => (other === '--text') - (one === '--text'));
+}
+
+/** The cases of a session: each way of handing in updates is tried on one view in turn. */
 function showCases(session) {
-  const texts = session.texts();
+  const views = viewsOf(session);
   const ways = wholes(session);
-  for (const [name, root] of Object.keys(ways).flatMap((way) => texts.map((text) => [way, text]))) {
-    const settled = session.documents[0].getText(root).toString();
-    assert.equal(textOf(session, root, ways[name]), settled, `${session.name}: ${name}`);
+  for (const [name, files] of Object.entries(ways)) {
+    // A delta aside: a document that takes marks of others deletes some that say nothing to it.
+    for (const [mode, root] of views.filter(([each]) => each !== '--delta')) {
+      const settled = MODES[mode](session.documents[0], root);
+      assert.equal(shownOf(session, mode, root, files), settled, `${session.name}: ${name}`);
+    }
   }
   if (session.updates.length > 1) {
     ways['waiting-1'] = waitingPart(session);
     ways['waiting-2'] = waitingPart(session);
   }
-  const turns = texts.length === 0 ? [] : Object.entries(ways);
-  return turns.map(([name, files], at) => showCase(session, name, texts[at % texts.length], files));
+  return Object.entries(ways).map(([name, files], at) =>
+    showCase(session, name, views[at % views.length], files),
+  );
 }
 
-module.exports = { showCases };
+module.exports = { showCase, showCases };

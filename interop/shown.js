@@ -55,6 +55,17 @@ function byKey(entries) {
   );
 }
 
+/** A JSON value: the keys of its objects stand in the order of their bytes. */
+function jsonOf(value) {
+  if (Array.isArray(value)) {
+    return value.map(jsonOf);
+  }
+  if (value !== null && typeof value === 'object') {
+    return byKey(Object.entries(value).map(([key, each]) => [key, jsonOf(each)]));
+  }
+  return plain(value);
+}
+
 /** A nested type by its kind, with at most so many types inside it. */
 function typeOf(type, most) {
   if (most === 0) {
@@ -77,15 +88,19 @@ function typeOf(type, most) {
   }
 }
 
-/** A value, which may be a type. */
-function valueOf(value, most) {
-  return value instanceof Y.AbstractType ? typeOf(value, most) : plain(value);
+/** The values of a content. Those of type `ContentAny` have their keys as they were written. */
+function valuesOf(content, most) {
+  if (content instanceof Y.ContentType) {
+    return [typeOf(content.type, most)];
+  }
+  const isJson = content instanceof Y.ContentEmbed || content instanceof Y.ContentJSON;
+  return content.getContent().map(isJson ? jsonOf : plain);
 }
 
 /** The map of a type: what stands last under each key, where it is live and counted. */
 function mapOf(type, most) {
   const live = [...type._map].filter(([, item]) => !item.deleted && item.countable);
-  return byKey(live.map(([key, item]) => [key, valueOf(item.content.getContent().at(-1), most)]));
+  return byKey(live.map(([key, { content }]) => [key, valuesOf(content, most).at(-1)]));
 }
 
 /** The values of a type's list, with neighbouring text as one string. */
@@ -102,7 +117,7 @@ function listOf(type, most) {
     } else if (isText) {
       values.push(item.content.str);
     } else {
-      values.push(...item.content.getContent().map((value) => valueOf(value, most)));
+      values.push(...valuesOf(item.content, most));
     }
     wasText = isText;
   }
@@ -113,14 +128,15 @@ function listOf(type, most) {
 function deltaOf(type, most) {
   const pieces = [];
   for (const { insert, attributes = {} } of Y.Text.prototype.toDelta.call(type)) {
-    const under = byKey(Object.entries(attributes).map(([key, value]) => [key, plain(value)]));
+    const under = byKey(Object.entries(attributes).map(([key, value]) => [key, jsonOf(value)]));
     const is = JSON.stringify(under);
     const last = pieces.at(-1);
     if (typeof insert === 'string' && last !== undefined && last.isText && last.is === is) {
       last.insert += insert;
     } else {
       const isText = typeof insert === 'string';
-      pieces.push({ is, isText, under, insert: isText ? insert : valueOf(insert, most) });
+      const isType = insert instanceof Y.AbstractType;
+      pieces.push({ is, isText, under, insert: isType ? typeOf(insert, most) : jsonOf(insert) });
     }
   }
   return pieces.map(({ is, under, insert }) =>

@@ -1,0 +1,120 @@
+'use strict';
+
+// The cases of `ydoc edit`: Yjs shows of the update that ydoc makes by a script what it shows of its
+// own calls, and ydoc shows the same of it.
+
+const { difference, updateIn } = require('./convert.js');
+const { mixedFiles, stateOf } = require('./files.js');
+const { documentOf } = require('./reading.js');
+const { showCase } = require('./show.js');
+const { MODES } = require('./shown.js');
+
+/** How many lines a script has. */
+const LINES = 6;
+
+/** A client that no session has. */
+const NEW_CLIENT = 4000;
+
+const WORDS = ['a', 'bc ', 'жук', '\n', '\u{1f642}', 'def\u{1f642}'];
+const KEYS = ['bold', 'link', 'size'];
+const VALUES = [true, null, 7, { to: 'x', at: [1, null] }, 'wide'];
+const EMBEDS = [{ image: 'x.png' }, { formula: 'a', size: 2 }];
+
+/** What each line of a script is in Yjs. */
+const PLAYED = {
+  insert: (text, index, words) => text.insert(index, words),
+  embed: (text, index, value) => text.insertEmbed(index, value, attributesBehind(text, index)),
+  delete: (text, index, length) => text.delete(index, length),
+  format: (text, index, length, key, value) => text.format(index, length, { [key]: value }),
+};
+
+/** The units of a text that are counted, each with its attributes: an embed is one. */
+function unitsOf(text) {
+  return text.toDelta().flatMap(({ insert, attributes = {} }) => {
+    const units = typeof insert === 'string' ? insert.split('') : [''];
+    return units.map((unit) => ({ unit, attributes }));
+  });
+}
+
+/** The attributes of what is put at an index: those of the unit before it. Yjs gives an embed none. */
+function attributesBehind(text, index) {
+  return index === 0 ? {} : { ...unitsOf(text)[index - 1].attributes };
+}
+
+/**
+ * The indexes at which no half of a character stands, nor what is shown for one: whether two halves
+ * stand side by side is no question of edits.
+ */
+function placesOf(text) {
+  const units = unitsOf(text);
+  const isWhole = (at) => !/[\ud800-\udfff\ufffd]/.test(units[at]?.unit ?? '');
+  return [...units.keys(), units.length].filter((at) => isWhole(at - 1) && isWhole(at));
+}
+
+/** A line by chance that is right for the text as it is. A range spans few of its places. */
+function lineFor(chance, root, text) {
+  const places = placesOf(text);
+  const index = chance.pick(places);
+  const ends = places.filter((at) => at > index).slice(0, 8);
+  const kind = chance.pick(ends.length > 0 ? Object.keys(PLAYED) : ['insert', 'embed']);
+  switch (kind) {
+    case 'insert':
+      return [kind, root, index, chance.pick(WORDS)];
+    case 'embed':
+      return [kind, root, index, chance.pick(EMBEDS)];
+    case 'delete':
+      return [kind, root, index, chance.pick(ends) - index];
+    default:
+      return [kind, root, index, chance.pick(ends) - index, chance.pick(KEYS), chance.pick(VALUES)];
+  }
+}
+
+/** A script by chance, and what Yjs shows once its own calls did the same as this client. */
+function played(session, root, files, client) {
+  const doc = documentOf(session.roots, files);
+  doc.clientID = client;
+  const text = doc.getText(root);
+  const script = Array.from({ length: LINES }, () => {
+    const line = lineFor(session.chance, root, text);
+    const [kind, , ...rest] = line;
+    PLAYED[kind](text, ...rest);
+    return `${JSON.stringify(line)}\n`;
+  });
+  return { script: Buffer.from(script.join('')), shown: MODES['--delta'](doc, root) };
+}
+
+/** The case that ydoc makes an update by a script, as this client, on what the files hold. */
+function editCase(session, name, root, files, client) {
+  const { script, shown } = played(session, root, files, client);
+  const full = `${session.name}.edit.${name}`;
+  const made = (output) => ({ name: `${full}.v1`, form: 'v1', bytes: updateIn(output, 'v1') });
+  return {
+    name: full,
+    words: ['edit', `${client}`],
+    files: [{ name: `${full}.script`, bytes: script }, ...files],
+    judge({ how, status, output }) {
+      if (how !== 'ended' || status !== 0) {
+        return { expected: 'ended, status 0', came: `${how}, status ${status}` };
+      }
+      const { bytes } = made(output);
+      if (bytes === undefined) {
+        return { expected: 'an update in v1', came: output.toString('hex') };
+      }
+      const taken = documentOf(session.roots, [...files, made(output)]);
+      return difference('delta', shown, MODES['--delta'](taken, root));
+    },
+    next: ({ output }) => showCase(session, name, ['--delta', root], [...files, made(output)]),
+  };
+}
+
+/** The cases of a session: a script of a new client, and one of a client that has written. */
+function editCases(session) {
+  const { chance, documents, updates } = session;
+  const states = mixedFiles(session, documents.map((doc, at) => stateOf(`state-${at + 1}`, doc)));
+  return session.texts().flatMap((root, at) => [
+    editCase(session, `new-${at}`, root, mixedFiles(session, chance.shuffled(updates)), NEW_CLIENT),
+    editCase(session, `known-${at}`, root, states, documents[0].clientID),
+  ]);
+}
+
+module.exports = { editCases };
