@@ -32,7 +32,7 @@ put_after news l front back f = ap₂ (λ xs ys. xs ++ (news ++ ys)) (up_to_unit
 -- ---- directly before a unit
 
 -- what stands last, or nothing does
-last_view : (os : List Operation) → (os ≡ []) ⊎ ((front : List Operation) × (l : Operation) × (os ≡ front ++ l ∷ []))
+pub last_view : (os : List Operation) → (os ≡ []) ⊎ ((front : List Operation) × (l : Operation) × (os ≡ front ++ l ∷ []))
 last_view [] = inl refl
 last_view (o ∷ os) = elim (last_view os) [
   | inl e ↦ inr ([], o, ap (λ ps. o ∷ ps) e)

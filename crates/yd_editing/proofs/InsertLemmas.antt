@@ -32,7 +32,7 @@ use Rattle.yd_editing.proofs.OwnListLemmas.{is_shown_by, taken, is_held, counted
 
 -- ---- the units of a run
 
-contents_from : (units : List UnitContent) (id : Id) (left right : Option Id) (list : Option DocList) →
+pub contents_from : (units : List UnitContent) (id : Id) (left right : Option Id) (list : Option DocList) →
     map (λ (o : Operation). o.content) (operations_from id left right list units) ≡ units
 contents_from [] id left right list = refl
 contents_from (unit ∷ units) id left right list = ap (λ us. unit ∷ us) (contents_from units (later_id id 1) (Some id) right None)

@@ -1,12 +1,14 @@
 pub mod AroundLemmas
 pub mod DeleteLemmas
 pub mod DeletingLemmas
+pub mod EditedListLemmas
 pub mod FormatLemmas
 pub mod FormattingLemmas
 pub mod FreshLemmas
 pub mod IndexLemmas
 pub mod InsertLemmas
 pub mod LiveLemmas
+pub mod MapLemmas
 pub mod NamedLemmas
 pub mod OrderLemmas
 pub mod OwnListLemmas

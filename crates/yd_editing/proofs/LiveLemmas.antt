@@ -5,6 +5,7 @@ use Rattle.yd_words.specs.Test.{is_some_and}
 use Rattle.yd_words.specs.Member.{IsIn}
 use Rattle.yd_ids.specs.declared.id.Id.{Id}
 use Rattle.yd_ids.specs.Ids.{is_same_neighbour}
+use Rattle.yd_ids.proofs.IdLemmas.{same_itself}
 use Rattle.yd_ops.specs.declared.lists.List.{List as DocList}
 use Rattle.yd_ops.specs.Operation.{Operation}
 use Rattle.yd_origins.specs.Deleted.{last_of}
@@ -37,9 +38,8 @@ is_deleted_at held is named x e =
     not_lost : is_lost held x ≡ false
     not_lost = rw (held_id held is x e, e) refl
 
--- of a list without a key, in what is live, just what is named is deleted
-module _ (held : List Operation) (is : IsHonestHeld held) (named : Id → Bool) (name : DocList) (no_key : has_key name ≡ false)
-    (live : is_some_and (is_deleted held named) (item_of_list name) ≡ false) (o : Operation) (i : IsIn o (units_of held name)) where
+-- of a list, in what is live or not
+module _ (held : List Operation) (is : IsHonestHeld held) (named : Id → Bool) (name : DocList) (o : Operation) (i : IsIn o (units_of held name)) where
   in_order : IsIn o.id (order_of (standing held) name)
   in_order = subst (λ ids. IsIn o.id ids) (unit_ids held is name) (id_in_map (units_of held name) o i)
 
@@ -49,18 +49,30 @@ module _ (held : List Operation) (is : IsHonestHeld held) (named : Id → Bool) 
   of_list : list_of (standing held) o.id ≡ name
   of_list = ((in_list held is name o.id).0 in_order).1
 
+  -- what is named, overwritten, or of a deleted parent is deleted, as the document has it
+  pub unit_deleted : (document_with held named).deleted o.id ≡ (named o.id
+      || ((has_key name && not (is_same_neighbour (last_of (order_of (standing held) name)) (Some o.id))) || is_some_and (is_deleted held named) (item_of_list name)))
+  unit_deleted = ap (λ t. t && is_deleted held named o.id) (held_id held is o.id there)
+      ∙ is_deleted_at held is named o.id there
+      ∙ ap (λ list. named o.id || (is_overwritten (standing held) list o.id || is_some_and (is_deleted held named) (item_of_list list))) of_list
+
   or_false : (t : Bool) → t || false ≡ t
   or_false true = refl
   or_false false = refl
 
-  own_deleted : is_deleted held named o.id ≡ named o.id
-  own_deleted = is_deleted_at held is named o.id there
-      ∙ ap (λ list. named o.id || (is_overwritten (standing held) list o.id || is_some_and (is_deleted held named) (item_of_list list))) of_list
-      ∙ rw (no_key, live) (or_false (named o.id))
+  -- in what is live, just what is named is deleted of a list without a key
+  pub own_live : has_key name ≡ false → is_some_and (is_deleted held named) (item_of_list name) ≡ false → (document_with held named).deleted o.id ≡ named o.id
+  own_live no_key live = unit_deleted ∙ rw (no_key, live) (or_false (named o.id))
 
-  -- as the document has it
-  pub own_live : (document_with held named).deleted o.id ≡ named o.id
-  own_live = ap (λ t. t && is_deleted held named o.id) (held_id held is o.id there) ∙ own_deleted
+  -- and of what stands last in a list
+  pub last_live : last_of (order_of (standing held) name) ≡ Some o.id → is_some_and (is_deleted held named) (item_of_list name) ≡ false →
+      (document_with held named).deleted o.id ≡ named o.id
+  last_live last live = unit_deleted
+      ∙ rw (last, live, same_itself o.id) (not_overwritten (has_key name))
+    where
+      not_overwritten : (t : Bool) → (named o.id || ((t && false) || false)) ≡ named o.id
+      not_overwritten true = or_false (named o.id)
+      not_overwritten false = or_false (named o.id)
 
 module _ (held news : List Operation) (evolved : DocList → List Operation) (is : IsHonestHeld held) (t : StandAfter held news evolved) (name : DocList)
     (others : (other : DocList) → other ≢ name → order_of (standing (all_taken news held)) other ≡ order_of (standing held) other) (named after : Id → Bool)

@@ -1,6 +1,7 @@
 //! The laws of edits, each the contract of an empty function.
 
 ghost use Rattle.yd_editing.specs.TextLaw.{QuietTextsStay, InsertsStand, DeletesStand, FormatsStand};
+ghost use Rattle.yd_editing.specs.MapLaw.{SetsStand, UnsetsStand};
 ghost use Rattle.yd_editing.specs.Law.{MadeUnitsStand, MadeRunsStand, StepsStand, RemovalsTell, EditsAreTaken, EditsAreHeld, EditsAreValid, EditsDelete};
 
 /// An operation that is made between two neighbours keeps an honest held set honest, and moves no
@@ -65,4 +66,14 @@ pub fn deletes_stand()
 /// before.
 pub fn formats_stand()
     ensures { FormatsStand }
+{}
+
+/// After a content is set under a key it stands there, and all else is as before.
+pub fn sets_stand()
+    ensures { SetsStand }
+{}
+
+/// After what stands under a key is removed the key has no value, and all else is as before.
+pub fn unsets_stand()
+    ensures { UnsetsStand }
 {}
