@@ -1,6 +1,6 @@
 -- What a fault says of the first refusal.
 use Rattle.std.proofs.Common.{◌≡◌, Option, Some, None, refl, sym, subst}
-use Rattle.yd_editing.specs.Step.{Refusal, no_place, not_held, clock_full, inside_pair, own_waiting, past_end}
+use Rattle.yd_editing.specs.Step.{Refusal, no_place, not_held, clock_full, inside_pair, own_waiting, past_end, no_key}
 use Rattle.yd_making.specs.declared.fault.EditFault.{EditFault}
 use Rattle.yd_making.specs.Steps.{fault_of, fault_given, IsCause}
 
@@ -11,6 +11,7 @@ cause_of (clock_full clock) = refl
 cause_of (inside_pair place) = refl
 cause_of (own_waiting clock) = refl
 cause_of (past_end length) = refl
+cause_of no_key = refl
 
 one_fault : (a b : EditFault) → ◌≡◌ {A = Option EditFault} (Some a) (Some b) → a ≡ b
 one_fault a b e = cc

@@ -7,7 +7,7 @@ use Rattle.yd_ops.specs.Value.{len_of}
 use Rattle.yd_ops.specs.Valid.{IsValidContent, IsParent}
 use Rattle.yd_ops.specs.View.{content_value}
 use Rattle.yd_editing.specs.Law.{IsMakeable}
-use Rattle.yd_editing.specs.Step.{Step, make, remove, Refusal, no_place, not_held, clock_full, inside_pair, own_waiting, past_end}
+use Rattle.yd_editing.specs.Step.{Step, make, remove, Refusal, no_place, not_held, clock_full, inside_pair, own_waiting, past_end, no_key}
 use Rattle.yd_making.specs.declared.step.Step.{Step as StepGiven}
 use Rattle.yd_making.specs.declared.step.Step.TheVariants.{Make, Remove}
 use Rattle.yd_making.specs.declared.fault.EditFault.{EditFault}
@@ -49,6 +49,7 @@ fault_of (clock_full clock) = ClockFull clock
 fault_of (inside_pair place) = InsidePair place
 fault_of (own_waiting clock) = OwnWaiting clock
 fault_of (past_end length) = PastEnd length
+fault_of no_key = NoKey
 
 -- the fault of the first refusal, where there is one
 abbrev pub fault_given : Option Refusal → Option EditFault
@@ -64,7 +65,7 @@ IsCause (ClockFull clock) refusal = refusal ≡ Some (clock_full clock)
 IsCause (InsidePair place) refusal = refusal ≡ Some (inside_pair place)
 IsCause (OwnWaiting clock) refusal = refusal ≡ Some (own_waiting clock)
 IsCause (PastEnd length) refusal = refusal ≡ Some (past_end length)
-IsCause NoKey refusal = ⊥
+IsCause NoKey refusal = refusal ≡ Some no_key
 IsCause Nothing refusal = ⊥
 
 -- of a step, where so much of the own client waits

@@ -16,11 +16,13 @@ use Rattle.yd_ops.specs.View.{content_value, unit_value}
 use Rattle.yd_meaning.specs.Document.{Document}
 use Rattle.yd_state.specs.declared.listing.RunView.{RunView}
 use Rattle.yd_state.specs.Lent.{Lent, lent, lent_from, lent_units, units_of_view, IsWithin}
+use Rattle.yd_doc.specs.Last.{unit_of_view}
+use Rattle.yd_doc.proofs.LastLemmas.{IsLast, last_is_lent, none_lent, view_one, unit_got}
 use Rattle.yd_shown.specs.Shown.{is_counted, last_unit, if_shown, value_under, key_list, shown_type, value_within}
 use Rattle.yd_modes.specs.declared.gathering.Gathering.{Gathering}
 use Rattle.yd_modes.specs.declared.way.Way.{Way}
 use Rattle.yd_modes.specs.declared.way.Way.TheVariants.{Delta, Values}
-use Rattle.yd_modes.specs.Roles.{role_of, is_value, bare, live_lent, are_counted, is_nested, unit_of_view}
+use Rattle.yd_modes.specs.Roles.{role_of, is_value, bare, live_lent, are_counted, is_nested}
 use Rattle.yd_modes.specs.Gathering.{gathered, live, Gathers}
 use Rattle.yd_ops.proofs.OperationLemmas.{length-units_of_content}
 
@@ -113,19 +115,6 @@ counted_at (Nested kind) n u e = counted_one _ u n e
 counted_at (Any values) n u e = counted_trees (any_trees values) n u e
 counted_at (Deleted count) n u e = counted_deleted count n u e
 
--- the last unit that is lent is that of the last operation
-abbrev pub IsLast : Document → List Operation → Lent → Type 0
-IsLast d os u = (o : Operation) × (last_unit os ≡ Some o) × (lent d.deleted o ≡ u)
-
-pub last_lent : (d : Document) (os : List Operation) (front : List Lent) (u : Lent) → map (lent d.deleted) os ≡ front ++ u ∷ [] → IsLast d os u
-last_lent d [] [] u e = absurd cc
-last_lent d [] (x ∷ front) u e = absurd cc
-last_lent d (o ∷ []) [] u e = (o, refl, cc)
-last_lent d (o ∷ []) (x ∷ []) u e = absurd cc
-last_lent d (o ∷ []) (x ∷ y ∷ front) u e = absurd cc
-last_lent d (o ∷ p ∷ os) [] u e = absurd cc
-last_lent d (o ∷ p ∷ os) (x ∷ front) u e = last_lent d (p ∷ os) front u cc
-
 -- what stands under a key whose last unit is lent so
 pub under_last : (show : Operation → AnyTree) (d : Document) (p : Parent) (key : List ℕ) (u : Lent) → IsLast d (d.units (key_list p key)) u →
     ((o : Operation) → show (bare o.id o.content) ≡ show o) →
@@ -142,28 +131,7 @@ under_last show d p key u (o, last, same) alike =
 
 -- nothing stands under a key without units
 pub under_none : (show : Operation → AnyTree) (d : Document) (p : Parent) (key : List ℕ) → lent_units d (key_list p key) ≡ [] → None ≡ value_under show d p key
-under_none show d p key e = sym (ap (λ os. option_map show (if_shown d.deleted (last_unit os))) (no_unit (d.units (key_list p key)) e))
-  where
-    no_unit : (os : List Operation) → map (lent d.deleted) os ≡ [] → os ≡ []
-    no_unit [] f = refl
-    no_unit (o ∷ os) f = absurd cc
-
-one_of_part : (us : List UnitContent) (k : ℕ) (d : UnitContent) → k < length us → take 1 (drop k us) ≡ get_or us k d ∷ []
-one_of_part [] k d less = absurd (omega arith)
-one_of_part (u ∷ us) zero d less = refl
-one_of_part (u ∷ us) (suc k) d less = one_of_part us k d (omega arith)
-
-inside_view : (view : RunView) → IsWithin view → view.len ≡ 1 → view.offset < length (units_of_content (content_value view.content.now))
-inside_view view within one = omega (arith, within.units, one, length-units_of_content (content_value view.content.now))
-
-pub view_one : (view : RunView) → IsWithin view → view.len ≡ 1 → units_of_view view ≡ unit_of_view view ∷ []
-view_one view within one =
-    ap (λ n. lent_from view.id view.deleted (take n (drop view.offset (units_of_content (content_value view.content.now))))) one
-    ∙ ap (lent_from view.id view.deleted) (one_of_part (units_of_content (content_value view.content.now)) view.offset gone_unit (inside_view view within one))
-
--- the unit is one of the content
-pub unit_got : (view : RunView) → IsWithin view → view.len ≡ 1 → slice_get (units_of_content (content_value view.content.now)) view.offset ≡ Some (unit_of_view view).content
-unit_got view within one = slice_get-get_or (units_of_content (content_value view.content.now)) view.offset gone_unit (inside_view view within one)
+under_none show d p key e = sym (ap (λ os. option_map show (if_shown d.deleted (last_unit os))) (none_lent d (d.units (key_list p key)) e))
 
 plain_one : (v u : UnitContent) (n : ℕ) → slice_get (v ∷ []) n ≡ Some u → is_nested v ≡ false → is_nested u ≡ false
 plain_one v u zero e plain = ap is_nested (one e) ∙ plain
@@ -203,7 +171,7 @@ pub under_piece : (show : Operation → AnyTree) (d : Document) (p : Parent) (ke
     IsWithin view → view.len ≡ 1 → left ≡ lent_units d (key_list p key) → left ≡ front ++ units_of_view view →
     value_under show d p key ≡ (if not view.deleted && are_counted view.content.now then Some (show (bare view.id (unit_of_view view).content)) else None)
 under_piece show d p key view left front alike within one lends last =
-    under_last show d p key (unit_of_view view) (last_lent d (d.units (key_list p key)) front (unit_of_view view) (sym lends ∙ last ∙ ap (λ (us : List Lent). front ++ us) (view_one view within one))) alike
+    under_last show d p key (unit_of_view view) (last_is_lent d (key_list p key) view left front within one lends last) alike
     ∙ ap (λ t. if not view.deleted && t then Some (show (bare view.id (unit_of_view view).content)) else None)
     (counted_at view.content.now view.offset (unit_of_view view).content (unit_got view within one))
 

@@ -182,11 +182,7 @@ are_counted (Nested kind) = true
 are_counted (Any values) = true
 are_counted (Deleted count) = false
 
--- ---- single pieces
-
--- the one unit of a piece
-abbrev pub unit_of_view : RunView → Lent
-unit_of_view view = record { id = view.id; content = get_or (units_of_content (content_value view.content.now)) view.offset gone_unit; is_deleted = view.deleted }
+-- ---- fields
 
 -- fields in front of others
 abbrev pub joined_fields : AnyFields → AnyFields → AnyFields

@@ -41,7 +41,8 @@ impl<'a> Gathering<'a> {
     /// No unit came yet.
     pub fn new(alloc: Global) -> Gathering<'a>
         ensures pieces { (way : Ways) (show : Operation → AnyTree) (us : List Lent)
-            → gathered way show result us ≡ map told (pieces_by way show no_fields (whole_units false us)) }
+            → gathered way show result us
+            ≡ map told (pieces_by way show no_fields (whole_units false us)) }
         ensures settled { IsSettled result }
     {
         Gathering {
@@ -56,14 +57,16 @@ impl<'a> Gathering<'a> {
         }
     }
 
-    /// The attributes in force become those of the open text, before a text unit. The text before it
-    /// is a piece, where its attributes are others.
+    /// The attributes in force become those of the open text, before a text unit. The text before
+    /// it is a piece, where its attributes are others.
     pub fn open(&mut self, alloc: Global) -> Result<(), NoMemory>
         requires { IsSettled self.old }
-        ensures pieces { OnOk result ((way : Ways) (show : Operation → AnyTree) (id : Id) (unit : ℕ) (us : List Lent)
+        ensures pieces { OnOk result ((way : Ways) (show : Operation → AnyTree)
+            (id : Id) (unit : ℕ) (us : List Lent)
             → gathered way show self.new (live id (text_unit unit) ∷ us)
             ≡ gathered way show self.old (live id (text_unit unit) ∷ us)) }
-        ensures open { OnOk result (marks_fields self.new.under.items ≡ marks_fields self.new.marks.items) }
+        ensures open { OnOk result
+            (marks_fields self.new.under.items ≡ marks_fields self.new.marks.items) }
     {
         if are_same(&self.under, &self.marks) {
             return Ok(());
@@ -78,7 +81,8 @@ impl<'a> Gathering<'a> {
         requires { marks_fields self.old.under.items ≡ marks_fields self.old.marks.items }
         ensures gathers { OnOk result ((way : Ways) (show : Operation → AnyTree)
             → Gathers way show self.old self.new (live id (text_unit unit) ∷ [])) }
-        ensures open { OnOk result (marks_fields self.new.under.items ≡ marks_fields self.new.marks.items) }
+        ensures open { OnOk result
+            (marks_fields self.new.under.items ≡ marks_fields self.new.marks.items) }
     {
         self.halves.take(Seen {
             id,
@@ -97,7 +101,8 @@ impl<'a> Gathering<'a> {
 
     /// A mark comes, in a delta.
     pub fn take_mark(&mut self, id: Id, mark: Mark<'a>) -> Result<(), NoMemory>
-        ensures { OnOk result ((show : Operation → AnyTree) → Gathers Delta show self.old self.new
+        ensures { OnOk result ((show : Operation → AnyTree)
+            → Gathers Delta show self.old self.new
             (live id (mark_unit mark.entry.key.now (json_tree mark.entry.value.now)) ∷ [])) }
     {
         self.flush(id)?;

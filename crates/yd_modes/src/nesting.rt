@@ -10,7 +10,8 @@ ghost use Rattle.yd_state.specs.Lent.{units_of_view, IsWithin};
 ghost use Rattle.yd_value.specs.View.{shown_fields, shown_tree};
 ghost use Rattle.yd_modes.specs.Gathering.{made, told, Gathers, IsSettled};
 ghost use Rattle.yd_modes.specs.Modes.{shown_by};
-ghost use Rattle.yd_modes.specs.Roles.{are_counted, bare, live_lent, pieces_by, unit_of_view};
+ghost use Rattle.yd_doc.specs.Last.{unit_of_view};
+ghost use Rattle.yd_modes.specs.Roles.{are_counted, bare, live_lent, pieces_by};
 
 use crate::fault::NoMemory;
 use crate::gathering::Gathering;

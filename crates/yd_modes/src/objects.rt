@@ -19,7 +19,8 @@ pub fn element_of(
 ) -> Result<Shown, NoMemory>
     ensures { IfOk result (λ shown. shown_tree shown
         ≡ pairs (field (codes "attributes") (pairs (shown_fields attributes))
-        (field (codes "children") (shown_tree children) (field (codes "name") (str name.now) no_fields)))) }
+        (field (codes "children") (shown_tree children)
+        (field (codes "name") (str name.now) no_fields)))) }
 {
     let mut fields = ShownFields::new(alloc);
     fields.push((

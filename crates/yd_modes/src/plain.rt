@@ -17,7 +17,8 @@ use yd_ops::{Content, JsonUnit};
 use yd_units::Units;
 use yd_value::Shown;
 
-/// The value of a unit of a content, counted from 0; what has no value is undefined, and so is a type.
+/// The value of a unit of a content, counted from 0. What has no value is undefined, and so is a
+/// type.
 pub fn plain_at(alloc: Global, content: &Content, at: u64) -> Result<Shown, NoMemory>
     requires { at < len_of (content_value content.now) }
     ensures { IfOk result (λ shown. (unit : UnitContent)
@@ -58,7 +59,8 @@ fn plain_text(alloc: Global, units: &Units, at: u64) -> Result<Shown, NoMemory>
 
 /// The value of a JSON unit.
 fn plain_json(alloc: Global, unit: &JsonUnit) -> Result<Shown, NoMemory>
-    ensures { IfOk result (λ shown. shown_tree shown ≡ plain_value (json_unit (unit_value unit.now))) }
+    ensures { IfOk result (λ shown. shown_tree shown
+        ≡ plain_value (json_unit (unit_value unit.now))) }
 {
     match unit {
         JsonUnit::Undefined => Ok(Shown::Undefined),

@@ -22,10 +22,10 @@ use yd_ops::{List, Parent};
 use yd_value::Shown;
 
 /// What a parent shows in a mode, with the types that lie in it (Yjs 13, toString, toDelta and
-/// toJSON). A type inside 100 others is not shown: an object with the key `$deep` stands for it. Calls
-/// nest no deeper than these types. It goes once along the units of the lists that it shows. For each
-/// list it looks for the name among all names, and for each map among the names of all lists once
-/// more. It changes nothing, and where it finds no memory there is no value.
+/// toJSON). A type inside 100 others is not shown: an object with the key `$deep` stands for it.
+/// Calls nest no deeper than these types. It goes once along the units of the lists that it shows.
+/// For each list it looks for the name among all names, and for each map among the names of all
+/// lists once more. It changes nothing, and where it finds no memory there is no value.
 pub fn show(
     alloc: Global,
     replica: &Replica,
@@ -49,9 +49,9 @@ pub fn show(
     }
 }
 
-/// The pieces of a list as a delta: text, embeds and types, each under the attributes that the marks
-/// before it set (Yjs 13, toDelta; that neighbouring text with equal attributes is one piece is own).
-/// Any-, JSON and binary values give no piece. It takes time as [`show`] does.
+/// The pieces of a list as a delta: text, embeds and types, each under the attributes that the
+/// marks before it set (Yjs 13, toDelta; that neighbouring text with equal attributes is one piece is
+/// own). Any-, JSON and binary values give no piece. It takes time as [`show`] does.
 pub fn delta(alloc: Global, replica: &Replica, list: &List) -> Result<Vec<Piece>, NoMemory>
     ensures { IfOk result (λ pieces. map made pieces.items
         ≡ map told (delta_pieces (value_within types_shown (own_document replica.now)) no_fields

@@ -62,7 +62,8 @@ fn take_text<'a>(
     requires settled { IsSettled gathering.old }
     ensures { OnOk result ((way : Ways) (show : Operation → AnyTree)
         → Gathers way show gathering.old gathering.new
-        (lent_from piece.now.id false (take piece.now.len (drop piece.now.offset (map text_unit units.now))))) }
+        (lent_from piece.now.id false
+        (take piece.now.len (drop piece.now.offset (map text_unit units.now))))) }
 {
     gathering.open(alloc)?;
     take_units(gathering, piece.id, units, piece.offset, piece.len)
@@ -122,7 +123,8 @@ fn take_format<'a>(
     id: Id,
     mark: Mark<'a>,
 ) -> Result<(), NoMemory>
-    ensures { OnOk result ((show : Operation → AnyTree) → Gathers way show gathering.old gathering.new
+    ensures { OnOk result ((show : Operation → AnyTree)
+        → Gathers way show gathering.old gathering.new
         (live id (mark_unit mark.entry.key.now (json_tree mark.entry.value.now)) ∷ [])) }
 {
     match way {
@@ -189,7 +191,8 @@ fn take_values(
     ensures { OnOk result ((way : Ways) (show : Operation → AnyTree) → ShowsPlain show
         → ArePlainValues way (units_of_content (content_value piece.now.content.now))
         → Gathers way show gathering.old gathering.new (lent_from piece.now.id false
-        (take piece.now.len (drop piece.now.offset (units_of_content (content_value piece.now.content.now)))))) }
+        (take piece.now.len (drop piece.now.offset
+        (units_of_content (content_value piece.now.content.now)))))) }
 {
     // The number of units is in range, and so is each place.
     let _len = piece.content.len();

@@ -5,7 +5,7 @@ use Rattle.yd_ids.specs.declared.id.Client.{Client}
 use Rattle.yd_ops.specs.Value.{UpdateValue}
 use Rattle.yd_updates.specs.Received.{Received, received_after, received_more}
 use Rattle.yd_meaning.specs.Document.{Document, IsDocumentOf}
-use Rattle.yd_editing.specs.Step.{Refusal, no_place, not_held, clock_full, inside_pair, own_waiting, past_end}
+use Rattle.yd_editing.specs.Step.{Refusal, no_place, not_held, clock_full, inside_pair, own_waiting, past_end, no_key}
 use Rattle.yd_making.specs.Steps.{fault_of, IsCause}
 use Rattle.yd_making.specs.declared.fault.EditFault.{EditFault}
 use Rattle.yd_making.specs.declared.fault.EditFault.TheVariants as edits
@@ -114,7 +114,7 @@ module _ (client : Client) (r : Received) (text : Numbered) (line : Line) (docum
   edit_refused (edits.InsidePair place) is = (refl, because (inside_pair place) is)
   edit_refused (edits.OwnWaiting clock) is = (refl, because (own_waiting clock) is)
   edit_refused (edits.PastEnd length) is = (refl, because (past_end length) is)
-  edit_refused edits.NoKey is = absurd is
+  edit_refused edits.NoKey is = (refl, because no_key is)
   edit_refused edits.Nothing is = absurd is
 
 -- what holds after an error

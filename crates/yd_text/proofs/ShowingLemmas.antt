@@ -17,7 +17,7 @@ module _ (old new : Kept) (defined : IsDocumentOf (own_document old) (received_o
   abbrev before : Received
   before = received_of old
 
-  basis_same : own_basis old ≡ basis_of old.client before
+  pub basis_same : own_basis old ≡ basis_of old.client before
   basis_same = ap (λ (document : Document). record {
     client = old.client;
     document = document;
@@ -27,12 +27,12 @@ module _ (old new : Kept) (defined : IsDocumentOf (own_document old) (received_o
   }) defined
 
   -- what is received then is what is received after the edit
-  received_then : (steps : Document → List Step) (update : UpdateValue) → IsEdit old new (steps (own_document old)) update → received_of new ≡ after_edit old.client before (steps (document_of before))
+  pub received_then : (steps : Document → List Step) (update : UpdateValue) → IsEdit old new (steps (own_document old)) update → received_of new ≡ after_edit old.client before (steps (document_of before))
   received_then steps update is = is.received
       ∙ ap (received_after before) (is.made ∙ ap₂ (λ (basis : Basis) (document : Document). update_of_edit basis (steps document)) basis_same defined)
 
   -- and so is the document
-  document_then : (steps : Document → List Step) (update : UpdateValue) → IsEdit old new (steps (own_document old)) update →
+  pub document_then : (steps : Document → List Step) (update : UpdateValue) → IsEdit old new (steps (own_document old)) update →
       document_of (after_edit old.client before (steps (document_of before))) ≡ own_document new
   document_then steps update is = sym (defined_then ∙ ap document_of (received_then steps update is))
 

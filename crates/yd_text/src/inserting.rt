@@ -48,7 +48,7 @@ pub fn insert(
 {
     match Units::from_text(alloc, text) {
         Err(_) => Err(EditFault::NoMemory),
-        Ok(units) => put(alloc, replica, list, index, Content::Str(units)),
+        Ok(units) => insert_content(alloc, replica, list, index, Content::Str(units)),
     }
 }
 
@@ -71,12 +71,12 @@ pub fn embed(
         (insert_refusal (own_basis replica.old) list.now index (embed_value (json_tree value)))) }
     ensures unchanged { OnErr result (replica.new ≡ replica.old) }
 {
-    let update = put(alloc, replica, list, index, Content::Embed(value))?;
+    let update = insert_content(alloc, replica, list, index, Content::Embed(value))?;
     Ok(update)
 }
 
-/// Puts a content behind the unit before the index.
-fn put(
+/// Inserts a content of any kind, as `insert` does a text. No deleted units are inserted.
+pub fn insert_content(
     alloc: Global,
     replica: &mut Replica,
     list: &List,

@@ -22,5 +22,5 @@ mod refusing;
 
 pub use deleting::delete;
 pub use formatting::format;
-pub use inserting::{embed, insert};
+pub use inserting::{embed, insert, insert_content};
 pub use yd_doc::EditFault;

@@ -15,11 +15,13 @@ use Rattle.yd_value.specs.View.{shown_fields, shown_tree}
 use Rattle.yd_view.proofs.TextLemmas.{fewer_left}
 use Rattle.yd_modes.specs.Gathering.{gathered, made, told, told_inserts, told_values, Gathers}
 use Rattle.yd_modes.specs.Modes.{shown_by}
-use Rattle.yd_modes.specs.Roles.{bare, joined_fields, live_lent, plain_value, unit_of_view}
+use Rattle.yd_doc.specs.Last.{unit_of_view}
+use Rattle.yd_doc.proofs.LastLemmas.{unit_got}
+use Rattle.yd_modes.specs.Roles.{bare, joined_fields, live_lent, plain_value}
 use Rattle.yd_modes.proofs.ListLemmas.{delta_of, list_of, no_items}
 use Rattle.yd_modes.proofs.MarkLemmas.{joined_none}
 use Rattle.yd_modes.proofs.SeenLemmas.{pieces_seen, within_bare, within_plain}
-use Rattle.yd_modes.proofs.ShowingLemmas.{deleted_view, live_view, piece_gathered, within_nested, nested_role, under_hidden, under_none, under_shown, nested_unit, unit_got, not_nested}
+use Rattle.yd_modes.proofs.ShowingLemmas.{deleted_view, live_view, piece_gathered, within_nested, nested_role, under_hidden, under_none, under_shown, nested_unit, not_nested}
 use Rattle.yd_modes.proofs.TakingLemmas.{gathers_none, one_view}
 use Rattle.yd_modes.proofs.nesting.+show.Goals as goal
 
@@ -134,7 +136,8 @@ pub show_under-returns-then-not-is_shown : goal.show_under-returns-then-not-is_s
 show_under-returns-then-not-is_shown n c =
     let d = own_document c.args.replica.now in
     under_hidden (value_within c.args.most d) d c.args.parent.now c.args.key.now c.in-Some.unit (units_left c.list.result) c.in-Some.ensures.last.0 (within_bare c.args.most d)
-    c.in-Some.ensures.within c.in-Some.ensures.one (c.list.ensures.units ∙ ap (lent_units d) c.in_ok-list.ensures) c.in-Some.ensures.last.1 (sym c.is_shown.ensures ∙ c.if-not-is_shown.true)
+    c.in-Some.ensures.within c.in-Some.ensures.one (c.list.ensures.units ∙ ap (lent_units d) c.in_ok-list.ensures) c.in-Some.ensures.last.1
+    (sym c.is_shown.ensures ∙ c.if-not-is_shown.true)
 
 pub show_under-returns : goal.show_under-returns
 show_under-returns n c =

@@ -6,7 +6,7 @@ use Rattle.yd_making.specs.Steps.{steps_value, IsCause}
 use Rattle.yd_doc.specs.Editing.{own_basis}
 use Rattle.yd_doc.proofs.CauseLemmas.{accepted_given}
 use Rattle.yd_text.proofs.RefusalLemmas.{insert_refused}
-use Rattle.yd_text.proofs.inserting.put.Goals as goal
+use Rattle.yd_text.proofs.inserting.insert_content.Goals as goal
 
 pub returns-in-Err-clause-refused : goal.returns-in-Err-clause-refused
 returns-in-Err-clause-refused c =

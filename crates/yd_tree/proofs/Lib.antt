@@ -1,0 +1,3 @@
+pub mod LastLemmas
+pub mod ShowingLemmas
+pub mod StepLemmas
