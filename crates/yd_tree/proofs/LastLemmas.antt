@@ -1,14 +1,13 @@
 -- What is told of the unit that stands last in a list.
-use Rattle.std.proofs.Common.{◌≡◌, ◌+◌, ◌<◌, ℕ, zero, suc, Bool, true, false, ◌&&◌, not, nat_eq, List, [], ◌∷◌, ◌++◌, Option, Some, None, option_map, refl, sym, ap, ap₂, ◌∙◌, subst, arith}
+use Rattle.std.proofs.Common.{◌≡◌, ◌+◌, ℕ, zero, suc, Bool, true, false, ◌&&◌, not, nat_eq, List, [], ◌∷◌, ◌++◌, Option, Some, None, option_map, refl, sym, ap, ◌∙◌, subst, arith}
 use Rattle.std.specs.Prelude.{if◌then◌else◌}
 use Rattle.yd_ids.specs.declared.id.Id.{Id}
 use Rattle.yd_ids.specs.Id.{IsId, IsClock}
 use Rattle.yd_ops.specs.declared.lists.List.{List as DocList}
-use Rattle.yd_ops.specs.Operation.{Operation}
 use Rattle.yd_meaning.specs.Document.{Document}
 use Rattle.yd_shown.specs.Shown.{is_counted, last_unit}
 use Rattle.yd_state.specs.declared.listing.RunView.{RunView}
-use Rattle.yd_state.specs.Lent.{Lent, lent, lent_units, units_of_view, IsWithin}
+use Rattle.yd_state.specs.Lent.{Lent, lent_units, units_of_view, IsWithin}
 use Rattle.yd_doc.specs.Counted.{counted_ids, ids_from}
 use Rattle.yd_doc.specs.Last.{unit_of_view}
 use Rattle.yd_doc.proofs.LastLemmas.{last_is_lent, none_lent, view_one}

@@ -16,7 +16,7 @@ module _ (old new : Kept) (defined : IsDocumentOf (own_document old) (received_o
   pub set_shown : SetsStand → SettingsShow old new
   set_shown law parent key content unit update quiet makeable one counted accepted is =
       let stands = law old.client (received_of old) parent key content unit quiet makeable one counted
-          (subst (λ (b : Basis). set_refusal b parent key content ≡ None) (basis_same old new defined defined_then) accepted) in
+      (subst (λ (b : Basis). set_refusal b parent key content ≡ None) (basis_same old new defined defined_then) accepted) in
       let steps : Document → List Step = λ document. set_steps document parent key content in
       record {
         held = subst (λ (r : Received). IsHonestHeld r.operations) (sym (received_then old new defined defined_then steps update is)) stands.held.all_held;
@@ -30,7 +30,7 @@ module _ (old new : Kept) (defined : IsDocumentOf (own_document old) (received_o
   pub unset_shown : UnsetsStand → RemovalsShow old new
   unset_shown law parent key update quiet accepted is =
       let stands = law old.client (received_of old) parent key quiet
-          (subst (λ (b : Basis). unset_refusal b parent key ≡ None) (basis_same old new defined defined_then) accepted) in
+      (subst (λ (b : Basis). unset_refusal b parent key ≡ None) (basis_same old new defined defined_then) accepted) in
       let steps : Document → List Step = λ document. unset_steps document parent key in
       record {
         held = subst (λ (r : Received). IsHonestHeld r.operations) (sym (received_then old new defined defined_then steps update is)) stands.held.all_held;

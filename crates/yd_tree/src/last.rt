@@ -28,7 +28,9 @@ pub(crate) fn last_in(replica: &Replica, list: &List) -> Option<LastUnit>
         (last_unit ((own_document replica.now).units list.now)) }
     ensures in_range { IfSome result (λ unit. IsUnitId unit.id) }
 {
-    let piece = replica.list(list).last()?;
+    let Some(piece) = replica.list(list).last() else {
+        return None;
+    };
     Some(LastUnit {
         id: piece.id,
         live: !piece.deleted,

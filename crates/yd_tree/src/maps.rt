@@ -9,6 +9,7 @@ ghost use Rattle.yd_shown.specs.Shown.{key_list as list_of_key};
 ghost use Rattle.yd_editing.specs.Law.{IsMakeable};
 ghost use Rattle.yd_editing.specs.MapEdit.{set_steps, unset_steps, set_refusal, unset_refusal};
 ghost use Rattle.yd_making.specs.Steps.{IsCause};
+ghost use Rattle.yd_making.specs.declared.fault.EditFault.TheVariants.{NoMemory as NoRoom};
 ghost use Rattle.yd_doc.specs.Editing.{own_basis, IsEdit};
 ghost use Rattle.yd_doc.specs.Kept.{own_document};
 ghost use Rattle.yd_tree.specs.Last.{id_told, live_told, shown_told, IsUnitId};
@@ -52,8 +53,10 @@ pub fn map_set(
         content,
     })?;
     steps.push(Step::Remove(ids))?;
-    let update = replica.edit(steps)?;
-    Ok(update)
+    match replica.edit(steps) {
+        Ok(update) => Ok(update),
+        Err(fault) => Err(fault),
+    }
 }
 
 /// Removes the live value of a key by name. `NoKey`, where the unit that stands last there is not live
@@ -86,10 +89,13 @@ pub fn map_remove(
 /// The list of a key of a parent.
 fn key_list(parent: &Parent, key: &Text) -> Result<List, EditFault>
     ensures list { IfOk result (λ list. list ≡ list_of_key parent.now key.now) }
-    ensures memory { IfErr result (λ fault. (refusal : _) → IsCause fault refusal) }
+    ensures memory { IfErr result (λ fault. fault ≡ NoRoom) }
 {
     let parent = parent.copy()?;
-    let key = key.copy()?;
+    let key = match key.copy() {
+        Ok(key) => key,
+        Err(_) => return Err(EditFault::NoMemory),
+    };
     Ok(List {
         parent,
         key: Some(key),
