@@ -1,14 +1,11 @@
 -- The smallest id that breaks the rules, found one after another.
-use Rattle.std.proofs.Common.{◌≡◌, ℕ, ◌+◌, ◌<◌, ◌≤◌, ◌⊎◌, Bool, true, false, List, Option, Some, None, inl, inr, length, refl, sym, ap, ◌∙◌, subst, arith, tests, true≢false}
-use Rattle.std.specs.Prelude.{Decides, IfSome, slice_get}
-use Rattle.yd_words.specs.Member.{IsIn}
+use Rattle.std.proofs.Common.{◌≡◌, ℕ, ◌+◌, ◌⊎◌, true, false, List, Option, Some, None, inl, inr, refl, sym, ap, ◌∙◌, subst, arith, tests, true≢false}
+use Rattle.std.specs.Prelude.{IfSome, slice_get}
 use Rattle.yd_words.proofs.OptionLemmas.{some_is}
 use Rattle.yd_words.proofs.TestLemmas.{same_or_other}
 use Rattle.yd_ids.specs.declared.id.Id.{Id}
 use Rattle.yd_ids.specs.Ids.{is_smaller}
-use Rattle.yd_ops.specs.Operation.{Operation}
-use Rattle.yd_meaning.specs.Order.{MeetsRules}
-use Rattle.yd_received.specs.Received.{ReceivedValue, held_of, listed_of}
+use Rattle.yd_received.specs.Received.{ReceivedValue}
 use Rattle.yd_honesty.specs.Judging.{Breaks, IsUpTo, IsBest, is_better}
 
 not_itself : (x : Id) → is_smaller x x ≡ false

@@ -1,9 +1,8 @@
 -- What the test of the past says of a held id.
-use Rattle.std.proofs.Common.{◌≡◌, true, List, sym, subst}
+use Rattle.std.proofs.Common.{◌≡◌, true, sym, subst}
 use Rattle.std.specs.Prelude.{Decides}
 use Rattle.yd_words.specs.Member.{IsIn}
 use Rattle.yd_ids.specs.declared.id.Id.{Id}
-use Rattle.yd_ops.specs.Operation.{Operation}
 use Rattle.yd_updates.specs.Received.{has_operation}
 use Rattle.yd_updates.proofs.OneOfLemmas.{operation_with}
 use Rattle.yd_meaning.specs.Order.{IsPast}

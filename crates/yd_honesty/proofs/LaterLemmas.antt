@@ -1,4 +1,4 @@
--- An operation that follows another in a run keeps the edit rules, where the order of their list is strict and the other one keeps them.
+-- An operation that follows another in a run keeps the edit rules, where the order of their list holds one way and the other one keeps them.
 use Rattle.std.proofs.Common.{◌≡◌, ◌≢◌, ℕ, zero, suc, ◌⊎◌, Bool, true, false, List, Option, Some, None, inl, inr, refl, sym, ap, ◌∙◌, subst, arith, true≢false}
 use Rattle.std.specs.Prelude.{IfSome}
 use Rattle.yd_words.specs.Member.{IsIn}
@@ -9,11 +9,10 @@ use Rattle.yd_ids.proofs.IdLemmas.{same_numbers}
 use Rattle.yd_ops.specs.Operation.{Operation}
 use Rattle.yd_ops.specs.declared.lists.List.{List as DocList}
 use Rattle.yd_origins.specs.Before.{is_before, IsLeftFirst, IsBetween}
-use Rattle.yd_origins.specs.Law.{IsStrict}
 use Rattle.yd_origins.specs.Operations.{OperationSet, table_of_all, table_of_list, kept_right}
 use Rattle.yd_origins.specs.Table.{OriginTable, ids_of, left_of, right_of, IsTable}
 use Rattle.yd_origins.proofs.ListLemmas.{list_of_left, list_of_right, kept_same}
-use Rattle.yd_origins.proofs.ListTableLemmas.{in_own, own_left, own_right, own_order}
+use Rattle.yd_origins.proofs.ListTableLemmas.{in_own, own_left, own_right, own_is_table, own_order}
 use Rattle.yd_origins.proofs.TableLemmas.{not_itself}
 use Rattle.yd_updates.specs.Received.{has_operation, IsWritten}
 use Rattle.yd_meaning.specs.ListNames.{list_names}
@@ -27,9 +26,13 @@ use Rattle.yd_meaning.proofs.StandingTableLemmas.{standing_table}
 use Rattle.yd_meaning.proofs.VectorLemmas.{held_written}
 use Rattle.yd_honesty.specs.Law.{FollowsInRun}
 use Rattle.yd_honesty.proofs.PastLemmas.{first_need}
+use Rattle.yd_honesty.proofs.ThroughLemmas.{left_before, before_own_right}
 
 module _ (os : List Operation) (w : IsWritten os) (o p : Operation) (i : IsIn o (standing (held_set os))) (j : IsIn p (standing (held_set os)))
-    (follows : FollowsInRun o p) (strict : IsStrict (table_of_list (operation_set (standing (held_set os))) (list_of (standing (held_set os)) o.id)))
+    (follows : FollowsInRun o p) (way : (a b : Id) → IsIn a (ids_of (table_of_list (operation_set (standing (held_set os))) (list_of (standing (held_set os)) o.id))) →
+    IsIn b (ids_of (table_of_list (operation_set (standing (held_set os))) (list_of (standing (held_set os)) o.id))) →
+    is_before (table_of_list (operation_set (standing (held_set os))) (list_of (standing (held_set os)) o.id)) a b ≡ true →
+    is_before (table_of_list (operation_set (standing (held_set os))) (list_of (standing (held_set os)) o.id)) b a ≡ false)
     (meets : MeetsRules (held_set os) o) where
   abbrev held : List Operation
   held = held_set os
@@ -58,6 +61,13 @@ module _ (os : List Operation) (w : IsWritten os) (o p : Operation) (i : IsIn o 
   p_list : list_of stands p.id ≡ name
   p_list = sym (list_of_left set table p.id o.id (one_row stands p j) (left_of-row stands table.distinct p j ∙ follows.behind))
 
+  -- ---- the left origin
+
+  left_own : (q : Id) → o.left_origin ≡ Some q → IsIn q (ids_of own)
+  left_own q e = in_own set table name q (some_of (λ y. IsIn y (ids_of (rows_of stands))) (left_of (rows_of stands) o.id) q
+      (left_of-row stands table.distinct o i ∙ e) (table.has_left o.id (one_row stands o i)))
+      (list_of_left set table o.id q (one_row stands o i) (left_of-row stands table.distinct o i ∙ e))
+
   -- ---- the right origin
 
   right_list : (r : Id) → o.right_origin ≡ Some r → list_of stands r ≡ name
@@ -74,18 +84,20 @@ module _ (os : List Operation) (w : IsWritten os) (o p : Operation) (i : IsIn o 
   right_is : (r : Id) → o.right_origin ≡ Some r → right_of own o.id ≡ Some r
   right_is r e = own_right set table name o.id o_in ∙ ap (λ z. kept_right set o.id z) (right_of-row stands table.distinct o i ∙ e) ∙ kept_same set table o.id r (right_list r e)
 
+  own_t : IsTable own
+  own_t = own_is_table set table name
+
+  own_left_is : left_of own o.id ≡ o.left_origin
+  own_left_is = own_left set table name o.id o_in ∙ left_of-row stands table.distinct o i
+
   before_right : (r : Id) → o.right_origin ≡ Some r → before o.id r ≡ true
-  before_right r e = sym (own_order set table name o.id r o_in (right_own r e)) ∙ strict.before_right o.id r o_in (right_is r e)
-
-  -- ---- the left origin
-
-  left_own : (q : Id) → o.left_origin ≡ Some q → IsIn q (ids_of own)
-  left_own q e = in_own set table name q (some_of (λ y. IsIn y (ids_of (rows_of stands))) (left_of (rows_of stands) o.id) q
-      (left_of-row stands table.distinct o i ∙ e) (table.has_left o.id (one_row stands o i)))
-      (list_of_left set table o.id q (one_row stands o i) (left_of-row stands table.distinct o i ∙ e))
-
-  after_left : (q : Id) → o.left_origin ≡ Some q → is_before own q o.id ≡ true
-  after_left q e = strict.after_left o.id q o_in (own_left set table name o.id o_in ∙ left_of-row stands table.distinct o i ∙ e)
+  before_right r e = sym (own_order set table name o.id r o_in (right_own r e)) ∙ before_own_right own own_t o.id r o_in (right_is r e) (λ q f. apart q (sym own_left_is ∙ f))
+    where
+      apart : (q : Id) → o.left_origin ≡ Some q → (r ≢ q) × (is_before own r q ≡ false)
+      apart q f = let first : (q ≢ r) × (before q r ≡ true) = subst (λ z. IsLeftFirst before z (Some r)) f (subst (λ z. IsLeftFirst before o.left_origin z) e meets.left_first) in (
+        (λ one. first.0 (sym one)),
+        way q r (left_own q f) (right_own r e) (own_order set table name q r (left_own q f) (right_own r e) ∙ first.1),
+      )
 
   -- what is behind the first is behind its left origin
   behind_left : (y : Id) → IsIn y (ids_of own) → before o.id y ≡ true → IfSome o.left_origin (λ q. (q ≢ y) × (before q y ≡ true))
@@ -96,10 +108,8 @@ module _ (os : List Operation) (w : IsWritten os) (o p : Operation) (i : IsIn o 
 
       go : (z : Option Id) → o.left_origin ≡ z → IfSome z (λ q. (q ≢ y) × (before q y ≡ true))
       go None f = tt
-      go (Some q) f = (
-        (λ one. true≢false (sym o_first ∙ subst (λ v. is_before own o.id v ≡ false) one (strict.one_way q o.id (left_own q f) o_in (after_left q f)))),
-        sym (own_order set table name q y (left_own q f) k) ∙ strict.through q o.id y (left_own q f) o_in k (after_left q f) o_first,
-      )
+      go (Some q) f = let behind = left_before own own_t o.id y q o_in k (own_left_is ∙ f) o_first in
+          (behind.0, sym (own_order set table name q y (left_own q f) k) ∙ behind.1)
 
   -- ---- the past
 

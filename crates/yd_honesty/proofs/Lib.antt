@@ -14,4 +14,6 @@ pub mod OriginsLemmas
 pub mod PlacesLemmas
 pub mod NotingLemmas
 pub mod SmallestListLemmas
+pub mod StartLemmas
+pub mod ThroughLemmas
 pub mod ToldLemmas

@@ -1,17 +1,16 @@
 -- The origins of a unit in a list are those that its entry tells.
-use Rattle.std.proofs.Common.{◌≡◌, ℕ, suc, ◌-◌, ◌<◌, ◌≤◌, Bool, true, false, nat_le, List, Option, Some, None, inl, inr, refl, sym, ap, ◌∙◌, subst, arith, tests, true≢false}
+use Rattle.std.proofs.Common.{◌≡◌, ℕ, suc, ◌-◌, ◌≤◌, true, false, nat_le, Some, inl, inr, refl, sym, ap, ◌∙◌, subst, arith, tests, true≢false}
 use Rattle.std.specs.Prelude.{slice_get, if◌then◌else◌}
 use Rattle.yd_words.specs.Member.{IsIn}
 use Rattle.yd_ids.specs.declared.id.Id.{Id}
 use Rattle.yd_ids.proofs.IdLemmas.{same_numbers}
-use Rattle.yd_ops.specs.Operation.{Operation}
 use Rattle.yd_received.specs.declared.entry.Entry.{Entry}
 use Rattle.yd_received.specs.Entries.{operations_of_taken, covers, is_held, is_listed}
-use Rattle.yd_received.specs.Received.{ReceivedValue, held_of, listed_of}
+use Rattle.yd_received.specs.Received.{ReceivedValue, held_of}
 use Rattle.yd_received.proofs.EntriesLemmas.{one_entry}
 use Rattle.yd_meaning.specs.Held.{is_gone}
 use Rattle.yd_meaning.proofs.StandingLemmas.{standing_in}
-use Rattle.yd_held.proofs.HeldUnitLemmas.{IsFirst, Follows, id_at, unit_cases, unit_covers, unit_gone}
+use Rattle.yd_held.proofs.HeldUnitLemmas.{Follows, id_at, unit_cases, unit_covers, unit_gone}
 use Rattle.yd_held.proofs.HeldEntryLemmas.{is_taken, chosen_entry, chosen_written}
 use Rattle.yd_honesty.specs.Judging.{IsKept, AreOrigins, left_in}
 use Rattle.yd_honesty.proofs.NotingLemmas.{there_is_in}

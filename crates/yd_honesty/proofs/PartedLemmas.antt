@@ -1,15 +1,13 @@
 -- The walk over what may part the origins of a unit.
-use Rattle.std.proofs.Common.{◌≡◌, ℕ, ◌+◌, ◌<◌, ◌≤◌, Bool, true, false, ◌&&◌, List, Option, Some, None, inl, inr, length, get_or, refl, sym, ap, ◌∙◌, subst, arith, true≢false}
-use Rattle.std.specs.Prelude.{Decides, IfSome, slice_get}
-use Rattle.yd_words.proofs.OptionLemmas.{some_is}
+use Rattle.std.proofs.Common.{◌≡◌, ℕ, ◌<◌, ◌≤◌, Bool, true, false, ◌&&◌, List, Option, Some, None, inl, inr, length, get_or, sym, ◌∙◌, subst, arith, true≢false}
+use Rattle.std.specs.Prelude.{IfSome, slice_get}
 use Rattle.yd_words.proofs.TestLemmas.{split, both_hold}
 use Rattle.yd_ids.specs.declared.id.Id.{Id}
 use Rattle.yd_updates.specs.Received.{has_operation}
 use Rattle.yd_meaning.specs.Order.{IsPast, of_past}
 use Rattle.yd_received.specs.Received.{ReceivedValue, held_of}
-use Rattle.yd_order.specs.Comparing.{HasCells}
 use Rattle.yd_honesty.specs.Dishonest.{is_past}
-use Rattle.yd_honesty.specs.Judging.{IsKept, AreEnds, IsPlaceOf, IsPlaced, IsParted, NonePartsBefore, BeginsAt, EndsAt, is_behind, is_ahead}
+use Rattle.yd_honesty.specs.Judging.{IsKept, AreEnds, IsPlaceOf, IsParted, NonePartsBefore, BeginsAt, EndsAt, is_behind, is_ahead}
 use Rattle.yd_honesty.proofs.EndingLemmas.{past_test}
 use Rattle.yd_honesty.proofs.NotingLemmas.{there_is_in}
 

@@ -1,6 +1,6 @@
 -- The smallest id that breaks the rules, list by list.
-use Rattle.std.proofs.Common.{◌≡◌, ℕ, zero, suc, ◌+◌, ◌<◌, ◌≤◌, ◌⊎◌, ◌^◌, replicate, get_or, Bool, true, false, not, List, Option, Some, None, inl, inr, length, refl, sym, ap, ◌∙◌, subst, arith, tests, true≢false}
-use Rattle.std.specs.Prelude.{Decides, IfSome, slice_get}
+use Rattle.std.proofs.Common.{◌≡◌, ℕ, zero, suc, ◌+◌, ◌<◌, ◌≤◌, ◌⊎◌, ◌^◌, replicate, get_or, Bool, true, false, nat_eq, map, List, [], ◌∷◌, Option, Some, None, inl, inr, length, refl, sym, ap, ◌∙◌, subst, arith, tests, true≢false}
+use Rattle.std.specs.Prelude.{Decides, IfSome, filter, slice_get}
 use Rattle.std.proofs.lemmas.Bool.{cases_Bool}
 use Rattle.std.proofs.lemmas.List.{length-replicate}
 use Rattle.std.proofs.lemmas.Option.{slice_get-get_or}
@@ -12,26 +12,24 @@ use Rattle.yd_ids.specs.Id.{IsClient}
 use Rattle.yd_ids.specs.Ids.{is_smaller}
 use Rattle.yd_ops.specs.Operation.{Operation}
 use Rattle.yd_ops.specs.declared.lists.List.{List as DocList}
-use Rattle.yd_origins.specs.Operations.{table_of_list}
-use Rattle.yd_origins.specs.Table.{ids_of, IsTable}
 use Rattle.yd_origins.proofs.ListTableLemmas.{in_own}
 use Rattle.yd_updates.specs.Received.{has_operation}
-use Rattle.yd_updates.proofs.OneOfLemmas.{operation_with, id_there, id_is_there}
+use Rattle.yd_updates.proofs.OneOfLemmas.{operation_with, id_there}
 use Rattle.yd_meaning.specs.Held.{held_set, standing}
 use Rattle.yd_meaning.specs.Order.{operation_set, list_of, MeetsRules, AreHonest}
 use Rattle.yd_meaning.proofs.RowLemmas.{has_row}
 use Rattle.yd_meaning.proofs.StandingLemmas.{standing_in}
-use Rattle.yd_order.specs.Comparing.{Compares}
+use Rattle.yd_firsts.specs.Firsts.{ComparesFirsts, HaveStarts}
 use Rattle.yd_order.specs.Stretch.{among_rows, rows_of_stretches}
 use Rattle.yd_order.specs.declared.stretch.Stretch.{Stretch}
 use Rattle.yd_received.specs.declared.entry.Entry.{Entry}
-use Rattle.yd_received.specs.Entries.{is_held, is_listed}
+use Rattle.yd_received.specs.Entries.{is_held, is_listed, is_listed_at}
 use Rattle.yd_received.specs.Received.{ReceivedValue, taken_of, held_of, listed_of}
 use Rattle.yd_received.proofs.WrittenLemmas.{taken_written}
 use Rattle.yd_held.specs.Held.{HeldValue, HoldsAll}
 use Rattle.yd_held.proofs.HeldUnitLemmas.{covers_less}
 use Rattle.yd_held.proofs.HeldEntryLemmas.{is_taken, chosen_written, id_chosen}
-use Rattle.yd_state.specs.Stretches.{AreGathered, stretches_in}
+use Rattle.yd_state.specs.Stretches.{AreGathered, stretch_of, stretches_in}
 use Rattle.yd_state.proofs.ListOrderLemmas.{list_table, stretches_are_table, list_stretches_end}
 use Rattle.yd_state.proofs.NumberLemmas.{id_listed}
 use Rattle.yd_honesty.specs.Dishonest.{BreaksRules, dishonest_of, meets_rules}
@@ -41,8 +39,28 @@ use Rattle.yd_honesty.proofs.JudgeLemmas.{listed_table, id_is_listed}
 use Rattle.yd_honesty.proofs.NotingLemmas.{there_is_in}
 use Rattle.yd_honesty.proofs.PlacesLemmas.{place_in}
 use Rattle.yd_honesty.proofs.RuleLemmas.{rules_decide}
+use Rattle.yd_honesty.proofs.StartLemmas.{StartBreaks, start_breaks}
+use Rattle.yd_held.specs.Numbered.{list_at_place, is_in_list}
+use Rattle.yd_received.specs.declared.place.Place.{Place}
+use Rattle.yd_received.specs.declared.place.Place.TheVariants.{Waits, Lost, In}
+use Rattle.yd_words.proofs.FilterLemmas.{one_kept}
+use Rattle.yd_words.proofs.MemberLemmas.{each_in}
+use Rattle.yd_words.specs.Test.{is_some_and}
 
 -- ---- one list
+
+no_smaller : (a b c : Id) → a.client.0 ≡ b.client.0 → a.clock ≤ b.clock → is_smaller a c ≡ false → is_smaller b c ≡ false
+no_smaller a b c e le f = grind (arith, tests)
+
+listed_number : (p : Place) → is_listed_at p ≡ true → (n : ℕ) × (list_at_place p ≡ Some n)
+listed_number Waits e = absurd (true≢false (sym e))
+listed_number Lost e = absurd (true≢false (sym e))
+listed_number (In n) e = (n, refl)
+
+in_mapped : (ts : List Entry) (t : Entry) → IsIn t ts → IsIn (stretch_of t) (map stretch_of ts)
+in_mapped [] t i = absurd i
+in_mapped (s ∷ ts) t (inl e) = inl (ap stretch_of e)
+in_mapped (s ∷ ts) t (inr i) = inr (in_mapped ts t i)
 
 module _ (r : ReceivedValue) (kept : IsKept r) where
   listed_held : (x : Id) → has_operation (listed_of r) x ≡ true → (has_operation (held_of r) x ≡ true) × IsClient x.client
@@ -54,29 +72,40 @@ module _ (r : ReceivedValue) (kept : IsKept r) where
         subst (λ n. n < 2 ^ 53) less.0 (is_taken r kept.whole.in_order t j).id.client,
       )
 
-  module _ (name : DocList) (stretches : List Stretch) (of : AreOfList r name stretches) (ids : List Id) (is_strict : Bool) (cells : List Bool)
-      (compares : Compares (among_rows (rows_of_stretches stretches)) ids is_strict cells) where
-    pub is_list : IsList r ids is_strict cells
-    is_list = record { name = name; compares = subst (λ t. Compares t ids is_strict cells) (sym of.rows) compares }
+  module _ (name : DocList) (stretches : List Stretch) (of : AreOfList r name stretches) (ids lasts : List Id) (is_strict : Bool) (cells : List Bool)
+      (compares : ComparesFirsts (among_rows (rows_of_stretches stretches)) ids lasts is_strict cells) (starts : HaveStarts stretches ids) where
+    pub is_list : IsList r ids lasts is_strict cells
+    is_list = record { name = name; compares = subst (λ t. ComparesFirsts t ids lasts is_strict cells) (sym of.rows) compares }
 
     pub are_held : AreHeld r ids
-    are_held y x e = listed_held x (id_is_listed r kept ids is_strict cells is_list y x e)
+    are_held y x e = listed_held x (id_is_listed r kept ids lasts is_strict cells is_list y x e)
 
     pub best_of : (old new : Option Id) → IsBest r ids (length ids) old new → IsBestOf r name old new
     unfolding is_list
     best_of old new best = record {
       sound = best.sound;
       old_up_to = best.old_up_to;
-      all = λ y e same breaks. at y (place_in ids y ((is_list.compares.members y).1
-          (in_own (operation_set (listed_of r)) (listed_table r kept ids is_strict cells is_list) name y (has_row (listed_of r) y e) same))) breaks;
+      all = λ y e same breaks. go is_strict refl y e same breaks;
     }
       where
         at : (y : Id) → (n : ℕ) × (n < length ids) × (slice_get ids n ≡ Some y) → Breaks r y → IsUpTo new y
         at y (n, lt, e) breaks = best.all n y lt e breaks
 
+        lower : (x y : Id) → x.client.0 ≡ y.client.0 → x.clock ≤ y.clock → IsUpTo new x → IsUpTo new y
+        lower x y client clock up = record { least = up.least; is = up.is; up_to = no_smaller x y up.least client clock up.up_to }
+
+        go : (v : Bool) → is_strict ≡ v → (y : Id) → has_operation (listed_of r) y ≡ true → list_of (listed_of r) y ≡ name → Breaks r y → IsUpTo new y
+        go true e y has same breaks = by_start (start_breaks r kept name (is_list.compares.one_way e) y breaks same)
+          where
+            by_start : StartBreaks r name y → IsUpTo new y
+            by_start s = lower s.entry.id y s.client s.clock
+                (at s.entry.id (place_in ids s.entry.id (starts (stretch_of s.entry) (of.starts s.entry s.there s.listed s.named) s.some)) s.breaks)
+        go false e y has same breaks = at y (place_in ids y (is_list.compares.single e y
+            (in_own (operation_set (listed_of r)) (listed_table r kept ids lasts is_strict cells is_list) name y (has_row (listed_of r) y has) same))) breaks
+
     pub unit_breaks : (n : ℕ) (x : Id) → slice_get ids n ≡ Some x → (told : Bool) →
         ((o : Operation) → IsIn o (listed_of r) → slice_get ids n ≡ Some o.id → Decides told (MeetsRules (held_of r) o)) → told ≡ false → Breaks r x
-    unit_breaks n x e told decides off = let (o, i, f) = operation_with (listed_of r) x (id_is_listed r kept ids is_strict cells is_list n x e) in
+    unit_breaks n x e told decides off = let (o, i, f) = operation_with (listed_of r) x (id_is_listed r kept ids lasts is_strict cells is_list n x e) in
         record { one = o; there = i; id = f; broken = λ meets. true≢false (sym ((decides o i (e ∙ ap Some (sym f))).1 meets) ∙ off) }
 
 -- ---- all lists
@@ -111,7 +140,24 @@ module _ (k : HeldValue) (holds : HoldsAll k) where
   is_kept = record { whole = record { in_order = holds.in_order; held = holds.held }; stands = holds.stands }
 
   pub of_list : (n : ℕ) (name : DocList) → slice_get k.names n ≡ Some name → AreOfList k.received name (stretches_in n k.received.entries)
-  of_list n name there = record { clocks = list_stretches_end k holds n name there; table = stretches_are_table k holds n name there; rows = list_table k holds n name there }
+  of_list n name there = record {
+    clocks = list_stretches_end k holds n name there;
+    table = stretches_are_table k holds n name there;
+    rows = list_table k holds n name there;
+    starts = λ t i passes same. in_mapped (filter (is_in_list n) k.received.entries) t (one_kept (is_in_list n) k.received.entries t (numbered t i passes same) i);
+  }
+    where
+      equal : (a b : ℕ) → a ≡ b → nat_eq a b ≡ true
+      equal a b e = grind (arith, tests)
+
+      numbered : (t : Entry) → IsIn t k.received.entries → is_listed t ≡ true → list_of (listed_of k.received) t.id ≡ name → is_in_list n t ≡ true
+      numbered t i passes same =
+          let (m, at) = listed_number t.place passes in
+          ap (is_some_and (λ m. nat_eq m n)) at ∙ equal m n (holds.numbered.distinct m n name (named m at ∙ ap (λ v. Some v) same) there)
+        where
+          named : (m : ℕ) → list_at_place t.place ≡ Some m → slice_get k.names m ≡ Some (list_of (listed_of k.received) t.id)
+          named m at = subst (λ z. IfSome z (λ m. slice_get k.names m ≡ Some (list_of (listed_of k.received) t.id))) at
+              (each_in (λ (t : Entry). IfSome (list_at_place t.place) (λ n. slice_get k.names n ≡ Some (list_of (listed_of k.received) t.id))) k.received.entries holds.numbered.named t i)
 
   abbrev os : List Operation
   os = taken_of k.received

@@ -1,5 +1,5 @@
 -- How the operations of a list are judged, by places in it (own).
-use Rattle.std.specs.Prelude.{◌≡◌, ◌<◌, ◌≤◌, ◌⊎◌, ℕ, Bool, true, false, ◌&&◌, List, Option, Some, None, length, slice_get, ◌-◌, nat_le, if◌then◌else◌, IfSome}
+use Rattle.std.specs.Prelude.{◌≡◌, ◌<◌, ◌≤◌, ◌⊎◌, ℕ, Bool, true, false, List, Option, Some, None, length, slice_get, ◌-◌, nat_le, if◌then◌else◌, IfSome}
 use Rattle.std.proofs.Math.ListN.{get_or}
 use Rattle.yd_words.specs.Each.{Each}
 use Rattle.yd_words.specs.Member.{IsIn}
@@ -13,12 +13,14 @@ use Rattle.yd_ops.specs.declared.lists.List.{List as DocList}
 use Rattle.yd_origins.specs.Operations.{table_of_list}
 use Rattle.yd_meaning.specs.Held.{standing}
 use Rattle.yd_meaning.specs.Order.{operation_set, list_of, IsPast, MeetsRules}
-use Rattle.yd_order.specs.Comparing.{Compares, HasCells, is_told_before}
+use Rattle.yd_order.specs.Comparing.{HasCells, is_told_before}
+use Rattle.yd_firsts.specs.Firsts.{ComparesFirsts}
 use Rattle.yd_ids.specs.Id.{IsClient}
 use Rattle.yd_updates.specs.Received.{has_operation}
 use Rattle.yd_received.specs.declared.entry.Entry.{Entry}
+use Rattle.yd_received.specs.Entries.{is_listed}
 use Rattle.yd_received.specs.Received.{ReceivedValue, held_of, listed_of}
-use Rattle.yd_honesty.specs.Dishonest.{is_past}
+use Rattle.yd_state.specs.Stretches.{stretch_of}
 use Rattle.yd_honesty.specs.Pasts.{IsHeldWhole}
 
 -- all that can be held is held, and what is in lists are the held operations that are not lost
@@ -26,10 +28,10 @@ pub record IsKept (r : ReceivedValue) : Type 0 where
   pub whole : IsHeldWhole r
   pub stands : listed_of r ≡ standing (held_of r)
 
--- the ids are those of a list, each two compared by their origins
-pub record IsList (r : ReceivedValue) (ids : List Id) (is_strict : Bool) (cells : List Bool) : Type 0 where
+-- the ids are the first and the last units of the pieces of a list, compared by their origins
+pub record IsList (r : ReceivedValue) (ids lasts : List Id) (is_strict : Bool) (cells : List Bool) : Type 0 where
   pub name : DocList
-  pub compares : Compares (table_of_list (operation_set (listed_of r)) name) ids is_strict cells
+  pub compares : ComparesFirsts (table_of_list (operation_set (listed_of r)) name) ids lasts is_strict cells
 
 -- the origins are those of the operation in a list with the id
 abbrev pub AreOrigins : ReceivedValue → Id → Option Id → Option Id → Type 0
@@ -148,11 +150,12 @@ pub record IsBestOfAll (r : ReceivedValue) (names : List DocList) (count : ℕ) 
   pub all : (n : ℕ) (name : DocList) (y : Id) → n < count → slice_get names n ≡ Some name → has_operation (listed_of r) y ≡ true → list_of (listed_of r) y ≡ name →
       Breaks r y → IsUpTo found y
 
--- the stretches are those of the list with a name
+-- the stretches are those of the list with a name, one for each entry in it
 pub record AreOfList (r : ReceivedValue) (name : DocList) (stretches : List Stretch) : Type 0 where
   pub clocks : Each EndsAtClock stretches
   pub table : IsTable (among_rows (rows_of_stretches stretches))
   pub rows : table_of_list (operation_set (listed_of r)) name ≡ among_rows (rows_of_stretches stretches)
+  pub starts : (t : Entry) → IsIn t r.entries → is_listed t ≡ true → list_of (listed_of r) t.id ≡ name → IsIn (stretch_of t) stretches
 
 -- whether an id is smaller than the one that was found, or none was
 abbrev pub is_better : Option Id → Id → Bool

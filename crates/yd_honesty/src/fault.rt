@@ -37,12 +37,12 @@ impl From<yd_ids::NoMemory> for NoMemory {
     }
 }
 
-impl From<yd_order::NoMemory> for NoMemory {
+impl From<yd_firsts::NoMemory> for NoMemory {
     ghost use Rattle.std.specs.Prelude.{◌≡◌};
 
     ghost from_gives = { λ _ e. e ≡ record {} };
 
-    fn from(_error: yd_order::NoMemory) -> NoMemory {
+    fn from(_error: yd_firsts::NoMemory) -> NoMemory {
         NoMemory
     }
 }

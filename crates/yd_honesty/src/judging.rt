@@ -11,23 +11,25 @@ ghost use Rattle.yd_honesty.specs.Judging.{IsKept, IsList, AreEnds, AreHeld, IsA
 
 use crate::origins::origins_of;
 use crate::pasts::is_past;
-use crate::places::{Spot, place_of_some};
+use crate::places::{Spots, place_of_some};
 use yd_ids::{Id, Vector};
 use yd_order::Comparison;
 use yd_received::Received;
 
-/// The unit at a place of a list meets the edit rules.
+/// The first unit at a place of a list meets the edit rules.
 pub(crate) fn meets_rules(
     received: &Received,
     pasts: &[Vector],
     list: &Comparison,
-    spots: &[Spot],
+    lasts: &[Id],
+    spots: &Spots,
     ends: &[usize],
     at: usize,
 ) -> bool
     requires kept { IsKept received.now }
     requires pasts { ArePasts received.now pasts.now }
-    requires list { IsList received.now list.now.ids.items list.now.is_strict list.now.cells.items }
+    requires list { IsList received.now list.now.ids.items lasts.now list.now.is_strict
+        list.now.cells.items }
     requires held { AreHeld received.now list.now.ids.items }
     requires ends { AreEnds received.now list.now.ids.items ends.now 0 }
     requires inside { at < length list.now.ids.items }
@@ -36,8 +38,8 @@ pub(crate) fn meets_rules(
         → Decides result (MeetsRules (held_of received.now) o) }
 {
     let origins = origins_of(received, id_at(list, at));
-    let left = place_of_some(&list.ids, spots, origins.left);
-    let right = place_of_some(&list.ids, spots, origins.right);
+    let left = place_of_some(lasts, &spots.lasts, origins.left);
+    let right = place_of_some(&list.ids, &spots.firsts, origins.right);
     if is_apart(origins.left, origins.right, right) {
         return false;
     }
@@ -65,7 +67,8 @@ fn is_apart(left: Option<Id>, right: Option<Id>, place: Option<usize>) -> bool
 
 /// The two places are in order, where both are there.
 fn are_in_order(list: &Comparison, left: Option<usize>, right: Option<usize>) -> bool
-    requires { IsPlaced list.now.ids.items list.now.is_strict list.now.cells.items left right }
+    requires { IsPlaced list.now.ids.items list.now.is_strict list.now.cells.items
+        left right }
     ensures { result ≡ are_in_order list.now.is_strict list.now.cells.items
         (length list.now.ids.items) left right }
 {
@@ -95,7 +98,8 @@ fn is_parted(
     requires held { AreHeld received.now list.now.ids.items }
     requires ends { AreEnds received.now list.now.ids.items ends.now 0 }
     requires inside { at < length list.now.ids.items }
-    requires placed { IsPlaced list.now.ids.items list.now.is_strict list.now.cells.items left right }
+    requires placed { IsPlaced list.now.ids.items list.now.is_strict list.now.cells.items
+        left right }
     ensures { (x : IdSeen) → slice_get list.now.ids.items at ≡ Some x → Decides result
         (IsParted received.now list.now.ids.items list.now.is_strict list.now.cells.items x left right) }
 {
@@ -115,7 +119,8 @@ fn is_parted(
 
 /// The place stands behind the first one and in front of the other, where these are there.
 fn is_between(list: &Comparison, left: Option<usize>, place: usize, right: Option<usize>) -> bool
-    requires placed { IsPlaced list.now.ids.items list.now.is_strict list.now.cells.items left right }
+    requires placed { IsPlaced list.now.ids.items list.now.is_strict list.now.cells.items
+        left right }
     requires inside { place < length list.now.ids.items }
     ensures { result ≡ (is_behind list.now.is_strict list.now.cells.items
         (length list.now.ids.items) left place && is_ahead list.now.is_strict list.now.cells.items
@@ -126,7 +131,8 @@ fn is_between(list: &Comparison, left: Option<usize>, place: usize, right: Optio
 
 /// The place stands behind another, if there is one.
 fn is_behind(list: &Comparison, left: Option<usize>, place: usize) -> bool
-    requires placed { IsPlaced list.now.ids.items list.now.is_strict list.now.cells.items left None }
+    requires placed { IsPlaced list.now.ids.items list.now.is_strict list.now.cells.items
+        left None }
     requires inside { place < length list.now.ids.items }
     ensures { result ≡ is_behind list.now.is_strict list.now.cells.items
         (length list.now.ids.items) left place }
@@ -139,7 +145,8 @@ fn is_behind(list: &Comparison, left: Option<usize>, place: usize) -> bool
 
 /// The place stands in front of another, if there is one.
 fn is_ahead(list: &Comparison, place: usize, right: Option<usize>) -> bool
-    requires placed { IsPlaced list.now.ids.items list.now.is_strict list.now.cells.items None right }
+    requires placed { IsPlaced list.now.ids.items list.now.is_strict list.now.cells.items
+        None right }
     requires inside { place < length list.now.ids.items }
     ensures { result ≡ is_ahead list.now.is_strict list.now.cells.items
         (length list.now.ids.items) place right }

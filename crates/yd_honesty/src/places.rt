@@ -15,6 +15,15 @@ pub struct Spot {
     pub at: usize,
 }
 
+/// Where first and last units stand.
+#[derive(Drop)]
+pub struct Spots {
+    /// The places of the first units.
+    pub firsts: Vec<Spot>,
+    /// The places of the last units.
+    pub lasts: Vec<Spot>,
+}
+
 /// The places of the ids, in order of the ids. No clause rests on them: they are looked at first.
 pub(crate) fn spots_of(alloc: Global, ids: &[Id]) -> Result<Vec<Spot>, NoMemory> {
     let mut spots = Vec::new(alloc);

@@ -14,19 +14,21 @@ use crate::ends::ends_of;
 use crate::fault::NoMemory;
 use crate::judging::{id_at, meets_rules};
 use crate::pasts::pasts_of;
-use crate::places::{Spot, spots_of};
+use crate::places::{Spots, spots_of};
 use std::alloc::Global;
+use yd_firsts::compare_firsts;
 use yd_ids::{Id, Vector, is_smaller};
-use yd_order::{Comparison, Stretch, compare_stretches};
+use yd_order::{Comparison, Stretch};
 use yd_received::Received;
 use yd_state::{State, gathered};
 
 /// The smallest id of an operation that breaks the edit rules, among those that are held and not lost.
 /// There is none exactly where what is held is honest (own; the rules are those of YATA).
 ///
-/// Each list is put in order once, in the time and memory that `arrange` takes for it, and then its
-/// units are judged one by one. Beside that it takes memory with entries times clients. A unit costs the
-/// steps from its left to its right origin, where what is made on what is not of its past is one step.
+/// Each list is put in order once, in the time and memory that `compare_firsts` takes for it, and then
+/// the first units of its pieces are judged one by one. Beside that it takes memory with entries times
+/// clients. A piece costs the steps from its left to its right origin, where what is made on what is not
+/// of its past is one step.
 pub fn dishonest(alloc: Global, state: &State) -> Result<Option<Id>, NoMemory>
     ensures { IfOk result (λ found.
         found ≡ dishonest_of (held_set (received_in state.now).operations)) }
@@ -85,32 +87,38 @@ fn judge_list(
     ensures { (name : DocList) → AreOfList received.now name stretches.now
         → IfOk result (λ found. IsBestOf received.now name before found) }
 {
-    let list = compare_stretches(alloc, stretches)?;
-    let spots = spots_of(alloc, &list.ids)?;
-    let ends = ends_of(alloc, received, pasts, &list.ids)?;
-    let found = judge_units(received, pasts, &list, &spots, &ends, before);
+    let firsts = compare_firsts(alloc, stretches)?;
+    let spots = Spots {
+        firsts: spots_of(alloc, &firsts.list.ids)?,
+        lasts: spots_of(alloc, &firsts.lasts)?,
+    };
+    let ends = ends_of(alloc, received, pasts, &firsts.list.ids)?;
+    let list = &firsts.list;
+    let found = judge_units(received, pasts, list, &firsts.lasts, &spots, &ends, before);
     Ok(found)
 }
 
-/// So of the units of a list that is compared.
+/// So of the first units of a list that is compared.
 fn judge_units(
     received: &Received,
     pasts: &[Vector],
     list: &Comparison,
-    spots: &[Spot],
+    lasts: &[Id],
+    spots: &Spots,
     ends: &[usize],
     before: Option<Id>,
 ) -> Option<Id>
     requires kept { IsKept received.now }
     requires pasts { ArePasts received.now pasts.now }
-    requires list { IsList received.now list.now.ids.items list.now.is_strict list.now.cells.items }
+    requires list { IsList received.now list.now.ids.items lasts.now list.now.is_strict
+        list.now.cells.items }
     requires held { AreHeld received.now list.now.ids.items }
     requires ends { AreEnds received.now list.now.ids.items ends.now 0 }
     ensures { IsBest received.now list.now.ids.items (length list.now.ids.items) before result }
 {
     let mut found = before;
     for at in 0..list.ids.len() {
-        found = judge_unit(received, pasts, list, spots, ends, found, at);
+        found = judge_unit(received, pasts, list, lasts, spots, ends, found, at);
     }
     found
 }
@@ -120,14 +128,16 @@ fn judge_unit(
     received: &Received,
     pasts: &[Vector],
     list: &Comparison,
-    spots: &[Spot],
+    lasts: &[Id],
+    spots: &Spots,
     ends: &[usize],
     found: Option<Id>,
     at: usize,
 ) -> Option<Id>
     requires kept { IsKept received.now }
     requires pasts { ArePasts received.now pasts.now }
-    requires list { IsList received.now list.now.ids.items list.now.is_strict list.now.cells.items }
+    requires list { IsList received.now list.now.ids.items lasts.now list.now.is_strict
+        list.now.cells.items }
     requires held { AreHeld received.now list.now.ids.items }
     requires ends { AreEnds received.now list.now.ids.items ends.now 0 }
     requires inside { at < length list.now.ids.items }
@@ -138,7 +148,7 @@ fn judge_unit(
     if !is_better(found, id) {
         return found;
     }
-    if meets_rules(received, pasts, list, spots, ends, at) {
+    if meets_rules(received, pasts, list, lasts, spots, ends, at) {
         return found;
     }
     Some(id)

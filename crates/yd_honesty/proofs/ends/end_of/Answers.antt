@@ -1,4 +1,4 @@
-use Rattle.std.proofs.Common.{get_or, sym, ◌∙◌}
+use Rattle.std.proofs.Common.{sym, ◌∙◌}
 use Rattle.std.proofs.lemmas.Option.{slice_get-get_or}
 use Rattle.yd_honesty.proofs.EndsLemmas.{end_more}
 use Rattle.yd_honesty.proofs.EndingLemmas.{past_of_test}

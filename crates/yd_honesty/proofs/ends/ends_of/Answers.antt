@@ -1,6 +1,6 @@
-use Rattle.std.proofs.Common.{◌≡◌, ◌+◌, ℕ, subst, sym, refl, arith}
+use Rattle.std.proofs.Common.{subst, arith}
 use Rattle.yd_honesty.specs.Judging.{AreEnds}
-use Rattle.yd_honesty.proofs.EndsLemmas.{ends_none, ends_more}
+use Rattle.yd_honesty.proofs.EndsLemmas.{ends_more}
 use Rattle.yd_honesty.proofs.ends.ends_of.Goals as goal
 
 pub loop-at-preserved : goal.loop-at-preserved

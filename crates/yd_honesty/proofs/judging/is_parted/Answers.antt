@@ -1,9 +1,8 @@
-use Rattle.std.proofs.Common.{◌≡◌, ◌∙◌, true, false, refl, sym, ap, subst, arith, true≢false}
+use Rattle.std.proofs.Common.{◌≡◌, ◌∙◌, true, false, refl, sym, subst, arith, true≢false}
 use Rattle.yd_words.proofs.OptionLemmas.{some_is}
-use Rattle.yd_updates.specs.Received.{has_operation}
 use Rattle.yd_received.specs.Received.{held_of}
 use Rattle.yd_honesty.specs.Dishonest.{is_past}
-use Rattle.yd_honesty.proofs.PartedLemmas.{parts_none, parts_skip, parts_found, parts_all}
+use Rattle.yd_honesty.proofs.PartedLemmas.{parts_skip, parts_found, parts_all}
 use Rattle.yd_honesty.proofs.judging.is_parted.Goals as goal
 
 pub is_past-requires-clause-client : goal.is_past-requires-clause-client

@@ -1,4 +1,4 @@
-use Rattle.std.proofs.Common.{subst, sym, ◌∙◌, get_or}
+use Rattle.std.proofs.Common.{◌∙◌, get_or}
 use Rattle.std.proofs.lemmas.Option.{slice_get-get_or}
 use Rattle.yd_received.specs.Entries.{is_listed}
 use Rattle.yd_received.proofs.EntryLemmas.{no_entry}

@@ -1,4 +1,3 @@
-use Rattle.std.proofs.Common.{◌≤◌, length}
 use Rattle.yd_honesty.specs.Judging.{IsBestOfAll}
 use Rattle.yd_honesty.proofs.smallest.dishonest.Given as goal
 

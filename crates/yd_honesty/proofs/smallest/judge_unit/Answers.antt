@@ -15,6 +15,6 @@ returns-then-meets_rules c old best = best_same c.args.received.now c.args.list.
 pub returns : goal.returns
 returns c old best = best_more c.args.received.now c.args.list.now.ids.items old c.args.at c.args.found c.id_at-id.result c.id_at-id.ensures best
     (sym c.is_better.ensures ∙ c.if-not-is_better.false)
-    (let (o, i, f) = operation_with _ c.id_at-id.result (id_is_listed c.args.received.now c.requires.kept c.args.list.now.ids.items c.args.list.now.is_strict
+    (let (o, i, f) = operation_with _ c.id_at-id.result (id_is_listed c.args.received.now c.requires.kept c.args.list.now.ids.items c.args.lasts.now c.args.list.now.is_strict
     c.args.list.now.cells.items c.requires.list c.args.at c.id_at-id.result c.id_at-id.ensures) in
     record { one = o; there = i; id = f; broken = λ meets. true≢false (sym ((c.meets_rules.ensures o i (c.id_at-id.ensures ∙ ap (λ z. Some z) (sym f))).1 meets) ∙ c.if-meets_rules.false) })
