@@ -1,0 +1,221 @@
+//! The cases.
+
+use crate::step::Case;
+use crate::step::Step::{self, Add, Delete, Deleted, Gone, Lost, Mark, Put, Split};
+
+/// Three runs at the front: `B` and `A` have no origins, and `C` stands before `B`.
+const B: Step = Put(0, (0, 0), None, None, "B");
+
+const A: Step = Put(0, (1, 0), None, None, "A");
+
+const C: Step = Put(0, (3, 0), None, Some((0, 0)), "C");
+
+/// A run of three units, and two runs of two units each, both between its first and second.
+const ABC: Step = Put(0, (1, 0), None, None, "abc");
+
+const XY: Step = Put(0, (2, 0), Some((1, 0)), Some((1, 1)), "xy");
+
+const UV: Step = Put(0, (3, 0), Some((1, 0)), Some((1, 1)), "uv");
+
+/// Runs without origins.
+const A1: Step = Put(0, (1, 0), None, None, "a");
+
+const N2: Step = Put(0, (2, 0), None, None, "n");
+
+const R0: Step = Put(0, (0, 0), None, None, "r");
+
+const R9: Step = Put(0, (9, 0), None, None, "r");
+
+/// What stands behind the first of them.
+const B_BEHIND_A: Step = Put(0, (1, 1), Some((1, 0)), None, "b");
+
+/// Runs of client 5 before those of client 0 and of client 9.
+const X_BEFORE_R0: Step = Put(0, (5, 0), None, Some((0, 0)), "x");
+
+const X_BEFORE_R9: Step = Put(0, (5, 0), None, Some((9, 0)), "x");
+
+/// A case in which no id is asked.
+macro_rules! case {
+    ($name:expr, $($step:expr),+ $(,)?) => {
+        Case { name: $name, steps: &[$($step),+], ids: &[] }
+    };
+}
+
+/// The cases in which runs are cut, and those in which nothing is scanned.
+pub const CUTS: [Case; 18] = [
+    Case {
+        name: "a run is split at 2 and at 4",
+        steps: &[
+            Put(0, (1, 0), None, None, "abcdef"),
+            Split((1, 2)),
+            Split((1, 4)),
+        ],
+        ids: &[(1, 1), (1, 2), (1, 5), (1, 6)],
+    },
+    case!(
+        "a deleted run is split at 2 and at 4",
+        Put(0, (1, 0), None, None, "abcdef"),
+        Delete((1, 0), 6),
+        Split((1, 2)),
+        Split((1, 4)),
+    ),
+    case!(
+        "a span within a run is deleted",
+        Put(0, (1, 0), None, None, "abcdef"),
+        Delete((1, 2), 2),
+    ),
+    case!(
+        "a span over the borders of runs is marked",
+        Put(0, (1, 0), None, None, "abcdef"),
+        Split((1, 2)),
+        Split((1, 4)),
+        Mark((1, 1), 4),
+    ),
+    case!(
+        "a run goes into the middle of another",
+        Put(0, (1, 0), None, None, "abcdef"),
+        Put(0, (2, 0), Some((1, 2)), Some((1, 3)), "xy"),
+    ),
+    case!("two runs part one, the smaller client first", ABC, XY, UV),
+    case!("two runs part one, the greater client first", ABC, UV, XY),
+    case!(
+        "the units behind the left origin are passed",
+        ABC,
+        Put(0, (2, 0), Some((1, 0)), None, "x"),
+    ),
+    case!(
+        "the units behind the left origin are not passed",
+        ABC,
+        Put(0, (0, 0), Some((1, 0)), None, "x"),
+    ),
+    case!(
+        "a right origin before the left one is never met",
+        Put(0, (1, 0), None, None, "ab"),
+        Put(0, (2, 0), Some((1, 1)), Some((1, 0)), "x"),
+    ),
+    Case {
+        name: "a right origin in another list is absent",
+        steps: &[
+            A1,
+            Put(1, (3, 0), None, None, "z"),
+            Put(0, (2, 0), None, Some((3, 0)), "n"),
+        ],
+        ids: &[(2, 0), (3, 0)],
+    },
+    case!(
+        "a left origin in another list is none of this one",
+        A1,
+        Put(1, (2, 0), Some((1, 0)), None, "z"),
+    ),
+    Case {
+        name: "units between are gone",
+        steps: &[
+            A1,
+            Gone((1, 1), 2),
+            Put(0, (1, 3), Some((1, 0)), None, "b"),
+            Split((1, 2)),
+        ],
+        ids: &[(1, 0), (1, 1), (1, 2), (1, 3), (1, 4)],
+    },
+    Case {
+        name: "a span over gone units is deleted",
+        steps: &[
+            A1,
+            Gone((1, 1), 2),
+            Put(0, (1, 3), Some((1, 0)), None, "bc"),
+            Delete((1, 0), 4),
+        ],
+        ids: &[(1, 3), (1, 4)],
+    },
+    Case {
+        name: "a run behind a gone unit is in no list",
+        steps: &[A1, Gone((1, 1), 1), Put(0, (2, 0), Some((1, 1)), None, "n")],
+        ids: &[(2, 0)],
+    },
+    Case {
+        name: "units between are lost",
+        steps: &[
+            A1,
+            Lost((2, 0), "xy"),
+            Put(0, (2, 2), None, None, "n"),
+            Split((2, 1)),
+        ],
+        ids: &[(2, 0), (2, 1), (2, 2), (2, 3)],
+    },
+    case!(
+        "units between are known by their neighbours",
+        A1,
+        Deleted((1, 1), Some((1, 0)), 2),
+        Put(0, (1, 3), Some((1, 2)), None, "c"),
+        Delete((1, 2), 1),
+    ),
+    case!(
+        "a run is added in room that was taken",
+        Add((1, 0), "a"),
+        Add((2, 0), "bc"),
+        Mark((2, 0), 1),
+    ),
+];
+
+/// The cases of the scan.
+pub const SCANS: [Case; 18] = [
+    case!("both left origins are absent, a first", A1, N2),
+    case!("both left origins are absent, n first", N2, A1),
+    case!("three at the front, B A C", B, A, C),
+    case!("three at the front, B C A", B, C, A),
+    case!("three at the front, A B C", A, B, C),
+    case!("three at the front, A C B", A, C, B),
+    case!("three at the front, C A B", C, A, B),
+    case!("three at the front, C B A", C, B, A),
+    case!(
+        "a client is not smaller than itself",
+        A1,
+        Put(0, (1, 1), None, None, "b"),
+    ),
+    case!(
+        "and with another right origin it is gone by",
+        R0,
+        Put(0, (2, 0), None, Some((0, 0)), "m"),
+        Put(0, (2, 1), None, None, "n"),
+    ),
+    case!(
+        "a greater client with another right origin does not move the place",
+        R9,
+        X_BEFORE_R9,
+        N2,
+    ),
+    case!("and the scan goes on behind it", R0, X_BEFORE_R0, N2),
+    case!("a run is passed with its left origin", A1, B_BEHIND_A, N2,),
+    case!(
+        "a run is not passed where its left origin is not",
+        R9,
+        X_BEFORE_R9,
+        Put(0, (5, 1), Some((5, 0)), Some((9, 0)), "y"),
+        N2,
+    ),
+    case!(
+        "and the scan goes on behind both",
+        R0,
+        X_BEFORE_R0,
+        Put(0, (5, 1), Some((5, 0)), Some((0, 0)), "y"),
+        N2,
+    ),
+    case!(
+        "a left origin before the scan ends it",
+        A1,
+        B_BEHIND_A,
+        Put(0, (3, 0), Some((1, 0)), None, "m"),
+        Put(0, (2, 0), Some((1, 1)), None, "n"),
+    ),
+    case!(
+        "the right origin ends the scan before all else",
+        R0,
+        Put(0, (2, 0), None, Some((0, 0)), "n"),
+    ),
+    case!(
+        "a deleted run is scanned as others are",
+        A1,
+        Delete((1, 0), 1),
+        N2
+    ),
+];
