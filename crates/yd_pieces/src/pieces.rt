@@ -73,7 +73,7 @@ impl<T: Drop> Pieces<T> {
     /// Where the elements that pass end: how many stand before the first that does not, where those
     /// that pass stand before the others. Otherwise it is some place where one passes in front of
     /// it, and one behind it does not. It is a bisection over pieces and then in one, and a sum over
-    /// the pieces before it.
+    /// the pieces before it, if it is not in the last one.
     pub fn partition_point<P: Test<T>>(&self, test: &P) -> usize
         ensures bound { result ≤ length self.now.items }
         ensures boundary { IsBoundary (P.passes test.now) self.now.items result }
@@ -81,7 +81,8 @@ impl<T: Drop> Pieces<T> {
             IsPartitionPoint (λ y. P.passes test.now y ≡ true)
             (λ y. P.passes test.now y ≡ false) self.now.items result }
     {
-        point(&self.pieces, &self.last, test)
+        let before = self.len - self.last.len();
+        point(&self.pieces, &self.last, before, test)
     }
 
     /// The elements from a place on that lie together in memory, one or more. So a list is read

@@ -72,15 +72,30 @@ fn len_before<T>(pieces: &[Vec<T>], end: usize) -> usize
     sum
 }
 
-/// A place of the whole between elements that pass and those that do not.
-pub fn point<T, P: Test<T>>(pieces: &[Vec<T>], last: &[T], test: &P) -> usize
+/// The same, where all pieces are known to have so many: then the end of all takes no sum.
+fn start_of<T>(pieces: &[Vec<T>], all: usize, end: usize) -> usize
+    requires end { end ≤ length pieces.now }
+    requires all { all ≡ length (joined pieces.now) }
+    requires fits { length (joined pieces.now) < 2 ^ 64 }
+    ensures { result ≡ length (joined (take end pieces.now)) }
+{
+    if end == pieces.len() {
+        return all;
+    }
+    len_before(pieces, end)
+}
+
+/// A place of the whole between elements that pass and those that do not. So many stand before the
+/// last piece.
+pub fn point<T, P: Test<T>>(pieces: &[Vec<T>], last: &[T], before: usize, test: &P) -> usize
     requires filled { All IsFilled pieces.now }
+    requires before { before ≡ length (joined pieces.now) }
     requires fits { length (joined pieces.now ++ last.now) < 2 ^ 64 }
     ensures bound { result ≤ length (joined pieces.now ++ last.now) }
     ensures boundary { IsBoundary (P.passes test.now) (joined pieces.now ++ last.now) result }
 {
     let i = pieces_passed(pieces, test);
-    let start = len_before(pieces, i);
+    let start = start_of(pieces, before, i);
     if i < pieces.len() {
         return start + items_passed(&pieces[i], test);
     }

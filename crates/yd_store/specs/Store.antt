@@ -44,6 +44,13 @@ pub record IsKept (old new : Stored) : Type 0 where
   pub live : new.marks.live ≡ old.marks.live
   pub runs : told_of new.contents ≡ told_of old.contents
 
+-- the three parts are as before but for their room
+pub record KeepsParts (placed : Placed) (marks : Marked) (contents : Contented) (more : Placed) (noted : Marked) (held : Contented) : Type 0 where
+  pub arena : IsSame placed more
+  pub rows : noted.rows ≡ marks.rows
+  pub live : noted.live ≡ marks.live
+  pub runs : held.rows ≡ contents.rows
+
 -- the run of a unit is cut in front of it, with its mark and what it holds
 pub record SplitsAt (old new : Stored) (id : Id) : Type 0 where
   pub cuts : CutsAt old.placed new.placed id

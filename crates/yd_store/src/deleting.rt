@@ -10,8 +10,8 @@ use yd_ids::{Id, Span};
 use yd_ops::NoMemory;
 
 impl Store {
-    /// Marks just the units of a span as deleted, all of which are held. Runs are cut at its ends first.
-    /// Where it finds no memory, no unit is marked.
+    /// Marks just the units of a span as deleted, all of which are held. Runs are cut at its ends
+    /// first. Where it finds no memory, no unit is marked.
     pub fn delete(&mut self, span: Span) -> Result<(), NoMemory>
         requires held { span.clock + span.len ≤ next_clock self.old.placed span.client.0 }
         ensures done { OnOk result (DeletesUnits self.old self.new span) }

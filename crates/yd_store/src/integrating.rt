@@ -15,10 +15,10 @@ use yd_ops::{NoMemory, Run};
 const LAST_CLOCK: u64 = 9007199254740991;
 
 impl Store {
-    /// Adds the next run of its client to a list, live, where the integration scan puts it. Its left
-    /// origin is absent or stands in the list. Runs are cut first: behind its left origin, and in front
-    /// of its right one, if that is held. Its place is answered. Where it finds no memory, the run
-    /// comes back, and no unit has changed.
+    /// Adds the next run of its client to a list, live, where the integration scan puts it. Its
+    /// left origin is absent or stands in the list. Runs are cut first: behind its left origin, and
+    /// in front of its right one, if that is held. Its place is answered. Where it finds no memory,
+    /// the run comes back, and no unit has changed.
     pub fn integrate(&mut self, run: Run, list: usize) -> Result<usize, Unplaced>
         requires list { list < count_of self.old.placed }
         requires ready { IsReady self.old list (run_value run) }
@@ -37,8 +37,8 @@ impl Store {
         self.add_run(run, list, after)
     }
 
-    /// Whether a run can go into a list: it is not empty, its clocks are the next ones of its client,
-    /// and its left origin is absent or stands in the list.
+    /// Whether a run can go into a list: it is not empty, its clocks are the next ones of its
+    /// client, and its left origin is absent or stands in the list.
     pub fn can_integrate(&self, run: &Run, list: usize) -> bool
         requires { list < count_of self.now.placed }
         ensures ready { result ≡ true → IsReady self.now list (run_value run.now) }

@@ -1,8 +1,9 @@
 //! Changes of all parts of a store together.
 
-ghost use Rattle.std.specs.Prelude.{◌≡◌, ◌<◌, ◌≤◌, ◌++◌, ◌∷◌, [], ℕ, length, take, IfSome, IfNone, IfOk, OnOk, OnErr, IsOk};
+ghost use Rattle.std.specs.Prelude.{◌≡◌, ◌<◌, ◌≤◌, ◌++◌, ◌∷◌, [], ℕ, length, take, IfSome, IfNone, IfOk, OnOk, OnErr, IsOk, min};
 ghost use Rattle.yd_arena.specs.Lists.{AreLists};
-ghost use Rattle.yd_arena.specs.Arena.{runs_of, room_for, count_of, next_clock, IsArena, IsSame, HasUnit};
+ghost use Rattle.yd_arena.specs.Arena.{runs_of, room_for, count_of, next_clock, IsArena, HasUnit};
+ghost use Rattle.yd_store.specs.Store.{KeepsParts};
 
 use crate::contents::Contents;
 use std::alloc::AllocError;
@@ -18,16 +19,12 @@ pub fn reserve_parts(
     client: Client,
     more: usize,
 ) -> Result<(), AllocError>
-    ensures arena { IsSame arena.old arena.new }
-    ensures rows { marks.new.rows ≡ marks.old.rows }
-    ensures live { marks.new.live ≡ marks.old.live }
-    ensures contents { contents.new.rows ≡ contents.old.rows }
+    ensures kept { KeepsParts arena.old marks.old contents.old arena.new marks.new contents.new }
     ensures rooms { (k : ℕ) → room_for arena.old k ≤ room_for arena.new k }
     ensures marks_kept { marks.old.room ≤ marks.new.room }
     ensures contents_kept { contents.old.room ≤ contents.new.room }
-    ensures arena_room { OnOk result (more ≤ room_for arena.new client.0) }
-    ensures marks_room { OnOk result (more ≤ marks.new.room) }
-    ensures contents_room { OnOk result (more ≤ contents.new.room) }
+    ensures room { OnOk result (more ≤
+        min (room_for arena.new client.0) (min marks.new.room contents.new.room)) }
     ensures lists { AreLists arena.old.linked }
     ensures succeeds { 0 < more → more ≤ room_for arena.old client.0 → more ≤ marks.old.room →
         more ≤ contents.old.room → IsOk result }

@@ -30,9 +30,9 @@ use yd_scan::Stretch;
 /// The runs that are held, at places: in lists by their numbers, or in none where they are gone or
 /// lost. Each has a mark of deletion and, unless it is gone, what it holds.
 ///
-/// Contracts see its three parts: `placed`, the runs as the order sees them with their lists and their
-/// index, `marks`, and `contents`. Where a call speaks of spare, that is how many more runs of a client
-/// cannot fail.
+/// Contracts see its three parts: `placed`, the runs as the order sees them with their lists and
+/// their index, `marks`, and `contents`. Where a call speaks of spare, that is how many more runs
+/// of a client cannot fail.
 #[derive(Drop)]
 pub struct Store {
     arena: Arena,
@@ -77,10 +77,11 @@ impl Store {
         self.arena.next_clock(client)
     }
 
-    /// The place of the run with a unit, and how many of its units stand before it. None is just from
-    /// the client's next clock on.
+    /// The place of the run with a unit, and how many of its units stand before it. None is just
+    /// from the client's next clock on.
     pub fn find(&self, id: Id) -> Option<Found>
-        ensures found { IfSome result (λ at. HasUnit (runs_of self.now.placed) at.place at.before id) }
+        ensures found { IfSome result (λ at.
+            HasUnit (runs_of self.now.placed) at.place at.before id) }
         ensures missing { IfNone result (next_clock self.now.placed id.client.0 ≤ id.clock) }
     {
         self.arena.find(id)
@@ -134,7 +135,8 @@ impl Store {
     pub fn next(&self, place: usize) -> Option<usize>
         requires { place < length (runs_of self.now.placed) }
         ensures loose { IsLoose self.now.placed.linked place → result ≡ None }
-        ensures value { (k : ℕ) → k < count_of self.now.placed → IsIn place (places_in self.now.placed k) →
+        ensures value { (k : ℕ) → k < count_of self.now.placed →
+            IsIn place (places_in self.now.placed k) →
             result ≡ first_of (behind (Some place) (places_in self.now.placed k)) }
     {
         self.arena.lists().next(place)
@@ -144,7 +146,8 @@ impl Store {
     pub fn prev(&self, place: usize) -> Option<usize>
         requires { place < length (runs_of self.now.placed) }
         ensures loose { IsLoose self.now.placed.linked place → result ≡ None }
-        ensures value { (k : ℕ) → k < count_of self.now.placed → IsIn place (places_in self.now.placed k) →
+        ensures value { (k : ℕ) → k < count_of self.now.placed →
+            IsIn place (places_in self.now.placed k) →
             result ≡ last_of (before place (places_in self.now.placed k)) }
     {
         self.arena.lists().prev(place)
@@ -191,7 +194,8 @@ impl Store {
         ensures lists { OnOk result (self.new.placed.linked.lists ≡
             self.old.placed.linked.lists ++ [] ∷ []) }
         ensures live { OnOk result (self.new.marks.live ≡ self.old.marks.live ++ 0 ∷ []) }
-        ensures unchanged { OnErr result (self.new.placed.linked.lists ≡ self.old.placed.linked.lists) }
+        ensures unchanged { OnErr result (self.new.placed.linked.lists ≡
+            self.old.placed.linked.lists) }
         ensures runs { runs_of self.new.placed ≡ runs_of self.old.placed }
         ensures lines { self.new.placed.lines ≡ self.old.placed.lines }
         ensures rows { self.new.marks.rows ≡ self.old.marks.rows }
@@ -218,8 +222,8 @@ impl Store {
         Ok(())
     }
 
-    /// Lets a run begin with a unit that is held: the run that has it is cut in front of it, if it is
-    /// not its first. The place of the run is answered. Nothing is said of spare after it.
+    /// Lets a run begin with a unit that is held: the run that has it is cut in front of it, if it
+    /// is not its first. The place of the run is answered. Nothing is said of spare after it.
     pub fn split(&mut self, id: Id) -> Result<usize, NoMemory>
         requires held { id.clock < next_clock self.old.placed id.client.0 }
         ensures begins { IfOk result (λ place. HasUnit (runs_of self.new.placed) place 0 id) }
@@ -241,10 +245,11 @@ impl Store {
         Ok(place)
     }
 
-    /// Adds the next run of its client to a list, live, where the integration scan of its first unit
-    /// puts it. Its left origin ends the run at `after`, or is absent at the front, and its right origin
-    /// begins a run, if it stands in the list. Its place is answered. While the client has spare, this
-    /// takes no memory; where it finds none, the run comes back, and nothing has changed.
+    /// Adds the next run of its client to a list, live, where the integration scan of its first
+    /// unit puts it. Its left origin ends the run at `after`, or is absent at the front, and its
+    /// right origin begins a run, if it stands in the list. Its place is answered. While the client
+    /// has spare, this takes no memory; where it finds none, the run comes back, and nothing has
+    /// changed.
     pub fn add_run(
         &mut self,
         run: Run,
@@ -254,7 +259,8 @@ impl Store {
         requires list { list < count_of self.old.placed }
         requires after { IfSome after (λ p. IsIn p (places_in self.old.placed list)) }
         requires left { EndsLeft (runs_of self.old.placed) run.left after }
-        requires right { IsNoLater (runs_of self.old.placed) (places_in self.old.placed list) run.right }
+        requires right { IsNoLater (runs_of self.old.placed)
+            (places_in self.old.placed list) run.right }
         requires next { run.id.clock ≡ next_clock self.old.placed run.id.client.0 }
         requires filled { 0 < len_of (content_value run.content) }
         requires fits { IsClock (run.id.clock + len_of (content_value run.content)) }
@@ -297,8 +303,9 @@ impl Store {
         Ok(place)
     }
 
-    /// Adds units of which only the ids are known, the next ones of their client, in no list. They are
-    /// deleted. The place of their run is answered. While the client has spare, this takes no memory.
+    /// Adds units of which only the ids are known, the next ones of their client, in no list. They
+    /// are deleted. The place of their run is answered. While the client has spare, this takes no
+    /// memory.
     pub fn add_gone(&mut self, span: Span) -> Result<usize, NoMemory>
         requires next { span.clock ≡ next_clock self.old.placed span.client.0 }
         requires filled { 0 < span.len }
@@ -331,9 +338,9 @@ impl Store {
         Ok(place)
     }
 
-    /// Adds the next run of its client in no list, as one whose units are lost. They are deleted. Its
-    /// place is answered. While the client has spare, this takes no memory; where it finds none, the
-    /// run comes back, and nothing has changed.
+    /// Adds the next run of its client in no list, as one whose units are lost. They are deleted.
+    /// Its place is answered. While the client has spare, this takes no memory; where it finds
+    /// none, the run comes back, and nothing has changed.
     pub fn add_lost(&mut self, run: Run) -> Result<usize, Unplaced>
         requires next { run.id.clock ≡ next_clock self.old.placed run.id.client.0 }
         requires filled { 0 < len_of (content_value run.content) }
