@@ -1,0 +1,6 @@
+pub mod ConvergeLemmas
+pub mod DeletedCountLemmas
+pub mod DistinctLemmas
+pub mod HeldCountLemmas
+pub mod ListCountLemmas
+pub mod ReceivingLemmas

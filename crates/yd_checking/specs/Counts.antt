@@ -1,0 +1,51 @@
+-- How much of what is received is held, waits and is deleted, as numbers (own).
+use Rattle.std.specs.Prelude.{ℕ, Bool, List, [], ◌∷◌, length, nat_lt, if◌then◌else◌}
+use Rattle.yd_ids.specs.declared.id.Client.{Client}
+use Rattle.yd_ops.specs.declared.lists.List.{List as DocList}
+use Rattle.yd_ops.specs.Operation.{Operation}
+use Rattle.yd_updates.specs.Received.{Received}
+use Rattle.yd_grouping.specs.Disagreement.{some_passes}
+use Rattle.yd_meaning.specs.Collected.{held_count, deleted_count}
+use Rattle.yd_meaning.specs.Document.{Document}
+use Rattle.yd_meaning.specs.Held.{held_set, standing, waiting_counts}
+use Rattle.yd_meaning.specs.Names.{same_list}
+use Rattle.yd_meaning.specs.Order.{list_of}
+use Rattle.yd_checking.specs.declared.counts.Counts.{Counts}
+
+-- ---- lists
+
+-- lists with one more, if it is not one of them
+abbrev pub with_list : DocList → List DocList → List DocList
+with_list list lists = if some_passes (same_list list) lists then lists else list ∷ lists
+
+-- the lists of some operations that stand, each once
+abbrev pub lists_among : List Operation → List Operation → List DocList
+lists_among stands [] = []
+lists_among stands (o ∷ os) = with_list (list_of stands o.id) (lists_among stands os)
+
+-- how many lists have a held operation that stands; what is lost is in no list
+abbrev pub list_count : Received → ℕ
+list_count r = length (lists_among (standing (held_set r.operations)) (standing (held_set r.operations)))
+
+-- ---- all numbers
+
+-- how many operations are held, how many wait, how many deleted ids wait, how many held operations are deleted, and how many
+-- lists there are
+abbrev pub counts_of : Received → Counts
+counts_of r = record {
+  held = held_count r;
+  waiting = (waiting_counts r).structs;
+  waiting_deletes = (waiting_counts r).deletes;
+  deleted = deleted_count r;
+  lists = list_count r;
+}
+
+-- ---- what the code adds up
+
+-- the clock that an entry of a state vector has
+abbrev pub clock_reached : Client × ℕ → ℕ
+clock_reached entry = entry.1
+
+-- whether a list of the document has an operation
+abbrev pub is_used : Document → DocList → Bool
+is_used document list = nat_lt 0 (length (document.units list))

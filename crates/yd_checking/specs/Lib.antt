@@ -1,0 +1,4 @@
+pub mod Counts
+pub mod Example
+pub mod Findings
+pub mod Law

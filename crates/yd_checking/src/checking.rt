@@ -1,0 +1,60 @@
+//! What is told of updates.
+
+ghost use Rattle.std.specs.Prelude.{◌≡◌, map, IfOk};
+ghost use Rattle.yd_words.specs.Each.{Each};
+ghost use Rattle.yd_ops.specs.Valid.{IsValidUpdate};
+ghost use Rattle.yd_ops.specs.View.{update_value};
+ghost use Rattle.yd_updates.specs.Received.{received_set};
+ghost use Rattle.yd_state.specs.State.{received_in};
+ghost use Rattle.yd_checking.specs.Findings.{findings_of};
+
+use crate::counts::{Counts, count};
+use crate::fault::NoMemory;
+use std::alloc::Global;
+use yd_agreement::disagree;
+use yd_honesty::dishonest;
+use yd_ids::Id;
+use yd_ops::Update;
+use yd_state::State;
+
+/// What was found of updates.
+#[derive(Clone, Copy, Debug, PartialEq, Eq)]
+pub struct Findings {
+    /// How much of them is held, waits and is deleted.
+    pub counts: Counts,
+    /// The smallest id on which they disagree, if they do.
+    pub disagreement: Option<Id>,
+    /// The smallest id of a held unit that breaks the edit rules, if one does.
+    pub dishonest: Option<Id>,
+}
+
+/// Receives updates in their order, and tells how much is held, waits and is deleted, and whether
+/// they agree and keep the edit rules (own). Updates that do not agree are counted as they were
+/// received: of an id the first operation stays unless another one says less. It takes the time and
+/// memory of receiving the updates, of `disagree` and of `dishonest`.
+pub fn check(alloc: Global, updates: &[Update]) -> Result<Findings, NoMemory>
+    requires { Each IsValidUpdate (map update_value updates.now) }
+    ensures { IfOk result (λ found. found ≡ findings_of (map update_value updates.now)) }
+{
+    let state = received(alloc, updates)?;
+    let disagreement = disagree(alloc, updates)?;
+    let breach = dishonest(alloc, &state)?;
+    Ok(Findings {
+        counts: count(&state),
+        disagreement,
+        dishonest: breach,
+    })
+}
+
+/// The state that received the updates.
+fn received(alloc: Global, updates: &[Update]) -> Result<State, NoMemory>
+    requires { Each IsValidUpdate (map update_value updates.now) }
+    ensures { IfOk result (λ state.
+        received_in state ≡ received_set (map update_value updates.now)) }
+{
+    let mut state = State::new(alloc);
+    for update in updates {
+        state.take(update)?;
+    }
+    Ok(state)
+}
