@@ -34,7 +34,9 @@ pub record IsCarriedOut (hub : HubState) (result : Settled) : Type 0 where
 
 -- so it is, where there is at most one close, and sends to open sessions
 abbrev pub ActionsAreCarriedOut : Type 0
-ActionsAreCarriedOut = (write : Writing) (reason : Reasons) (hub : HubState) (actions : List ActionValue) (fails : List Bool) → IsOrder hub.sessions actions → IsCarriedOut hub (carried_out write reason hub actions fails)
+ActionsAreCarriedOut = (write : Writing) (reason : Reasons) (hub : HubState)
+    (actions : List ActionValue) (fails : List Bool) → IsOrder hub.sessions actions →
+    IsCarriedOut hub (carried_out write reason hub actions fails)
 
 -- what the board was told says all of it: with these outcomes of the sends, and whatever outcomes behind them, it comes out the
 -- same; and actions may be carried out in two parts
@@ -53,10 +55,15 @@ pub record ToldSaysAll : Type 0 where
 -- a hub that serves is where the list of its events leaves it: those of the board, and Closed of the sessions that failed, each
 -- behind the event in which it failed
 pub record ServingIsARun : Type 0 where
-  pub state : (read : Reading) (write : Writing) (reason : Reasons) (hub : HubState) (turns : List Turn) → hub_served read write reason hub turns ≡ hub_after_all read hub (events_served read write reason hub turns)
-  pub received : (read : Reading) (write : Writing) (reason : Reasons) (hub : HubState) (turns : List Turn) →
-      (hub_served read write reason hub turns).received ≡ received_more hub.received (updates_taken read hub (events_served read write reason hub turns))
-  pub turn : (read : Reading) (write : Writing) (reason : Reasons) (hub : HubState) (turn : Turn) → IsCarriedOut (hub_after read hub turn.event) (turn_after read write reason hub turn)
+  pub state : (read : Reading) (write : Writing) (reason : Reasons) (hub : HubState)
+      (turns : List Turn) → hub_served read write reason hub turns
+      ≡ hub_after_all read hub (events_served read write reason hub turns)
+  pub received : (read : Reading) (write : Writing) (reason : Reasons) (hub : HubState)
+      (turns : List Turn) → (hub_served read write reason hub turns).received
+      ≡ received_more hub.received
+      (updates_taken read hub (events_served read write reason hub turns))
+  pub turn : (read : Reading) (write : Writing) (reason : Reasons) (hub : HubState) (turn : Turn) →
+      IsCarriedOut (hub_after read hub turn.event) (turn_after read write reason hub turn)
 
 -- a peer that comes in step is where the list of its events leaves it, and takes at most so many events of the board
 pub record SyncIsARun : Type 0 where

@@ -1,5 +1,5 @@
 -- Actions as they lie in memory, where a message to several sessions is there once.
-use Rattle.std.specs.Prelude.{List, [], ◌∷◌, ◌++◌}
+use Rattle.std.specs.Prelude.{List, [], ◌∷◌, ◌++◌, ◌<◌, vec_len, vec_capacity}
 use Rattle.yd_words.specs.Each.{Each}
 use Rattle.yd_sync.specs.Message.{IsValidMessage, message_value}
 use Rattle.yd_hub.specs.declared.action.Action.{Action}
@@ -33,3 +33,7 @@ IsSendable (Close to cause) = Unit {0}
 -- so is each of a list
 abbrev pub AreSendable : ActionList → Type 0
 AreSendable list = Each IsSendable (actions_in list)
+
+-- there is room for one action more
+abbrev pub HasRoom : ActionList → Type 0
+HasRoom list = vec_len list.actions < vec_capacity list.actions

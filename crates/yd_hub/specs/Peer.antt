@@ -1,4 +1,6 @@
--- The peer: what is received, who is there, and how far its exchange with a hub came; what an event changes, and what it answers (y-websocket's client; that old states end at a tick, and the two marks, are own).
+-- The peer: what is received, who is there, and how far its exchange with a hub came; what an event
+-- changes, and what it answers (y-websocket's client; that old states end at a tick, and the two
+-- marks, are own).
 use Rattle.std.specs.Prelude.{ℕ, ◌-◌, ◌^◌, Bool, true, false, ◌&&◌, ◌||◌, List, [], ◌∷◌, ◌++◌, Option, Some, None, Result, Ok, Err, if◌then◌else◌, is_some, nat_le}
 use Rattle.yd_ids.specs.declared.id.Client.{Client}
 use Rattle.yd_ops.specs.Value.{UpdateValue}

@@ -11,12 +11,18 @@ use Rattle.yd_hub.specs.Answers.{Answers, AreAnswersOf}
 use Rattle.yd_hub.specs.HubLaw.{Reading}
 use Rattle.yd_hub.specs.Peer.{PeerEventValue, PeerState, has_heard, is_step1, is_step2, peer_after, peer_after_all, peer_updates, received}
 
--- after any list of events a peer has received what it had and the updates of each Step2, Change and edit; and its marks tell
--- which messages came
+-- after any list of events a peer has received what it had and the updates of each Step2, Change
+-- and edit; and its marks tell which messages came
 pub record PeerReceives : Type 0 where
-  pub received : (read : Reading) (peer : PeerState) (events : List PeerEventValue) → (peer_after_all read peer events).received ≡ received_more peer.received (peer_updates read events)
-  pub taken_step2 : (read : Reading) (peer : PeerState) (events : List PeerEventValue) → peer.taken_step2 ≡ false → (peer_after_all read peer events).taken_step2 ≡ has_heard is_step2 read events
-  pub answered_step1 : (read : Reading) (peer : PeerState) (events : List PeerEventValue) → peer.answered_step1 ≡ false → (peer_after_all read peer events).answered_step1 ≡ has_heard is_step1 read events
+  pub received : (read : Reading) (peer : PeerState) (events : List PeerEventValue) →
+      (peer_after_all read peer events).received
+      ≡ received_more peer.received (peer_updates read events)
+  pub taken_step2 : (read : Reading) (peer : PeerState) (events : List PeerEventValue) →
+      peer.taken_step2 ≡ false →
+      (peer_after_all read peer events).taken_step2 ≡ has_heard is_step2 read events
+  pub answered_step1 : (read : Reading) (peer : PeerState) (events : List PeerEventValue) →
+      peer.answered_step1 ≡ false →
+      (peer_after_all read peer events).answered_step1 ≡ has_heard is_step1 read events
 
 -- a Step2 that answered this peer's Step1, taken after whatever else, leaves it with each id and each deletion that the other
 -- had when it answered, and with nothing of what was sent spelled fuller

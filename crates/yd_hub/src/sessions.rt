@@ -27,8 +27,8 @@ impl Model for Sessions {
 }
 
 impl Sessions {
-    /// No session.
-    pub(crate) fn new(alloc: Global) -> Sessions
+    /// No session. It takes no memory.
+    pub fn new(alloc: Global) -> Sessions
         ensures { result ≡ [] }
     {
         Sessions {
@@ -37,7 +37,7 @@ impl Sessions {
     }
 
     /// This session alone.
-    pub(crate) fn only(alloc: Global, session: Session) -> Result<Sessions, NoMemory>
+    pub fn only(alloc: Global, session: Session) -> Result<Sessions, NoMemory>
         ensures { IfOk result (λ sessions. sessions ≡ session.0 ∷ []) }
     {
         let mut numbers = Vec::new(alloc);
@@ -67,7 +67,7 @@ impl Sessions {
     }
 
     /// With one session more.
-    pub(crate) fn insert(&mut self, session: Session) -> Result<(), NoMemory>
+    pub fn insert(&mut self, session: Session) -> Result<(), NoMemory>
         ensures added { OnOk result (self.new ≡ with_session session.0 self.old) }
         ensures unchanged { OnErr result (self.new ≡ self.old) }
     {
@@ -76,14 +76,14 @@ impl Sessions {
     }
 
     /// Without one session.
-    pub(crate) fn remove(&mut self, session: Session)
+    pub fn remove(&mut self, session: Session)
         ensures { self.new ≡ without session.0 self.old }
     {
         remove_in(&mut self.numbers, session.0);
     }
 
     /// The others, once more.
-    pub(crate) fn others(&self, session: Session) -> Result<Sessions, NoMemory>
+    pub fn others(&self, session: Session) -> Result<Sessions, NoMemory>
         ensures { IfOk result (λ others. others ≡ without session.0 self.now) }
     {
         let mut numbers = Vec::from_slice(*self.numbers.allocator(), &self.numbers)?;
@@ -92,7 +92,7 @@ impl Sessions {
     }
 
     /// All of them, once more.
-    pub(crate) fn copy(&self) -> Result<Sessions, NoMemory>
+    pub fn copy(&self) -> Result<Sessions, NoMemory>
         ensures { IfOk result (λ copy. copy ≡ self.now) }
     {
         let numbers = Vec::from_slice(*self.numbers.allocator(), &self.numbers)?;
