@@ -1,11 +1,11 @@
 -- Where each unit is a piece.
-use Rattle.std.proofs.Common.{◌≡◌, ℕ, ◌<◌, Bool, true, false, nat_lt, List, Option, Some, length, refl, sym, ◌∙◌, subst, arith, tests, true≢false}
+use Rattle.std.proofs.Common.{◌≡◌, ℕ, Bool, true, false, nat_lt, List, Some, length, refl, sym, ◌∙◌, subst, arith, tests, true≢false}
 use Rattle.std.specs.Prelude.{IfSome, slice_get}
 use Rattle.yd_words.specs.Member.{IsIn}
 use Rattle.yd_ids.specs.declared.id.Id.{Id}
 use Rattle.yd_ops.proofs.OperationLemmas.{later_none}
 use Rattle.yd_origins.specs.Before.{is_before}
-use Rattle.yd_origins.specs.Table.{OriginTable, ids_of, left_of, right_of, IsTable}
+use Rattle.yd_origins.specs.Table.{OriginTable, ids_of, right_of, IsTable}
 use Rattle.yd_origins.proofs.ListLemmas.{rights_ids}
 use Rattle.yd_order.specs.Comparing.{Compares, is_told_before}
 use Rattle.yd_order.specs.Stretch.{rows_of_stretches, right_among, among_rows}

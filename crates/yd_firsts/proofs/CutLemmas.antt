@@ -1,14 +1,13 @@
 -- A stretch cut in two, and pieces that are put behind others.
-use Rattle.std.proofs.Common.{◌≡◌, ℕ, zero, suc, ◌+◌, ◌-◌, ◌<◌, ◌≤◌, ◌^◌, List, [], ◌∷◌, ◌++◌, inl, inr, Some, Option, refl, sym, ap, ap₂, ◌∙◌, subst, append_assoc, arith, tests, true, false, nat_lt}
+use Rattle.std.proofs.Common.{◌≡◌, ℕ, zero, suc, ◌+◌, ◌-◌, ◌<◌, List, [], ◌∷◌, ◌++◌, inl, inr, Some, Option, refl, sym, ap, ap₂, ◌∙◌, subst, append_assoc, arith, tests, true, false, nat_lt}
 use Rattle.std.specs.Prelude.{if◌then◌else◌}
-use Rattle.yd_words.specs.Each.{Each}
 use Rattle.yd_words.specs.Member.{IsIn}
 use Rattle.yd_words.proofs.EachLemmas.{each_append}
 use Rattle.yd_words.proofs.MemberLemmas.{each_in, in_with_last}
 use Rattle.yd_ids.specs.declared.id.Id.{Id}
 use Rattle.yd_ops.specs.Operation.{later_id}
 use Rattle.yd_ops.proofs.OperationLemmas.{later_none}
-use Rattle.yd_origins.specs.Table.{Row, OriginTable}
+use Rattle.yd_origins.specs.Table.{OriginTable}
 use Rattle.yd_order.specs.Stretch.{EndsAtClock, rows_from, rows_of_stretch, rows_of_stretches}
 use Rattle.yd_order.specs.declared.stretch.Stretch.{Stretch}
 use Rattle.yd_firsts.specs.Firsts.{HaveStarts}

@@ -1,5 +1,5 @@
 -- The first and the last units of pieces, as their list is compared.
-use Rattle.std.proofs.Common.{◌≡◌, ◌≢◌, ℕ, ◌+◌, ◌-◌, ◌<◌, ◌≤◌, Bool, true, false, List, ◌⊎◌, inl, inr, Option, Some, None, length, get_or, refl, sym, ap, ◌∙◌, subst, arith, true≢false}
+use Rattle.std.proofs.Common.{◌≡◌, ℕ, ◌-◌, ◌<◌, ◌≤◌, Bool, true, false, List, ◌⊎◌, inl, inr, Option, Some, None, length, get_or, refl, sym, ap, ◌∙◌, subst, arith, true≢false}
 use Rattle.std.specs.Prelude.{IfSome, slice_get}
 use Rattle.std.proofs.lemmas.Option.{slice_get-get_or}
 use Rattle.yd_words.specs.Each.{Each}
@@ -21,7 +21,7 @@ use Rattle.yd_firsts.specs.Pieces.{HasUnits, last_of, IsPieceOf, IsFirstOf, Stan
 use Rattle.yd_firsts.proofs.FoundLemmas.{at_in, at_inside}
 use Rattle.yd_firsts.proofs.PieceLemmas.{last_in}
 use Rattle.yd_firsts.proofs.PieceOrderLemmas.{place_in, few_one_way, across, not_back}
-use Rattle.yd_firsts.proofs.SmallLemmas.{table, small, some_unit, unit_in, piece_of, last_is, first_in_small, small_piece, Stood, stood, first_left, first_right}
+use Rattle.yd_firsts.proofs.SmallLemmas.{table, small, some_unit, unit_in, piece_of, last_is, first_in_small, small_piece, stood, first_left, first_right}
 
 module _ (pieces ones : List Stretch) (units : Each HasUnits pieces) (t : IsTable (among_rows (rows_of_stretches pieces))) (stand : StandFor pieces pieces ones)
     (ids : List Id) (cells : List Bool) (compares : Compares (among_rows (rows_of_stretches ones)) ids true cells) (lasts : List Id) (are : AreLasts pieces ids lasts) where

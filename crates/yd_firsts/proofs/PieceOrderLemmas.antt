@@ -1,5 +1,5 @@
 -- The order of the units of pieces, where the small table has a strict order.
-use Rattle.std.proofs.Common.{◌≡◌, ◌≢◌, ℕ, zero, suc, ◌+◌, ◌-◌, ◌<◌, ◌≤◌, Bool, true, false, nat_lt, List, [], ◌∷◌, ◌⊎◌, inl, inr, Option, Some, None, refl, sym, ap, ◌∙◌, subst, arith, tests, true≢false}
+use Rattle.std.proofs.Common.{◌≡◌, ◌≢◌, ℕ, zero, suc, ◌-◌, ◌<◌, ◌≤◌, Bool, true, false, nat_lt, List, [], ◌∷◌, ◌⊎◌, inl, inr, Option, Some, None, refl, sym, ap, ◌∙◌, subst, arith, tests, true≢false}
 use Rattle.std.specs.Prelude.{IfSome, slice_get, option_map}
 use Rattle.yd_words.specs.Each.{Each}
 use Rattle.yd_words.specs.Member.{IsIn}
@@ -20,7 +20,7 @@ use Rattle.yd_order.specs.declared.stretch.Stretch.{Stretch}
 use Rattle.yd_firsts.specs.Pieces.{HasUnits, last_of, IsPieceOf, IsFirstOf, StandFor}
 use Rattle.yd_firsts.proofs.CollapsedLemmas.{IsFirst, IsLater, Collapses, is_up, up_true, units_before}
 use Rattle.yd_firsts.proofs.PieceLemmas.{left_from, first_in, last_in}
-use Rattle.yd_firsts.proofs.SmallLemmas.{table, small, some_unit, unit_in, piece_of, unit_left, unit_right, first_is, last_is, first_itself, first_in_small, small_piece, Stood, stood, first_left, first_right, small_table}
+use Rattle.yd_firsts.proofs.SmallLemmas.{table, small, some_unit, unit_in, piece_of, unit_left, unit_right, first_is, last_is, first_itself, first_in_small, stood, small_table}
 
 pub place_in : (ids : List Id) (x : Id) → IsIn x ids → (n : ℕ) × (slice_get ids n ≡ Some x)
 place_in [] x i = absurd i

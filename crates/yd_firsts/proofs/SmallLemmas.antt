@@ -1,20 +1,18 @@
 -- The table of one unit for each piece, and how the pieces of the whole table stand to it.
-use Rattle.std.proofs.Common.{◌≡◌, ◌≢◌, ℕ, zero, suc, ◌+◌, ◌-◌, ◌<◌, ◌≤◌, Bool, true, false, List, [], ◌∷◌, ◌++◌, ◌⊎◌, inl, inr, Option, Some, None, refl, sym, ap, ◌∙◌, subst, arith}
-use Rattle.std.specs.Prelude.{IfSome, option_map, if◌then◌else◌}
+use Rattle.std.proofs.Common.{◌≡◌, ℕ, zero, suc, ◌-◌, ◌<◌, ◌≤◌, List, [], ◌∷◌, ◌++◌, inl, inr, Option, Some, None, refl, sym, ap, ◌∙◌, subst, arith}
+use Rattle.std.specs.Prelude.{IfSome}
 use Rattle.yd_words.specs.Each.{Each}
 use Rattle.yd_words.specs.Member.{IsIn, AreDistinct}
 use Rattle.yd_words.proofs.MemberLemmas.{each_in}
-use Rattle.yd_words.proofs.OptionLemmas.{some_is}
 use Rattle.yd_ids.specs.declared.id.Id.{Id}
-use Rattle.yd_ids.specs.Ids.{is_same}
 use Rattle.yd_ids.proofs.IdLemmas.{same_says, has_says}
 use Rattle.yd_ops.specs.Operation.{later_id}
 use Rattle.yd_ops.proofs.OperationLemmas.{later_none}
-use Rattle.yd_origins.specs.Table.{Row, OriginTable, ids_of, left_of, right_of, IsTable}
+use Rattle.yd_origins.specs.Table.{OriginTable, ids_of, left_of, right_of, IsTable}
 use Rattle.yd_origins.specs.Operations.{with_rights}
 use Rattle.yd_origins.proofs.PartLemmas.{found_left, found_right, row_id_in}
 use Rattle.yd_origins.proofs.ListLemmas.{rights_ids, rights_left}
-use Rattle.yd_order.specs.Stretch.{rows_from, rows_of_stretch, rows_of_stretches, right_among, among_rows}
+use Rattle.yd_order.specs.Stretch.{rows_from, rows_of_stretches, right_among, among_rows}
 use Rattle.yd_order.specs.declared.stretch.Stretch.{Stretch}
 use Rattle.yd_order.proofs.LinkingLemmas.{distinct_rows}
 use Rattle.yd_firsts.specs.Pieces.{HasUnits, firsts_of, last_of, IsPieceOf, IsFirstOf, StandsFor, StandFor}

@@ -7,7 +7,7 @@ ghost use Rattle.yd_firsts.specs.Pieces.{AreLasts, BeginsWith, EndsWith, IsFirst
 
 use crate::fault::NoMemory;
 use std::alloc::Global;
-use yd_ids::{Id, is_same, is_smaller};
+use yd_ids::{Id, is_same};
 use yd_order::Stretch;
 
 /// One unit for each piece: its left is the piece that ends with the piece's left origin. There are
@@ -118,11 +118,18 @@ fn ending_with(pieces: &[Stretch], id: Id) -> Option<usize>
     None
 }
 
-/// The place of the last piece whose first id is not greater. The pieces are in order of their ids.
+/// The place of the last piece that does not begin behind an id in the order of writing, in which the
+/// pieces are.
 fn place_of(pieces: &[Stretch], id: Id) -> Option<usize> {
     pieces
-        .partition_point(|piece| !is_smaller(id, piece.id))
+        .partition_point(|piece| begins_up_to(*piece, id))
         .checked_sub(1)
+}
+
+/// The piece does not begin behind an id: it is of a greater client, or of the same with no greater clock.
+fn begins_up_to(piece: Stretch, id: Id) -> bool {
+    piece.id.client.0 > id.client.0
+        || piece.id.client.0 == id.client.0 && piece.id.clock <= id.clock
 }
 
 /// The last unit.

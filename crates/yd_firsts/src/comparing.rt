@@ -28,7 +28,7 @@ pub struct Firsts {
 ///
 /// It takes what `yd_order::compare_stretches` takes of one unit for each piece, where that finds a
 /// strict order, and each right origin is a unit. Else the pieces are all units one by one. The
-/// stretches are to be in order of their ids; speed alone rests on that.
+/// stretches are to be in the order of writing, greater clients first; speed alone rests on that.
 pub fn compare_firsts(alloc: Global, stretches: &[Stretch]) -> Result<Firsts, NoMemory>
     requires clocks { Each EndsAtClock stretches.now }
     requires table { IsTable (among_rows (rows_of_stretches stretches.now)) }

@@ -1,6 +1,6 @@
 use Rattle.std.proofs.Common.{take}
 use Rattle.std.proofs.lemmas.List.{take_more}
-use Rattle.yd_firsts.proofs.CutLemmas.{pieces_none, pieces_more}
+use Rattle.yd_firsts.proofs.CutLemmas.{pieces_more}
 use Rattle.yd_firsts.proofs.cutting.pieces_of.Goals as goal
 
 pub loop-stretch-preserved : goal.loop-stretch-preserved
