@@ -33,12 +33,12 @@ are_entries (body ∷ bodies) (u ∷ us) left are bytes =
     (next, (body, stands, are.0.stands), are_entries bodies us next are.1 refl)
 
 -- bodies of updates, one for each
-are_bodies : (us : List UpdateValue) → Each (λ u. IsBody (body_of u) u) us → AreBodies (map body_of us) us
+pub are_bodies : (us : List UpdateValue) → Each (λ u. IsBody (body_of u) u) us → AreBodies (map body_of us) us
 are_bodies [] each = tt
 are_bodies (u ∷ us) each = (each.0, are_bodies us each.1)
 
 -- one body more
-log_more : (bodies : List (List ℕ)) (body : List ℕ) → log_of (bodies ++ body ∷ []) ≡ log_of bodies ++ shortest_blob body
+pub log_more : (bodies : List (List ℕ)) (body : List ℕ) → log_of (bodies ++ body ∷ []) ≡ log_of bodies ++ shortest_blob body
 log_more [] body = append-nil (shortest_blob body)
 log_more (b ∷ bodies) body = ap (λ (l : List ℕ). shortest_blob b ++ l) (log_more bodies body) ∙ sym (append_assoc (shortest_blob b) (log_of bodies) (shortest_blob body))
 

@@ -1,11 +1,13 @@
 -- What is written of updates as a log (own), and the law that it is read again.
-use Rattle.std.specs.Prelude.{ℕ, ◌^◌, ◌<◌, List, [], ◌∷◌, ◌++◌, length, map}
+use Rattle.std.specs.Prelude.{◌≡◌, ℕ, ◌^◌, ◌<◌, List, [], ◌∷◌, ◌++◌, length, map, Result, Ok, Err}
+use Rattle.yd_words.specs.Each.{Each}
 use Rattle.yd_num.specs.Writing.{shortest_blob}
 use Rattle.yd_fields.specs.UpdateFields.{fields_of_update}
 use Rattle.yd_ops.specs.Value.{UpdateValue}
 use Rattle.yd_v1.specs.Bytes.{v1_bytes_of_all}
 use Rattle.yd_v1.specs.Grammar.{StandsForV1}
-use Rattle.yd_v1.specs.Log.{StandsForLog}
+use Rattle.yd_parts.specs.Fault.{Fault}
+use Rattle.yd_v1.specs.Log.{StandsForLog, log_reading}
 
 -- bodies one behind the other, each behind its length
 abbrev pub log_of : List (List ℕ) → List ℕ
@@ -35,3 +37,20 @@ AreBodies (body ∷ bodies) (u ∷ us) = IsBody body u × AreBodies bodies us
 -- a log of bodies stands for their updates
 abbrev pub LogsComeBack : Type 0
 LogsComeBack = (bodies : List (List ℕ)) (us : List UpdateValue) → AreBodies bodies us → StandsForLog (log_of bodies) us
+
+-- ---- a log that grows
+
+-- the bytes are those of updates of which each is read again
+pub record IsWrittenLog (bytes : List ℕ) : Type 0 where
+  pub updates : List UpdateValue
+  pub written : bytes ≡ log_bytes updates
+  pub again : Each (λ u. IsBody (body_of u) u) updates
+
+-- what was read, and no update where there is a fault
+abbrev pub updates_or_none : Result (List UpdateValue) Fault → List UpdateValue
+updates_or_none (Ok us) = us
+updates_or_none (Err fault) = []
+
+-- the updates that a log stands for
+unfoldable pub updates_in_log : List ℕ → List UpdateValue
+updates_in_log bytes = updates_or_none (log_reading bytes)

@@ -5,7 +5,8 @@
 //! [`V1Writer`]). [`read_v1`] answers the update that a file stands for, or the first fault in it,
 //! by cause and place; [`write_v1`] answers the bytes of an update, and they stand for it. State
 //! vectors are spelled in V1 too ([`read_vector`], [`write_vector`]). A log file is updates in V1 one
-//! behind the other ([`read_log`], [`write_log`]). That all six are exact is proved of every file,
+//! behind the other ([`read_log`], [`write_log`]), and it can be read and written without keeping its
+//! updates ([`take_log`], [`LogWriter`]). That all of them are exact is proved of every file,
 //! every update and every vector ([`law`]).
 //!
 //! ```rust
@@ -16,6 +17,7 @@
 
 pub mod law;
 mod log_reading;
+mod log_writer;
 mod log_writing;
 mod logs;
 mod reader;
@@ -25,9 +27,10 @@ mod vector_writing;
 mod writer;
 mod writing;
 
-pub use log_reading::read_log;
+pub use log_reading::{read_log, take_log};
+pub use log_writer::LogWriter;
 pub use log_writing::write_log;
-pub use logs::UpdateList;
+pub use logs::{UpdateList, UpdateTaker};
 pub use reader::V1Reader;
 pub use reading::read_v1;
 pub use vector_reading::read_vector;

@@ -6,10 +6,10 @@ ghost use Rattle.yd_ops.specs.Valid.{IsValidUpdate};
 ghost use Rattle.yd_ops.specs.View.{update_value};
 ghost use Rattle.yd_parts.specs.Fault.{FailsAs, Gives, Makes};
 ghost use Rattle.yd_reading.specs.Answer.{ReadsWhole};
-ghost use Rattle.yd_v1.specs.Log.{HasFirstFaultLog, HasPlace, IsMoved, StandsForLog, TakesEntry, entry_at, log_reading, read_in_file};
+ghost use Rattle.yd_v1.specs.Log.{HasFirstFaultLog, HasPlace, IsMoved, StandsBehind, StandsForLog, TakesEntry, entry_at, log_behind, log_reading, read_in_file};
 ghost use Rattle.yd_v1.specs.Reading.{v1_reading};
 
-use crate::logs::UpdateList;
+use crate::logs::{UpdateList, UpdateTaker};
 use crate::reading::read_update_v1;
 use std::alloc::Global;
 use yd_ops::Update;
@@ -22,34 +22,56 @@ pub fn read_log(alloc: Global, bytes: &[u8]) -> Result<UpdateList, ReadError>
         (StandsForLog bytes.now) (HasFirstFaultLog bytes.now) result }
     ensures valid { IfOk result (λ list. Each IsValidUpdate (map update_value list)) }
 {
-    read_entries(alloc, bytes)
+    read_list(alloc, bytes)
 }
 
-fn read_entries(alloc: Global, bytes: &[u8]) -> Result<UpdateList, ReadError>
+/// Reads a log file as [`read_log`] does, and hands its updates on one after another, so that none is
+/// kept. After an error those before the fault were handed on (own).
+pub fn take_log<T: UpdateTaker>(alloc: Global, bytes: &[u8], taker: &mut T) -> Result<(), ReadError>
+    ensures exact { ReadsWhole (λ done. T.taken taker.new)
+        (StandsBehind (T.taken taker.old) bytes.now) (HasFirstFaultLog bytes.now) result }
+    ensures valid { OnOk result
+        (Each IsValidUpdate (T.taken taker.old) → Each IsValidUpdate (T.taken taker.new)) }
+{
+    take_entries(alloc, bytes, taker)
+}
+
+fn read_list(alloc: Global, bytes: &[u8]) -> Result<UpdateList, ReadError>
     ensures made { Makes (λ list. map update_value list) result (log_reading bytes.now) }
     ensures valid { IfOk result (λ list. Each IsValidUpdate (map update_value list)) }
 {
-    let mut parts = Parts::new(Column::Whole, bytes);
     let mut list = UpdateList::new(alloc);
-    for _ in 0..bytes.len() {
-        if parts.left() == 0 {
-            return Ok(list);
-        }
-        read_next_entry(alloc, &mut parts, &mut list)?;
-    }
+    take_entries(alloc, bytes, &mut list)?;
     Ok(list)
 }
 
-fn read_next_entry(
+fn take_entries<T: UpdateTaker>(alloc: Global, bytes: &[u8], taker: &mut T) -> Result<(), ReadError>
+    ensures made { Makes (λ done. T.taken taker.new) result
+        (log_behind (T.taken taker.old) bytes.now) }
+    ensures valid { OnOk result
+        (Each IsValidUpdate (T.taken taker.old) → Each IsValidUpdate (T.taken taker.new)) }
+{
+    let mut parts = Parts::new(Column::Whole, bytes);
+    for _ in 0..bytes.len() {
+        if parts.left() == 0 {
+            return Ok(());
+        }
+        take_next_entry(alloc, &mut parts, taker)?;
+    }
+    Ok(())
+}
+
+fn take_next_entry<T: UpdateTaker>(
     alloc: Global,
     parts: &mut Parts<'_>,
-    list: &mut UpdateList,
+    taker: &mut T,
 ) -> Result<(), ReadError>
-    ensures taken { OnOk result (TakesEntry parts.old parts.new list.old list.new) }
+    ensures taken { OnOk result
+        (TakesEntry parts.old parts.new (T.taken taker.old) (T.taken taker.new)) }
     ensures fails { FailsAs result (entry_at parts.old) }
 {
     let update = read_entry(alloc, parts)?;
-    if list.push(update).is_err() {
+    if taker.take(update).is_err() {
         return Err(ReadError::NoMemory);
     }
     Ok(())

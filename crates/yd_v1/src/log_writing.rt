@@ -1,6 +1,6 @@
 //! Log files, written.
 
-ghost use Rattle.std.specs.Prelude.{◌≡◌, ◌++◌, map, IfOk, OnOk};
+ghost use Rattle.std.specs.Prelude.{◌≡◌, ◌++◌, map, IfOk, OnErr, OnOk};
 ghost use Rattle.yd_num.specs.Writing.{shortest_blob};
 ghost use Rattle.yd_words.specs.Each.{Each};
 ghost use Rattle.yd_ops.specs.Valid.{IsValidUpdate};
@@ -31,8 +31,8 @@ pub fn write_log(alloc: Global, updates: &[Update]) -> Result<Vec<u8>, NoMemory>
     Ok(log.into_vec())
 }
 
-// Appends the entry of one update. Its body is made in the memory of those before.
-fn write_entry(
+/// Appends the entry of one update. Its body is made in the memory of those before.
+pub(crate) fn write_entry(
     alloc: Global,
     update: &Update,
     body: &mut V1Writer,
@@ -43,6 +43,7 @@ fn write_entry(
         (log.new ≡ log.old ++ shortest_blob (body_of (update_value update.now))) }
     ensures again { OnOk result
         (IsBody (body_of (update_value update.now)) (update_value update.now)) }
+    ensures unchanged { OnErr result (log.new ≡ log.old) }
 {
     body.clear();
     write_update(alloc, update, body)?;

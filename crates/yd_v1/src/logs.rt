@@ -1,11 +1,25 @@
-//! Updates in a row, as a log has them.
+//! Updates in a row, as a log has them, and what takes them one after another.
 
-ghost use Rattle.std.specs.Prelude.{◌≡◌, [], ◌∷◌, ◌++◌, OnOk, OnErr};
+ghost use Rattle.std.specs.Prelude.{◌≡◌, [], ◌∷◌, ◌++◌, List, OnOk, OnErr};
+ghost use Rattle.yd_ops.specs.Valid.{IsValidUpdate};
+ghost use Rattle.yd_ops.specs.Value.{UpdateValue};
+ghost use Rattle.yd_ops.specs.View.{update_value};
 
 use std::alloc::Global;
 use std::marker::Model;
 use yd_ops::Update;
 use yd_parts::NoMemory;
+
+/// What takes updates, one after another: it keeps them, or writes them at once.
+pub trait UpdateTaker {
+    /// The updates that it took, in their order.
+    ghost taken: { Self → List UpdateValue };
+
+    /// Takes an update. After want of memory it is left open which updates were taken.
+    fn take(&mut self, update: Update) -> Result<(), NoMemory>
+        requires { IsValidUpdate (update_value update) }
+        ensures { OnOk result (taken self.new ≡ taken self.old ++ update_value update ∷ []) };
+}
 
 /// Updates in order, as a log has them.
 #[derive(Drop)]
@@ -66,5 +80,16 @@ impl UpdateList {
         ensures { result.now ≡ self.now }
     {
         self.updates.as_slice()
+    }
+}
+
+impl UpdateTaker for UpdateList {
+    ghost use Rattle.std.specs.Prelude.{map};
+
+    ghost taken = { λ list. map update_value list };
+
+    fn take(&mut self, update: Update) -> Result<(), NoMemory> {
+        self.push(update)?;
+        Ok(())
     }
 }
