@@ -1,14 +1,9 @@
 -- Files of each kind are read exactly.
-use Rattle.std.proofs.Common.{◌≡◌, ◌∙◌, ℕ, List, Result, Ok, Err, None, Some, refl, sym, ap, IfOk}
+use Rattle.std.proofs.Common.{◌≡◌, ◌∙◌, ℕ, List, Result, Ok, Err, None, Some, refl, sym, ap}
 use Rattle.yd_num.proofs.ReadingLemmas.{ok_value}
-use Rattle.yd_words.specs.Each.{Each}
-use Rattle.yd_reading.specs.Answer.{ReadsWhole}
 use Rattle.yd_reading.specs.Files.{FilesAreRead}
 use Rattle.yd_fields.specs.UpdatePlan.{update_plan, vector_plan}
-use Rattle.yd_ops.specs.Valid.{IsValidUpdate}
 use Rattle.yd_parts.specs.Fault.{Fault}
-use Rattle.yd_parts.specs.declared.fault.ReadError.{ReadError}
-use Rattle.yd_parts.specs.declared.fault.ReadError.TheVariants as errors
 use Rattle.yd_script.proofs.FileLemmas.{scripts_read}
 use Rattle.yd_script.specs.File.{script_reading}
 use Rattle.yd_v1.proofs.FileLemmas as v1_files
@@ -17,9 +12,7 @@ use Rattle.yd_v1.specs.Log.{log_reading}
 use Rattle.yd_v1.specs.Reading.{v1_reading, vector_reading}
 use Rattle.yd_v2.proofs.FileLemmas as v2_files
 use Rattle.yd_v2.specs.Reading.{most_structs, v2_reading}
-use Rattle.yd_files.specs.Seen.{AsContent, content_of}
-use Rattle.yd_files.specs.Verdict.{Content, HasFirstFaultIn, StandsAs, StandsIn, one_update, script, updates, updates_of, vector}
-use Rattle.yd_files.specs.declared.content.Content.{Content as ContentSeen}
+use Rattle.yd_files.specs.Verdict.{Content, HasFirstFaultIn, StandsAs, StandsIn, one_update, script, updates, vector}
 use Rattle.yd_files.specs.declared.kind.Kind.{Kind}
 use Rattle.yd_files.specs.declared.kind.Kind.TheVariants.{V1, V2, Log, Vector, Script}
 
@@ -63,33 +56,3 @@ read_exactly V2 = made_read one_update v2_reading _ _ (v2_files.files_read (upda
 read_exactly Log = made_read updates log_reading _ _ logs_read
 read_exactly Vector = made_read vector vector_reading _ _ (v1_files.files_read vector_plan)
 read_exactly Script = made_read script script_reading _ _ scripts_read
-
--- the answer for a value, as that for what is made of it
-pub made_whole : {X Y : Type 0} (seen : X → Y) (made : Y → Content) (Fills : Y → Type 0) (Fails : Fault → Type 0) (read : Result X ReadError) (result : Result ContentSeen ReadError) → AsContent (λ x. made (seen x)) read result → ReadsWhole seen Fills Fails read
-    → ReadsWhole content_of (StandsAs made Fills) Fails result
-made_whole seen made Fills Fails (Ok x) (Ok content) is whole = record {
-  rightly = (seen x, is, whole.rightly);
-  values = λ other stands. is ∙ ap made (whole.values stands.0 stands.2) ∙ sym stands.1;
-  faults = λ fault first. whole.faults fault first;
-}
-made_whole seen made Fills Fails (Ok x) (Err errors.NoMemory) is whole = record { rightly = tt; values = λ other stands. tt; faults = λ fault first. tt }
-made_whole seen made Fills Fails (Ok x) (Err (errors.Fault cause spot)) is whole = absurd is
-made_whole seen made Fills Fails (Err errors.NoMemory) result is whole = rw is (record { rightly = tt; values = λ other stands. tt; faults = λ fault first. tt })
-made_whole seen made Fills Fails (Err (errors.Fault cause spot)) result is whole = rw is (record {
-  rightly = whole.rightly;
-  values = λ other stands. whole.values stands.0 stands.2;
-  faults = λ fault first. whole.faults fault first;
-})
-
--- its updates are valid where those that are made are
-pub made_valid : {X : Type 0} (made : X → Content) (Valid : X → Type 0) (read : Result X ReadError) (result : Result ContentSeen ReadError) → ((x : X) → Valid x → Each IsValidUpdate (updates_of (made x))) → AsContent made read result → IfOk read Valid
-    → IfOk result (λ content. Each IsValidUpdate (updates_of (content_of content)))
-made_valid made Valid (Ok x) (Ok content) valid is was = rw is (valid x was)
-made_valid made Valid (Ok x) (Err errors.NoMemory) valid is was = tt
-made_valid made Valid (Ok x) (Err (errors.Fault cause spot)) valid is was = absurd is
-made_valid made Valid (Err error) result valid is was = rw is tt
-
--- nothing is asked of what has no updates
-pub nothing_asked : {X : Type 0} (read : Result X ReadError) → IfOk read (λ x. Unit {0})
-nothing_asked (Ok x) = tt
-nothing_asked (Err error) = tt

@@ -1,7 +1,6 @@
 -- What was read of files so far, and why reading stops.
 use Rattle.std.proofs.Common.{◌≡◌, ◌+◌, ◌<◌, ◌≤◌, ℕ, List, [], ◌∷◌, ◌++◌, length, map, take, drop, get_or, Option, Result, Ok, Err, IfErr, IsErr, IsErrAnd, refl, sym, ap, subst, ◌∙◌, append-nil, append_assoc, arith}
 use Rattle.std.proofs.lemmas.List.{drop_more, get_or-map, length-map, map-append, take-append-drop, take_more}
-use Rattle.yd_words.proofs.EachLemmas.{each_append}
 use Rattle.yd_words.specs.Each.{Each}
 use Rattle.yd_ops.specs.Valid.{IsValidUpdate}
 use Rattle.yd_world.specs.Shelf.{HasName, Shelf}
@@ -136,7 +135,7 @@ so_far_more {told} {now} {next} {old = old} seen index any lt s one keeps counts
         are_read = subst (λ (fs : List File). AreRead told fs contents) (sym longer) (read_more told (take index files) (file_of (get_or seen index any)) s.stand.contents one.content s.stand.are_read (verdict_before told now (file_of (get_or seen index any)) (accepted one.content) s.keeps one.is_read));
         inputs_are = one.appended ∙ ap (λ (i : Inputs). with_content i file.kind one.content) s.stand.inputs_are ∙ sym (inputs_more (take index files) file s.stand.contents one.content) ∙ ap (λ (fs : List File). inputs_in fs contents) (sym longer);
       };
-      valid = rw one.appended (each_append IsValidUpdate old.updates (updates_of one.content) s.valid one.valid);
+      valid = one.valid s.valid;
       keeps = keeps_more told now next s.keeps keeps;
       counts = omega (arith, counts, s.counts);
       calm = λ calmly is_told.

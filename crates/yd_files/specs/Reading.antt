@@ -1,18 +1,28 @@
 -- What reading files answers, and why it stops (own).
-use Rattle.std.specs.Prelude.{◌≡◌, List, [], ◌∷◌, ◌++◌, Option}
+use Rattle.std.specs.Prelude.{◌≡◌, ℕ, List, [], ◌∷◌, ◌++◌, Option, Result, Ok, Err}
 use Rattle.yd_words.specs.Each.{Each}
 use Rattle.yd_ops.specs.Valid.{IsValidUpdate}
+use Rattle.yd_parts.specs.Fault.{Fault}
+use Rattle.yd_parts.specs.declared.fault.ReadError.{ReadError}
+use Rattle.yd_parts.specs.declared.fault.ReadError.TheVariants as errors
 use Rattle.yd_world.specs.Shelf.{Shelf}
 use Rattle.yd_files.specs.Counts.{Count, RoseIn}
 use Rattle.yd_files.specs.Files.{File}
 use Rattle.yd_files.specs.Loading.{BeginsLast}
 use Rattle.yd_files.specs.Seen.{file_of}
-use Rattle.yd_files.specs.Verdict.{Content, HasVerdict, Inputs, IsReached, IsTold, NoneIsMissing, StopsAt, accepted, missing, refused, scripts_of, too_large, updates_of, vectors_of}
+use Rattle.yd_files.specs.Verdict.{Content, HasVerdict, Inputs, IsReached, IsTold, NoneIsMissing, StandsIn, StopsAt, accepted, missing, refused, scripts_of, too_large, updates_of, vectors_of}
 use Rattle.yd_files.specs.declared.kind.Kind.{Kind}
 use Rattle.yd_files.specs.declared.fault.FileFault.{FileFault}
 use Rattle.yd_files.specs.declared.fault.FileFault.TheVariants.{Refused, ReadFault, TooLarge, NoMemory}
 
 -- ---- one file
+
+-- the answer, where a value was read, is Ok and the value was taken in, or memory was wanted; else it is the error
+abbrev pub TakesRead : {X : Type 0} → (X → Type 0) → Result X ReadError → Result (Unit {0}) ReadError → Type 0
+TakesRead IsTaken (Ok x) (Ok done) = IsTaken x
+TakesRead IsTaken (Ok x) (Err errors.NoMemory) = Unit {0}
+TakesRead IsTaken (Ok x) (Err (errors.Fault cause spot)) = ⊥
+TakesRead IsTaken (Err error) result = result ≡ Err error
 
 -- those of no file
 abbrev pub no_inputs : Inputs
@@ -22,11 +32,23 @@ no_inputs = record { kinds = []; vectors = []; scripts = []; updates = [] }
 abbrev pub with_content : Inputs → Kind → Content → Inputs
 with_content inputs kind content = record { kinds = inputs.kinds ++ kind ∷ []; vectors = inputs.vectors ++ vectors_of content; scripts = inputs.scripts ++ scripts_of content; updates = inputs.updates ++ updates_of content }
 
--- the file is accepted, and what it stands for, with valid updates, stands behind what was there before
+-- what the bytes of a file of the kind stand for stands behind what was there before, and its updates are valid
+pub record TakesFile (kind : Kind) (bytes : List ℕ) (old new : Inputs) : Type 0 where
+  pub content : Content
+  pub stands : StandsIn kind bytes content
+  pub valid : Each IsValidUpdate old.updates → Each IsValidUpdate new.updates
+  pub appended : new ≡ with_content old kind content
+
+-- the error is a fault that is so; want of memory has no reason
+abbrev pub RefusedBy : (Fault → Type 0) → ReadError → Type 0
+RefusedBy Fails errors.NoMemory = Unit {0}
+RefusedBy Fails (errors.Fault cause spot) = Fails (record { cause = cause; spot = spot })
+
+-- the file is accepted, and what it stands for stands behind what was there before, and its updates are valid
 pub record ReadsOne (told : Option Shelf) (file : File) (old new : Inputs) : Type 0 where
   pub content : Content
   pub is_read : HasVerdict told file (accepted content)
-  pub valid : Each IsValidUpdate (updates_of content)
+  pub valid : Each IsValidUpdate old.updates → Each IsValidUpdate new.updates
   pub appended : new ≡ with_content old file.kind content
 
 -- why reading a file stopped: it is refused or too large, or the library failed at it; want of memory has no reason

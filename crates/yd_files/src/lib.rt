@@ -4,23 +4,25 @@
 //! update in V1 or V2, a log of updates, or a state vector. Each file stands for a list of updates or
 //! for a vector, or is refused by what is wrong first, too large, or missing. [`read_files`] answers
 //! what several files stand for, in order, or the first file that is not accepted, and why ([`law`]).
+//! [`take_files`] does the same, and hands the updates on while it reads.
 //!
 //! ```rust
 //! let inputs = read_files(alloc, &mut library, &[File { kind: Kind::Log, name: "typed" }])?;
 //! ```
 #![tactic(auto)]
 
-mod content;
 mod fault;
 mod file;
+mod inputs;
 mod kind;
 pub mod law;
 mod loading;
 mod reading;
+mod taking;
 
-pub use content::{Content, Inputs};
 pub use fault::{FileFault, LoadFault};
 pub use file::{File, file_of};
+pub use inputs::{Inputs, Others};
 pub use kind::{Kind, prefix};
 pub use loading::read_all;
-pub use reading::read_files;
+pub use reading::{read_files, take_files};

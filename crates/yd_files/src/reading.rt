@@ -1,22 +1,23 @@
 //! Reading files in their order: each loaded whole, judged by its grammar, and then the next.
 
-ghost use Rattle.std.specs.Prelude.{◌≡◌, ◌≤◌, map, IfOk, IfErr, OnOk};
+ghost use Rattle.std.specs.Prelude.{◌≡◌, ◌≤◌, [], map, IfOk, IfErr, OnOk};
 ghost use Rattle.yd_words.specs.Each.{Each};
 ghost use Rattle.yd_ops.specs.Valid.{IsValidUpdate};
 ghost use Rattle.yd_world.specs.Shelf.{HasName};
 ghost use Rattle.yd_files.specs.Counts.{count_of};
 ghost use Rattle.yd_files.specs.Loading.{KeepsFiles};
 ghost use Rattle.yd_files.specs.Reading.{ReadsCalmly, ReadsOne, StopsAmong, StopsReading};
-ghost use Rattle.yd_files.specs.Seen.{content_of, file_of, inputs_of};
-ghost use Rattle.yd_files.specs.Verdict.{HasVerdict, StandFor, accepted, updates_of};
+ghost use Rattle.yd_files.specs.Seen.{file_of, inputs_of, inputs_with};
+ghost use Rattle.yd_files.specs.Verdict.{StandFor};
 
-use crate::content::{Content, Inputs};
 use crate::fault::{FileFault, LoadFault};
 use crate::file::File;
-use crate::kind::read_in;
+use crate::inputs::{Inputs, Others};
 use crate::loading::read_all;
+use crate::taking::take_file;
 use std::alloc::Global;
 use yd_parts::ReadError;
+use yd_v1::{UpdateList, UpdateTaker};
 use yd_world::Library;
 
 /// What the files stand for, in their order, or the first file that is not accepted.
@@ -34,44 +35,47 @@ pub fn read_files<'a, L: Library>(
     ensures calm { L.is_calm library.old → ReadsCalmly (L.told library.old)
         (map file_of files.now) (count_of (L.faults library.old) (L.faults library.new)) }
 {
-    let mut inputs = Inputs::new(alloc);
-    for file in files {
-        read_next(alloc, library, file, &mut inputs)?;
-    }
-    Ok(inputs)
+    let mut updates = UpdateList::new(alloc);
+    let others = take_files(alloc, library, files, &mut updates)?;
+    Ok(others.with(updates))
 }
 
-// Puts what one file stands for behind the rest.
-fn read_next<'a, L: Library>(
+/// Reads the files as [`read_files`] does, and hands their updates on one after another, so that none
+/// is kept; it answers what else they stand for. After an error, which updates were handed on is left
+/// open.
+pub fn take_files<'a, L: Library, T: UpdateTaker>(
     alloc: Global,
     library: &mut L,
-    file: &File<'a>,
-    inputs: &mut Inputs,
-) -> Result<(), FileFault<'a>>
-    ensures read { OnOk result (ReadsOne (L.told library.old) (file_of file.now)
-        (inputs_of inputs.old) (inputs_of inputs.new)) }
-    ensures stops { IfErr result (StopsReading (L.is_calm library.old) (L.told library.old)
-        (L.told library.new) (file_of file.now)
+    files: &[File<'a>],
+    taker: &mut T,
+) -> Result<Others, FileFault<'a>>
+    requires { T.taken taker.old ≡ [] }
+    ensures read { IfOk result (λ others. StandFor (L.told library.old)
+        (map file_of files.now) (inputs_with others (T.taken taker.new))) }
+    ensures valid { OnOk result (Each IsValidUpdate (T.taken taker.new)) }
+    ensures stops { IfErr result (StopsAmong (L.is_calm library.old) (L.told library.old)
+        (L.told library.new) (map file_of files.now)
         (count_of (L.faults library.old) (L.faults library.new))) }
-    ensures files { KeepsFiles (L.told library.old) (L.told library.new) }
-    ensures counts { L.faults library.old ≤ L.faults library.new }
-    ensures calm { L.is_calm library.old → HasName (L.told library.old) (file_of file.now).name
-        → L.is_calm library.new × (L.faults library.new ≡ L.faults library.old) }
+    ensures calm { L.is_calm library.old → ReadsCalmly (L.told library.old)
+        (map file_of files.now) (count_of (L.faults library.old) (L.faults library.new)) }
 {
-    let content = read_file(alloc, library, *file)?;
-    inputs.push(file.kind, content)?;
-    Ok(())
+    let mut others = Others::new(alloc);
+    for file in files {
+        take_next(alloc, library, *file, &mut others, taker)?;
+    }
+    Ok(others)
 }
 
-// What one file stands for.
-fn read_file<'a, L: Library>(
+// Takes in what one file stands for.
+fn take_next<'a, L: Library, T: UpdateTaker>(
     alloc: Global,
     library: &mut L,
     file: File<'a>,
-) -> Result<Content, FileFault<'a>>
-    ensures read { IfOk result (λ content.
-        HasVerdict (L.told library.old) (file_of file.entry) (accepted (content_of content))) }
-    ensures valid { IfOk result (λ content. Each IsValidUpdate (updates_of (content_of content))) }
+    others: &mut Others,
+    taker: &mut T,
+) -> Result<(), FileFault<'a>>
+    ensures read { OnOk result (ReadsOne (L.told library.old) (file_of file.entry)
+        (inputs_with others.old (T.taken taker.old)) (inputs_with others.new (T.taken taker.new))) }
     ensures stops { IfErr result (StopsReading (L.is_calm library.old) (L.told library.old)
         (L.told library.new) (file_of file.entry)
         (count_of (L.faults library.old) (L.faults library.new))) }
@@ -86,8 +90,8 @@ fn read_file<'a, L: Library>(
         Err(LoadFault::ReadFault) => return Err(FileFault::ReadFault(file)),
         Err(LoadFault::TooLarge) => return Err(FileFault::TooLarge(file)),
     };
-    match read_in(alloc, file.kind, &bytes) {
-        Ok(content) => Ok(content),
+    match take_file(alloc, file.kind, &bytes, others, taker) {
+        Ok(()) => Ok(()),
         Err(ReadError::NoMemory) => Err(FileFault::NoMemory),
         Err(ReadError::Fault { cause, spot }) => Err(FileFault::Refused { file, cause, spot }),
     }

@@ -3,26 +3,26 @@ use Rattle.yd_files.proofs.ReadingLemmas.{named_at, so_far_more, so_far_none, st
 use Rattle.yd_files.specs.Counts.{count_of}
 use Rattle.yd_files.specs.Reading.{StopsAmong}
 use Rattle.yd_files.specs.Seen.{file_of}
-use Rattle.yd_files.proofs.reading.read_files.Goals as goal
+use Rattle.yd_files.proofs.reading.take_files.Goals as goal
 
 pub loop-file-init : goal.loop-file-init
-loop-file-init g c = rw c.new-inputs.ensures (so_far_none _ _ _ _)
+loop-file-init g c = rw (c.requires, c.new-others.ensures) (so_far_none _ _ _ _)
 
-pub returns-in_err-read_next-clause-stops : goal.returns-in_err-read_next-clause-stops
-returns-in_err-read_next-clause-stops g c =
+pub returns-in_err-take_next-clause-stops : goal.returns-in_err-take_next-clause-stops
+returns-in_err-take_next-clause-stops g c =
     let loop = c.loop-file in
-    let failed = c.in_err-read_next in
+    let failed = c.in_err-take_next in
     let calm = g.L.Library.is_calm c.args.library.now in
     let told = g.L.Library.told c.args.library.now in
-    let told_now = g.L.Library.told c.read_next.new.library in
-    let reads = count_of (g.L.Library.faults c.args.library.now) (g.L.Library.faults c.read_next.new.library) in
+    let told_now = g.L.Library.told c.take_next.new.library in
+    let reads = count_of (g.L.Library.faults c.args.library.now) (g.L.Library.faults c.take_next.new.library) in
     stops_passed (StopsAmong calm told told_now (map file_of c.args.files.now) reads) c.from_residual.result failed.field-0.0 c.from_residual.ensures
     (stops_at told_now c.args.files.now loop.file-index _ _ failed.field-0.0 c.loop-file-test.true loop.invariant failed.ensures.counts failed.ensures.stops)
 
-pub returns-in_err-read_next-clause-calm : goal.returns-in_err-read_next-clause-calm
-returns-in_err-read_next-clause-calm g c = λ calmly is_told none.
+pub returns-in_err-take_next-clause-calm : goal.returns-in_err-take_next-clause-calm
+returns-in_err-take_next-clause-calm g c = λ calmly is_told none.
     let loop = c.loop-file in
-    let failed = c.in_err-read_next in
+    let failed = c.in_err-take_next in
     let before = loop.invariant.calm calmly is_told in
     let after = failed.ensures.calm before.0 (named_at c.args.files.now loop.file-index _ c.loop-file-test.true loop.invariant is_told none) in
     after.1 ∙ before.1
@@ -30,6 +30,6 @@ returns-in_err-read_next-clause-calm g c = λ calmly is_told none.
 pub loop-file-preserved : goal.loop-file-preserved
 loop-file-preserved g c =
     let loop = c.loop-file in
-    let done = c.in_ok-read_next in
+    let done = c.in_ok-take_next in
     so_far_more c.args.files.now loop.file-index _ c.loop-file-test.true loop.invariant done.ensures.read done.ensures.files done.ensures.counts
     (λ calm named. done.ensures.calm calm named)

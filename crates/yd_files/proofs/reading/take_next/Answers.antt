@@ -1,6 +1,6 @@
 use Rattle.std.proofs.Common.{refl, ap, Err}
 use Rattle.yd_files.proofs.ToldLemmas.{lacks, loads_too_large}
-use Rattle.yd_files.proofs.reading.read_file.Goals as goal
+use Rattle.yd_files.proofs.reading.take_next.Goals as goal
 
 pub returns-in-Err-ReadFault-clause-stops : goal.returns-in-Err-ReadFault-clause-stops
 returns-in-Err-ReadFault-clause-stops g c =
