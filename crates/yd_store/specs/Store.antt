@@ -51,6 +51,14 @@ pub record KeepsParts (placed : Placed) (marks : Marked) (contents : Contented) 
   pub live : noted.live ≡ marks.live
   pub runs : held.rows ≡ contents.rows
 
+-- the runs, their entries and their marks are as before, and so is the room for them
+pub record KeepsRuns (placed : Placed) (marks : Marked) (more : Placed) (noted : Marked) : Type 0 where
+  pub runs : runs_of more ≡ runs_of placed
+  pub lines : more.lines ≡ placed.lines
+  pub room : more.linked.room ≡ placed.linked.room
+  pub rows : noted.rows ≡ marks.rows
+  pub marks_room : noted.room ≡ marks.room
+
 -- the run of a unit is cut in front of it, with its mark and what it holds
 pub record SplitsAt (old new : Stored) (id : Id) : Type 0 where
   pub cuts : CutsAt old.placed new.placed id

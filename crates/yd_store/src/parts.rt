@@ -3,7 +3,7 @@
 ghost use Rattle.std.specs.Prelude.{◌≡◌, ◌<◌, ◌≤◌, ◌++◌, ◌∷◌, [], ℕ, length, take, IfSome, IfNone, IfOk, OnOk, OnErr, IsOk, min};
 ghost use Rattle.yd_arena.specs.Lists.{AreLists};
 ghost use Rattle.yd_arena.specs.Arena.{runs_of, room_for, count_of, next_clock, IsArena, HasUnit};
-ghost use Rattle.yd_store.specs.Store.{KeepsParts};
+ghost use Rattle.yd_store.specs.Store.{KeepsParts, KeepsRuns};
 
 use crate::contents::Contents;
 use std::alloc::AllocError;
@@ -44,11 +44,7 @@ pub fn add_list_parts(arena: &mut Arena, marks: &mut Marks) -> Result<usize, All
     ensures live { OnOk result (marks.new.live ≡ marks.old.live ++ 0 ∷ []) }
     ensures no_list { OnErr result (arena.new.linked.lists ≡ arena.old.linked.lists) }
     ensures no_count { OnErr result (marks.new.live ≡ marks.old.live) }
-    ensures runs { arena.new.linked.stretches ≡ arena.old.linked.stretches }
-    ensures lines { arena.new.lines ≡ arena.old.lines }
-    ensures room { arena.new.linked.room ≡ arena.old.linked.room }
-    ensures rows { marks.new.rows ≡ marks.old.rows }
-    ensures marks_room { marks.new.room ≡ marks.old.room }
+    ensures kept { KeepsRuns arena.old marks.old arena.new marks.new }
 {
     marks.add_list()?;
     match arena.add_list() {

@@ -18,21 +18,21 @@ const XY: Step = Put(0, (2, 0), Some((1, 0)), Some((1, 1)), "xy");
 const UV: Step = Put(0, (3, 0), Some((1, 0)), Some((1, 1)), "uv");
 
 /// Runs without origins.
-const A1: Step = Put(0, (1, 0), None, None, "a");
+const A_BY_1: Step = Put(0, (1, 0), None, None, "a");
 
-const N2: Step = Put(0, (2, 0), None, None, "n");
+const N_BY_2: Step = Put(0, (2, 0), None, None, "n");
 
-const R0: Step = Put(0, (0, 0), None, None, "r");
+const R_BY_0: Step = Put(0, (0, 0), None, None, "r");
 
-const R9: Step = Put(0, (9, 0), None, None, "r");
+const R_BY_9: Step = Put(0, (9, 0), None, None, "r");
 
 /// What stands behind the first of them.
 const B_BEHIND_A: Step = Put(0, (1, 1), Some((1, 0)), None, "b");
 
 /// Runs of client 5 before those of client 0 and of client 9.
-const X_BEFORE_R0: Step = Put(0, (5, 0), None, Some((0, 0)), "x");
+const X_BEFORE_0: Step = Put(0, (5, 0), None, Some((0, 0)), "x");
 
-const X_BEFORE_R9: Step = Put(0, (5, 0), None, Some((9, 0)), "x");
+const X_BEFORE_9: Step = Put(0, (5, 0), None, Some((9, 0)), "x");
 
 /// A case in which no id is asked.
 macro_rules! case {
@@ -96,7 +96,7 @@ pub const CUTS: [Case; 18] = [
     Case {
         name: "a right origin in another list is absent",
         steps: &[
-            A1,
+            A_BY_1,
             Put(1, (3, 0), None, None, "z"),
             Put(0, (2, 0), None, Some((3, 0)), "n"),
         ],
@@ -104,13 +104,13 @@ pub const CUTS: [Case; 18] = [
     },
     case!(
         "a left origin in another list is none of this one",
-        A1,
+        A_BY_1,
         Put(1, (2, 0), Some((1, 0)), None, "z"),
     ),
     Case {
         name: "units between are gone",
         steps: &[
-            A1,
+            A_BY_1,
             Gone((1, 1), 2),
             Put(0, (1, 3), Some((1, 0)), None, "b"),
             Split((1, 2)),
@@ -120,7 +120,7 @@ pub const CUTS: [Case; 18] = [
     Case {
         name: "a span over gone units is deleted",
         steps: &[
-            A1,
+            A_BY_1,
             Gone((1, 1), 2),
             Put(0, (1, 3), Some((1, 0)), None, "bc"),
             Delete((1, 0), 4),
@@ -129,13 +129,17 @@ pub const CUTS: [Case; 18] = [
     },
     Case {
         name: "a run behind a gone unit is in no list",
-        steps: &[A1, Gone((1, 1), 1), Put(0, (2, 0), Some((1, 1)), None, "n")],
+        steps: &[
+            A_BY_1,
+            Gone((1, 1), 1),
+            Put(0, (2, 0), Some((1, 1)), None, "n"),
+        ],
         ids: &[(2, 0)],
     },
     Case {
         name: "units between are lost",
         steps: &[
-            A1,
+            A_BY_1,
             Lost((2, 0), "xy"),
             Put(0, (2, 2), None, None, "n"),
             Split((2, 1)),
@@ -144,7 +148,7 @@ pub const CUTS: [Case; 18] = [
     },
     case!(
         "units between are known by their neighbours",
-        A1,
+        A_BY_1,
         Deleted((1, 1), Some((1, 0)), 2),
         Put(0, (1, 3), Some((1, 2)), None, "c"),
         Delete((1, 2), 1),
@@ -159,8 +163,8 @@ pub const CUTS: [Case; 18] = [
 
 /// The cases of the scan.
 pub const SCANS: [Case; 18] = [
-    case!("both left origins are absent, a first", A1, N2),
-    case!("both left origins are absent, n first", N2, A1),
+    case!("both left origins are absent, a first", A_BY_1, N_BY_2),
+    case!("both left origins are absent, n first", N_BY_2, A_BY_1),
     case!("three at the front, B A C", B, A, C),
     case!("three at the front, B C A", B, C, A),
     case!("three at the front, A B C", A, B, C),
@@ -169,53 +173,58 @@ pub const SCANS: [Case; 18] = [
     case!("three at the front, C B A", C, B, A),
     case!(
         "a client is not smaller than itself",
-        A1,
+        A_BY_1,
         Put(0, (1, 1), None, None, "b"),
     ),
     case!(
         "and with another right origin it is gone by",
-        R0,
+        R_BY_0,
         Put(0, (2, 0), None, Some((0, 0)), "m"),
         Put(0, (2, 1), None, None, "n"),
     ),
     case!(
         "a greater client with another right origin does not move the place",
-        R9,
-        X_BEFORE_R9,
-        N2,
+        R_BY_9,
+        X_BEFORE_9,
+        N_BY_2,
     ),
-    case!("and the scan goes on behind it", R0, X_BEFORE_R0, N2),
-    case!("a run is passed with its left origin", A1, B_BEHIND_A, N2,),
+    case!("and the scan goes on behind it", R_BY_0, X_BEFORE_0, N_BY_2),
+    case!(
+        "a run is passed with its left origin",
+        A_BY_1,
+        B_BEHIND_A,
+        N_BY_2,
+    ),
     case!(
         "a run is not passed where its left origin is not",
-        R9,
-        X_BEFORE_R9,
+        R_BY_9,
+        X_BEFORE_9,
         Put(0, (5, 1), Some((5, 0)), Some((9, 0)), "y"),
-        N2,
+        N_BY_2,
     ),
     case!(
         "and the scan goes on behind both",
-        R0,
-        X_BEFORE_R0,
+        R_BY_0,
+        X_BEFORE_0,
         Put(0, (5, 1), Some((5, 0)), Some((0, 0)), "y"),
-        N2,
+        N_BY_2,
     ),
     case!(
         "a left origin before the scan ends it",
-        A1,
+        A_BY_1,
         B_BEHIND_A,
         Put(0, (3, 0), Some((1, 0)), None, "m"),
         Put(0, (2, 0), Some((1, 1)), None, "n"),
     ),
     case!(
         "the right origin ends the scan before all else",
-        R0,
+        R_BY_0,
         Put(0, (2, 0), None, Some((0, 0)), "n"),
     ),
     case!(
         "a deleted run is scanned as others are",
-        A1,
+        A_BY_1,
         Delete((1, 0), 1),
-        N2
+        N_BY_2
     ),
 ];
