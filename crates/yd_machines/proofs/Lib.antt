@@ -1,0 +1,3 @@
+pub mod HubLemmas
+pub mod OwnStateLemmas
+pub mod PeerLemmas

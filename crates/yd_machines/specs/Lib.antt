@@ -1,0 +1,5 @@
+pub mod Asked
+pub mod HubStep
+pub mod PeerStep
+pub mod Sent
+pub mod Telling
