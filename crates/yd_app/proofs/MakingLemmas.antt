@@ -3,6 +3,8 @@ use Rattle.std.proofs.Common.{◌≡◌, ◌≢◌, ◌⊎◌, ◌∙◌, ℕ, L
 use Rattle.std.specs.Global.{Vec}
 use Rattle.yd_meaning.specs.Document.{Document, IsDocumentOf, document_of}
 use Rattle.yd_ops.specs.Value.{UpdateValue}
+use Rattle.yd_v1.specs.Log.{StandsForLog}
+use Rattle.yd_v1.specs.LogWriting.{log_bytes}
 use Rattle.yd_updates.specs.Received.{Received, received_set}
 use Rattle.yd_world.specs.Shelf.{Shelf}
 use Rattle.yd_world.specs.Traffic.{Traffic}
@@ -17,12 +19,12 @@ use Rattle.yd_files.specs.declared.fault.FileFault.TheVariants as faults
 use Rattle.yd_files.specs.Verdict.{Inputs, StandFor}
 use Rattle.yd_app.proofs.DueLemmas.{weaker}
 use Rattle.yd_app.specs.Asking.{StopsAsking}
-use Rattle.yd_app.specs.Command.{Command}
+use Rattle.yd_app.specs.Command.{Command, pack}
 use Rattle.yd_app.specs.Due.{IsDue, output}
 use Rattle.yd_app.specs.Ending.{Delivers, Ends, status_of}
 use Rattle.yd_app.specs.Output.{AreMade, IsMadeOf, StandsForAgain, output_of}
 use Rattle.yd_app.specs.Run.{TakesAllOf, Writes}
-use Rattle.yd_app.specs.Stopping.{Makes, MakesOf, StopsMaking, StopsOver, stop_of_fault, stop_of_outage}
+use Rattle.yd_app.specs.Stopping.{Makes, MakesOf, MakesOn, StopsFor, StopsMaking, StopsOver, stop_of_fault, stop_of_outage}
 use Rattle.yd_app.specs.Words.{Asks, AsksFor}
 use Rattle.yd_app.specs.Writing.{CountsFault, TakesFront}
 use Rattle.yd_app.specs.declared.stop.Stop.{Stop}
@@ -55,23 +57,38 @@ asks_none Calm words told told_now reads (Err other) (ReadFault file) is asking 
 asks_none Calm words told told_now reads (Err other) (TooLarge file) is asking = absurd asking
 asks_none Calm words told told_now reads (Err other) WriteFault is asking = absurd asking
 
+-- files of which the command made nothing
+pub makes_stopped : (Calm : Type 0) (words : List (List ℕ)) (command : Command) (files : List File) (told told_now : Option Shelf) (reads : Count) (result : Result (Vec ℕ) Stop) (stop : Stop) → IsErr result × IsErrAnd result (λ s. s ≡ stop)
+    → Asks words command files → MakesOn Calm command files told told_now reads (Err stop) → Makes Calm words told told_now reads result
+makes_stopped Calm words command files told told_now reads (Ok bytes) stop is asks stops = absurd is.1
+makes_stopped Calm words command files told told_now reads (Err other) stop is asks (inl none) = inl (is.1 ∙ none)
+makes_stopped Calm words command files told told_now reads (Err other) stop is asks (inr (inl stops)) =
+    inr (inr (inl (record { command = command; files = files; asks = asks; holds = subst (StopsFor Calm told told_now files reads) (sym is.1) stops })))
+makes_stopped Calm words command files told told_now reads (Err other) stop is asks (inr (inr over)) =
+    inr (inr (inr (record { command = command; files = files; asks = asks; holds = subst (StopsOver command files told) (sym is.1) over })))
+
+-- what it made
+pub makes_asked : (Calm : Type 0) (words : List (List ℕ)) (command : Command) (files : List File) (told told_now : Option Shelf) (reads : Count) (bytes : Vec ℕ) → Asks words command files → MakesOf command files told bytes.items → Makes Calm words told told_now reads (Ok bytes)
+makes_asked Calm words command files told told_now reads bytes asks made = record { command = command; files = files; asks = asks; holds = made }
+
+-- ---- what a command makes of its files
+
 -- files that are not all accepted
-pub reads_none : (Calm : Type 0) (words : List (List ℕ)) (command : Command) (files : List File) (told told_now : Option Shelf) (reads : Count) (result : Result (Vec ℕ) Stop) (fault : FileFault) → IsErr result × IsErrAnd result (λ s. s ≡ stop_of_fault fault)
-    → Asks words command files → StopsAmong Calm told told_now files reads fault → Makes Calm words told told_now reads result
-reads_none Calm words command files told told_now reads (Ok bytes) fault is asks stops = absurd is.1
-reads_none Calm words command files told told_now reads (Err stop) fault is asks stops = inr (inr (inl (record { command = command; files = files; asks = asks; holds = (fault, is.1, stops) })))
+pub reads_none : (Calm : Type 0) (command : Command) (files : List File) (told told_now : Option Shelf) (reads : Count) (result : Result (Vec ℕ) Stop) (fault : FileFault) → IsErr result × IsErrAnd result (λ s. s ≡ stop_of_fault fault)
+    → StopsAmong Calm told told_now files reads fault → MakesOn Calm command files told told_now reads result
+reads_none Calm command files told told_now reads (Ok bytes) fault is stops = absurd is.1
+reads_none Calm command files told told_now reads (Err stop) fault is stops = inr (inl (fault, is.1, stops))
 
 -- inputs of which the command makes nothing
-pub refuses_some : (Calm : Type 0) (words : List (List ℕ)) (command : Command) (files : List File) (told told_now : Option Shelf) (reads : Count) (inputs : Inputs) (result : Result (Vec ℕ) Stop) (stop : Stop) → IsErr result × IsErrAnd result (λ s. s ≡ stop)
-    → Asks words command files → StandFor told files inputs → StopsMaking command inputs stop → Makes Calm words told told_now reads result
-refuses_some Calm words command files told told_now reads inputs (Ok bytes) stop is asks stand stops = absurd is.1
-refuses_some Calm words command files told told_now reads inputs (Err other) stop is asks stand stops =
-    inr (inr (inr (record { command = command; files = files; asks = asks; holds = (inputs, stand, subst (StopsMaking command inputs) (sym is.1) stops) })))
+pub refuses_some : (Calm : Type 0) (command : Command) (files : List File) (told told_now : Option Shelf) (reads : Count) (inputs : Inputs) (result : Result (Vec ℕ) Stop) (stop : Stop) → IsErr result × IsErrAnd result (λ s. s ≡ stop)
+    → StandFor told files inputs → StopsMaking command inputs stop → MakesOn Calm command files told told_now reads result
+refuses_some Calm command files told told_now reads inputs (Ok bytes) stop is stand stops = absurd is.1
+refuses_some Calm command files told told_now reads inputs (Err other) stop is stand stops = inr (inr (inputs, stand, subst (StopsMaking command inputs) (sym is.1) stops))
 
--- no memory to make it
-pub makes_none : (Calm : Type 0) (words : List (List ℕ)) (told told_now : Option Shelf) (reads : Count) (result : Result (Vec ℕ) Stop) → IsErr result × IsErrAnd result (λ s. s ≡ NoMemory) → Makes Calm words told told_now reads result
-makes_none Calm words told told_now reads (Ok bytes) is = absurd is.1
-makes_none Calm words told told_now reads (Err stop) is = inl is.1
+-- the log of the updates that the files stand for
+pub packs_files : (told : Option Shelf) (files : List File) (inputs : Inputs) (bytes : List ℕ) → StandFor told files inputs → bytes ≡ log_bytes inputs.updates → StandsForLog bytes inputs.updates → MakesOf pack files told bytes
+packs_files told files inputs bytes stand written again =
+    (inputs, stand, made_of_updates pack inputs bytes refl (subst (λ (b : List ℕ). StandsForLog b inputs.updates) written again) (λ document. written))
 
 -- ---- how the run ends
 

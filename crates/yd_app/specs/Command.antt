@@ -77,6 +77,11 @@ abbrev pub HasRange : Command → Type 0
 HasRange (edit client name) = IsClient client
 HasRange command = Unit {0}
 
+-- it is of what the files stand for together: all are, but `pack`, which writes each update when it is read
+abbrev pub IsOfInputs : Command → Type 0
+IsOfInputs pack = ⊥
+IsOfInputs command = Unit {0}
+
 -- which files it wants
 abbrev pub wanted_by : Command → Wanted
 wanted_by (show mode root) = Several

@@ -51,6 +51,12 @@ StopsMaking command inputs WriteFault = ⊥
 abbrev pub StopsOver : Command → List File → Option Shelf → Stop → Type 0
 StopsOver command files told stop = (inputs : Inputs) × StandFor told files inputs × StopsMaking command inputs stop
 
+-- what is made is what the command makes of the files; or reading them stopped, the command refuses what they stand for, or memory is
+-- wanted
+abbrev pub MakesOn : Type 0 → Command → List File → Option Shelf → Option Shelf → Count → Result (Vec ℕ) Stop → Type 0
+MakesOn Calm command files told told_now reads (Ok bytes) = MakesOf command files told bytes.items
+MakesOn Calm command files told told_now reads (Err stop) = (stop ≡ NoMemory) ⊎ StopsFor Calm told told_now files reads stop ⊎ StopsOver command files told stop
+
 -- what is made is what the words ask for; or they are of no form, reading the files stopped, the command refuses what they stand for, or
 -- memory is wanted
 abbrev pub Makes : Type 0 → List (List ℕ) → Option Shelf → Option Shelf → Count → Result (Vec ℕ) Stop → Type 0

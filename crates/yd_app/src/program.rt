@@ -5,14 +5,13 @@ ghost use Rattle.yd_files.specs.Counts.{count_of};
 ghost use Rattle.yd_app.specs.Run.{Comes, Completes, CutsOff, HasReason, IsOneOf, TellsErr, Writes};
 ghost use Rattle.yd_app.specs.Stopping.{Makes, ReadsAsked};
 
-use crate::commands::output_of;
+use crate::commands::make_of;
 use crate::delivery::deliver;
 use crate::ending::report;
 use crate::request::request_of;
 use crate::stop::Stop;
 use crate::word::Word;
 use std::alloc::Global;
-use yd_files::read_files;
 use yd_world::{Library, Sink, Switchboard};
 
 /// Does what the words ask for, and answers the status. The words that run are
@@ -62,8 +61,7 @@ pub fn run<L: Library, S: Sink, B: Switchboard>(
     report(ending, err)
 }
 
-// Makes what the words ask for: all files are read, and the command makes bytes of what they stand
-// for.
+// Makes what the words ask for.
 fn make<'a, L: Library>(
     alloc: Global,
     words: &'a [Word],
@@ -75,7 +73,6 @@ fn make<'a, L: Library>(
         (count_of (L.faults library.old) (L.faults library.new)) }
 {
     let request = request_of(alloc, words)?;
-    let inputs = read_files(alloc, library, request.files.as_slice())?;
-    let output = output_of(alloc, request.command, &inputs)?;
+    let output = make_of(alloc, request.command, library, request.files.as_slice())?;
     Ok(output)
 }

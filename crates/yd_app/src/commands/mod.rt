@@ -1,12 +1,14 @@
 //! The commands, each in a file of its own: bytes made of what files stand for.
 
-ghost use Rattle.std.specs.Prelude.{IfOk, IfErr};
+ghost use Rattle.std.specs.Prelude.{map, IfOk, IfErr};
 ghost use Rattle.yd_words.specs.Each.{Each};
 ghost use Rattle.yd_ops.specs.Valid.{IsValidUpdate};
-ghost use Rattle.yd_files.specs.Seen.{inputs_of};
-ghost use Rattle.yd_app.specs.Command.{command_of, HasRange};
+ghost use Rattle.yd_files.specs.Counts.{count_of};
+ghost use Rattle.yd_files.specs.Reading.{ReadsCalmly};
+ghost use Rattle.yd_files.specs.Seen.{file_of, inputs_of};
+ghost use Rattle.yd_app.specs.Command.{command_of, HasRange, IsOfInputs};
 ghost use Rattle.yd_app.specs.Output.{IsMadeOf};
-ghost use Rattle.yd_app.specs.Stopping.{StopsMaking};
+ghost use Rattle.yd_app.specs.Stopping.{MakesOn, StopsMaking};
 
 mod convert;
 mod cut;
@@ -19,16 +21,42 @@ mod vector;
 use crate::command::Command;
 use crate::stop::Stop;
 use std::alloc::Global;
-use yd_files::Inputs;
+use yd_files::{File, Inputs, read_files};
+use yd_world::Library;
 
-/// What the command makes of what its files stand for, or why it refuses that.
-pub fn output_of<'a>(
+/// What the command makes of its files, or why it stops. `pack` writes while it reads; all other
+/// commands are of what the files stand for together.
+pub fn make_of<'a, L: Library>(
     alloc: Global,
     command: Command<'a>,
-    inputs: &Inputs,
+    library: &mut L,
+    files: &[File<'a>],
 ) -> Result<Vec<u8>, Stop<'a>>
+    requires range { HasRange (command_of command) }
+    ensures makes { MakesOn (L.is_calm library.old) (command_of command.entry)
+        (map file_of files.now) (L.told library.old) (L.told library.new)
+        (count_of (L.faults library.old) (L.faults library.new)) result }
+    ensures calm { L.is_calm library.old → ReadsCalmly (L.told library.old)
+        (map file_of files.now) (count_of (L.faults library.old) (L.faults library.new)) }
+{
+    match command {
+        Command::Pack => {
+            let log = pack::pack(alloc, library, files)?;
+            Ok(log)
+        }
+        _ => {
+            let inputs = read_files(alloc, library, files)?;
+            let output = output_of(alloc, command, &inputs)?;
+            Ok(output)
+        }
+    }
+}
+
+// What the command makes of what its files stand for, or why it refuses that.
+fn output_of<'a>(alloc: Global, command: Command<'a>, inputs: &Inputs) -> Result<Vec<u8>, Stop<'a>>
     requires valid { Each IsValidUpdate (inputs_of inputs.now).updates }
     requires range { HasRange (command_of command) }
+    requires together { IsOfInputs (command_of command) }
     ensures made { IfOk result (λ bytes.
         IsMadeOf (command_of command.entry) (inputs_of inputs.now) bytes.items) }
     ensures stops { IfErr result
@@ -37,7 +65,7 @@ pub fn output_of<'a>(
     match command {
         Command::Show { mode, root } => Ok(show::show(alloc, mode, root, inputs)?),
         Command::Convert { form } => Ok(convert::convert(alloc, form, inputs)?),
-        Command::Pack => Ok(pack::pack(alloc, inputs)?),
+        Command::Pack => unreachable!(),
         Command::Merge { form } => Ok(merge::merge(alloc, form, inputs)?),
         Command::Vector => Ok(vector::vector(alloc, inputs)?),
         Command::Cut { .. } => Ok(cut::cut(alloc, inputs)?),
