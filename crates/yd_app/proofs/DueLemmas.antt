@@ -11,7 +11,7 @@ use Rattle.yd_files.proofs.VerdictLemmas.{files_judged, stand_apart, stand_one, 
 use Rattle.yd_files.specs.Files.{File}
 use Rattle.yd_files.specs.Verdict.{Inputs, IsTold, StandFor, StopsAt, Verdict, accepted, missing, refused, too_large}
 use Rattle.yd_app.proofs.WordLemmas.{asked_or_not, asks_same}
-use Rattle.yd_app.specs.Command.{Command, convert, cut, edit, merge, pack, show, vector}
+use Rattle.yd_app.specs.Command.{Command, check, convert, cut, edit, merge, pack, show, vector}
 use Rattle.yd_app.specs.Commands.Edit.{lines_of_first, refused_script_line}
 use Rattle.yd_app.specs.Due.{Due, IsDue, Refuses, lacking, no_step_2, output, over_limit, refusal, usage}
 use Rattle.yd_app.specs.Law.{OneIsDue}
@@ -46,6 +46,7 @@ made_one pack inputs made other a b = a ∙ sym b
 made_one (merge form) inputs made other a b = a ∙ sym b
 made_one vector inputs made other a b = a ∙ sym b
 made_one (cut name) inputs made other a b = a ∙ sym b
+made_one check inputs made other a b = a ∙ sym b
 made_one (edit client name) inputs made other a b = lines_end.one_row client _ _ made other a b
 
 -- it writes one output
@@ -61,6 +62,7 @@ refusal_one pack inputs line other a b = absurd a
 refusal_one (merge form) inputs line other a b = absurd a
 refusal_one vector inputs line other a b = absurd a
 refusal_one (cut name) inputs line other a b = absurd a
+refusal_one check inputs line other a b = absurd a
 refusal_one (edit client name) inputs line other a b =
     let same = lines_end.one_stop client _ _ a.0 b.0 a.1 b.1 a.2 b.2 in a.3 ∙ ap₂ (λ number (cause : LineCause). refused_script_line name number cause) same.0 same.1 ∙ sym b.3
 
@@ -72,6 +74,7 @@ output_apart pack inputs bytes line a b = b
 output_apart (merge form) inputs bytes line a b = b
 output_apart vector inputs bytes line a b = b
 output_apart (cut name) inputs bytes line a b = b
+output_apart check inputs bytes line a b = b
 output_apart (edit client name) inputs bytes line a b = lines_end.apart client _ _ a.made b.0 b.1 a.are_made b.2
 
 -- where it made these, it writes something
@@ -87,6 +90,7 @@ output_or_refusal pack inputs = inl (output_made pack inputs [] refl)
 output_or_refusal (merge form) inputs = inl (output_made (merge form) inputs [] refl)
 output_or_refusal vector inputs = inl (output_made vector inputs [] refl)
 output_or_refusal (cut name) inputs = inl (output_made (cut name) inputs [] refl)
+output_or_refusal check inputs = inl (output_made check inputs [] refl)
 output_or_refusal (edit client name) inputs = elim (lines_end.some client (received_set inputs.updates) (lines_of_first inputs.scripts)) [
   | inl played ↦ inl (output_made (edit client name) inputs played.0 played.1)
   | inr stops ↦ inr (refused_script_line name stops.0 stops.1, (stops.0, stops.1, stops.2, refl))

@@ -1,3 +1,4 @@
+pub mod CheckLemmas
 pub mod DueLemmas
 pub mod LawLemmas
 pub mod MakingLemmas

@@ -12,7 +12,7 @@ use Rattle.yd_files.specs.Verdict.{AreRead, Content, Inputs, StandFor, StandsIn,
 use Rattle.yd_files.specs.declared.kind.Kind.{Kind}
 use Rattle.yd_app.proofs.LawLemmas.{received_same}
 use Rattle.yd_app.proofs.WordLemmas.{asks_same}
-use Rattle.yd_app.specs.Command.{Command, convert, cut, edit, merge, pack, show, vector}
+use Rattle.yd_app.specs.Command.{Command, check, convert, cut, edit, merge, pack, show, vector}
 use Rattle.yd_app.specs.Commands.Convert.{StandsAgain, converted_bytes, converted_output}
 use Rattle.yd_app.specs.Commands.Vector.{vector_bytes}
 use Rattle.yd_grouping.specs.Reach.{reach_of}
@@ -31,6 +31,7 @@ output_same (convert form) one another bytes others_bytes of same a b = absurd o
 output_same pack one another bytes others_bytes of same a b = absurd of
 output_same (cut name) one another bytes others_bytes of same a b = absurd of
 output_same (edit client name) one another bytes others_bytes of same a b = absurd of
+output_same check one another bytes others_bytes of same a b = absurd of
 output_same (merge form) one another bytes others_bytes of same a b = a.bytes_are ∙ ap (converted_bytes form) same ∙ sym b.bytes_are
 output_same vector one another bytes others_bytes of same a b = a.bytes_are ∙ ap (λ (u : UpdateValue). vector_bytes (reach_of u)) same ∙ sym b.bytes_are
 
@@ -41,7 +42,7 @@ merges_same command shelf other files others one another of read also contents =
     output_same command one another bytes others_bytes of (ap received_grouped (received_same one.updates another.updates (stand_valid shelf files one read) (stand_valid other others another also) contents)) a b
 
 -- what a run of a command has written
-written_of : (command : Command) (inputs : Inputs) (words : List (List ℕ)) (shelf : Shelf) (taken now : Option (List ℕ)) → Runs command inputs words shelf taken now → (bytes : List ℕ) × IsOutputOf command inputs bytes × TakesAll taken now bytes
+pub written_of : (command : Command) (inputs : Inputs) (words : List (List ℕ)) (shelf : Shelf) (taken now : Option (List ℕ)) → Runs command inputs words shelf taken now → (bytes : List ℕ) × IsOutputOf command inputs bytes × TakesAll taken now bytes
 written_of command inputs words shelf taken now runs =
     let w = runs.writes in
     let same = asks_same words w.command command w.files runs.files w.asks runs.asks in

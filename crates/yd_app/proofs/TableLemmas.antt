@@ -7,8 +7,8 @@ use Rattle.std.specs.Str.Parse.{ParsesUnsigned, digits_value}
 use Rattle.yd_ids.specs.Id.{IsClient}
 use Rattle.yd_ids.specs.declared.id.Client.{Client}
 use Rattle.std.specs.Str.{bytes_eq}
-use Rattle.yd_app.specs.Command.{Command, HasRange, arguments_of, convert, cut, edit, merge, name_of, pack, show, vector, word_of, word_of_mode, words_of}
-use Rattle.yd_app.specs.Table.{Begun, Row, client_in, client_with, command_in, convert_in, convert_to, cut_in, edit_by, edit_in, either, format_in, merge_in, merge_to, mode_in, pack_in, row_in, show_in, show_to, table, vector_in}
+use Rattle.yd_app.specs.Command.{Command, HasRange, arguments_of, check, convert, cut, edit, merge, name_of, pack, show, vector, word_of, word_of_mode, words_of}
+use Rattle.yd_app.specs.Table.{Begun, Row, check_in, client_in, client_with, command_in, convert_in, convert_to, cut_in, edit_by, edit_in, either, format_in, merge_in, merge_to, mode_in, pack_in, row_in, show_in, show_to, table, vector_in}
 use Rattle.yd_app.specs.declared.format.Format.{Format}
 use Rattle.yd_app.specs.declared.format.Format.TheVariants.{V1, V2}
 use Rattle.yd_modes.specs.declared.mode.Mode.{Mode}
@@ -209,6 +209,12 @@ edit_sound (word ∷ name ∷ rest) command names is = by_client (client_in word
         (refl, subst (λ (ns : List (List ℕ)). word ∷ name ∷ rest ≡ decimal client.0 ∷ name ∷ ns) one.1 (ap (λ (w : List ℕ). w ∷ name ∷ rest) (client_named word client named).0))
     by_client None named found = absurd cc
 
+check_sound : IsSound (record { name = codes "check"; arguments = check_in })
+unfolding IsSound
+check_sound words command names is =
+    let one = read_one check command words names (Some (check, words)) refl is in
+    subst (λ (c : Command). (codes "check" ≡ name_of c) × (words ≡ arguments_of c ++ names)) one.0 (refl, one.1)
+
 -- all rows are so
 AreSound : List Row → Type 0
 AreSound [] = Unit {0}
@@ -216,7 +222,7 @@ AreSound (row ∷ rows) = IsSound row × AreSound rows
 
 table_sound : AreSound table
 unfolding AreSound
-table_sound = (show_sound, (convert_sound, (pack_sound, (merge_sound, (vector_sound, (cut_sound, (edit_sound, tt)))))))
+table_sound = (show_sound, (convert_sound, (pack_sound, (merge_sound, (vector_sound, (cut_sound, (edit_sound, (check_sound, tt))))))))
 
 row_found : (rows : List Row) → AreSound rows → (name : List ℕ) (words : List (List ℕ)) (command : Command) (names : List (List ℕ)) → row_in rows name words ≡ Some (command, names) → name ∷ words ≡ words_of command names
 unfolding AreSound IsSound
@@ -253,6 +259,7 @@ command_read (merge V2) names range = refl
 command_read vector names range = refl
 command_read (cut name) names range = refl
 command_read (edit client name) names range = ap (λ (found : Option Client). edit_by found name names) (client_read client range)
+command_read check names range = refl
 
 -- what words are read as has its numbers in range
 pub range_found : (words : List (List ℕ)) (command : Command) (names : List (List ℕ)) → command_in words ≡ Some (command, names) → HasRange command
@@ -262,6 +269,7 @@ range_found words pack names is = tt
 range_found words (merge form) names is = tt
 range_found words vector names is = tt
 range_found words (cut name) names is = tt
+range_found words check names is = tt
 range_found words (edit client name) names is =
     by_client (client_in (decimal client.0)) refl (subst (λ (ws : List (List ℕ)). command_in ws ≡ Some (edit client name, names)) (command_found words (edit client name) names is) is)
   where

@@ -5,7 +5,7 @@ use Rattle.yd_ids.specs.Id.{IsClient}
 use Rattle.yd_files.specs.Files.{AreOneUpdate, File}
 use Rattle.yd_files.specs.declared.kind.Kind.TheVariants as kinds
 use Rattle.yd_app.specs.declared.command.Command.{Command as CommandSeen}
-use Rattle.yd_app.specs.declared.command.Command.TheVariants.{Show, Convert, Pack, Merge, Vector, Cut, Edit}
+use Rattle.yd_app.specs.declared.command.Command.TheVariants.{Show, Convert, Pack, Merge, Vector, Cut, Edit, Check}
 use Rattle.yd_app.specs.declared.command.Wanted.{Wanted}
 use Rattle.yd_app.specs.declared.command.Wanted.TheVariants.{Several, OneUpdate, Any}
 use Rattle.yd_app.specs.declared.format.Format.{Format}
@@ -18,8 +18,8 @@ abbrev pub usage_line : List ℕ
 usage_line = codes "usage: ydoc show|merge|cut|vector|convert|edit|serve|sync|check|generate|pack\n"
 
 -- what is done with files: a root is shown in a mode of all that they hold, the one file is written in a format, all updates as one log
--- or as one update in a format, the vector that all reach together, or what the one file has from the vector in a file on; or a client
--- plays the script in a file on all that they hold, and what its lines made is written as one update
+-- or as one update in a format, the vector that all reach together, or what the one file has from the vector in a file on; a client plays
+-- the script in a file on all that they hold, and what its lines made is written as one update; or it is told what was found of all updates
 pub data Command : Type 0 where
   show : Mode → List ℕ → Command
   convert : Format → Command
@@ -28,6 +28,7 @@ pub data Command : Type 0 where
   vector : Command
   cut : List ℕ → Command
   edit : Client → List ℕ → Command
+  check : Command
 
 -- the command that the code has, without where its texts lie in memory
 abbrev pub command_of : CommandSeen → Command
@@ -38,6 +39,7 @@ command_of (Merge form) = merge form
 command_of Vector = vector
 command_of (Cut name) = cut name.now
 command_of (Edit client name) = edit client name.now
+command_of Check = check
 
 -- its name
 abbrev pub name_of : Command → List ℕ
@@ -48,6 +50,7 @@ name_of (merge form) = codes "merge"
 name_of vector = codes "vector"
 name_of (cut name) = codes "cut"
 name_of (edit client name) = codes "edit"
+name_of check = codes "check"
 
 -- the word that names a format
 abbrev pub word_of : Format → List ℕ
@@ -71,6 +74,7 @@ arguments_of (merge form) = word_of form ∷ []
 arguments_of vector = []
 arguments_of (cut name) = name ∷ []
 arguments_of (edit client name) = decimal client.0 ∷ name ∷ []
+arguments_of check = []
 
 -- the numbers among its arguments are in range
 abbrev pub HasRange : Command → Type 0
@@ -91,6 +95,7 @@ wanted_by (merge form) = Several
 wanted_by vector = Several
 wanted_by (cut name) = OneUpdate
 wanted_by (edit client name) = Any
+wanted_by check = Several
 
 -- the files that its own words name, which are read before all others
 abbrev pub own_files : Command → List File

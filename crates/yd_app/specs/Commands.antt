@@ -1,4 +1,5 @@
 -- The commands, each in a file of its own.
+pub mod Check
 pub mod Convert
 pub mod Cut
 pub mod Edit

@@ -11,7 +11,7 @@ use Rattle.yd_files.specs.Files.{File}
 use Rattle.yd_files.specs.Verdict.{Inputs, StandFor}
 use Rattle.yd_files.specs.declared.kind.Kind.{Kind}
 use Rattle.yd_files.specs.declared.kind.Kind.TheVariants as kinds
-use Rattle.yd_app.specs.Command.{Command, convert, merge, show, vector}
+use Rattle.yd_app.specs.Command.{Command, check, convert, merge, show, vector}
 use Rattle.yd_app.specs.Due.{Due, IsDue}
 use Rattle.yd_app.specs.Output.{IsMadeOf, IsOutputOf}
 use Rattle.yd_app.specs.Run.{Writes}
@@ -88,6 +88,23 @@ abbrev pub MergeRunsConverge : Type 0
 MergeRunsConverge = (command : Command) (one another : Inputs) (words others : List (List ℕ)) (shelf other : Shelf) (taken now took took_now : Option (List ℕ)) → WritesOfMerge command →
     Runs command one words shelf taken now → Runs command another others other took took_now → AreSameChanges one.updates another.updates →
     (written : List ℕ) × TakesAll taken now written × TakesAll took took_now written
+
+-- ---- checks
+
+-- files in any formats, by any names and in any libraries, are told alike, in all seven lines, where they are the same changes and agree
+abbrev pub ChecksConverge : Type 0
+ChecksConverge = (shelf other : Shelf) (files others : List File) (one another : Inputs) → StandFor (Some shelf) files one → StandFor (Some other) others another →
+    Agree one.updates → Agree another.updates → AreSameChanges one.updates another.updates →
+    (bytes others_bytes : List ℕ) → IsOutputOf check one bytes → IsOutputOf check another others_bytes → bytes ≡ others_bytes
+
+-- two runs that check the same changes, which agree, and answer 0 have written the same
+abbrev pub CheckRunsConverge : Type 0
+CheckRunsConverge = (one another : Inputs) (words others : List (List ℕ)) (shelf other : Shelf) (taken now took took_now : Option (List ℕ)) →
+    Runs check one words shelf taken now → Runs check another others other took took_now →
+    Agree one.updates → Agree another.updates → AreSameChanges one.updates another.updates →
+    (written : List ℕ) × TakesAll taken now written × TakesAll took took_now written
+
+-- ---- conversions
 
 -- a file in the format
 abbrev pub kind_of : Format → Kind

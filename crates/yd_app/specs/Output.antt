@@ -6,7 +6,8 @@ use Rattle.yd_updates.specs.Received.{received_set}
 use Rattle.yd_files.specs.Verdict.{Inputs}
 use Rattle.yd_v1.specs.Log.{StandsForLog}
 use Rattle.yd_v1.specs.LogWriting.{log_bytes}
-use Rattle.yd_app.specs.Command.{Command, convert, cut, edit, merge, pack, show, vector}
+use Rattle.yd_app.specs.Command.{Command, check, convert, cut, edit, merge, pack, show, vector}
+use Rattle.yd_app.specs.Commands.Check.{check_output}
 use Rattle.yd_app.specs.Commands.Convert.{ConvertedStandsAgain, converted_output}
 use Rattle.yd_app.specs.Commands.Cut.{CutStandsAgain, cut_output}
 use Rattle.yd_app.specs.Commands.Edit.{EditStandsAgain, IsRefusedLine, MakesUpdates}
@@ -29,6 +30,7 @@ output_of (merge form) inputs document made = merged_output form inputs.updates
 output_of vector inputs document made = vector_output inputs.updates
 output_of (cut name) inputs document made = cut_output inputs.kinds inputs.vectors inputs.updates
 output_of (edit client name) inputs document made = merged_output V1 made
+output_of check inputs document made = check_output inputs.updates
 
 -- what `convert` and `pack` write stands for the updates again, and what `merge`, `vector`, `cut` and `edit` write for the merge, its vector, the cut
 -- and what was made
@@ -40,6 +42,7 @@ StandsForAgain (merge form) inputs = MergedStandsAgain form inputs.updates
 StandsForAgain vector inputs = VectorStandsAgain inputs.updates
 StandsForAgain (cut name) inputs = CutStandsAgain inputs.kinds inputs.vectors inputs.updates
 StandsForAgain (edit client name) inputs = EditStandsAgain client inputs
+StandsForAgain check inputs = Unit {0}
 
 -- the bytes are what the command writes of its inputs
 pub record IsOutputOf (command : Command) (inputs : Inputs) (bytes : List ℕ) : Type 0 where

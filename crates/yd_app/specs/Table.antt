@@ -3,7 +3,7 @@ use Rattle.std.specs.Prelude.{ℕ, ◌^◌, ◌&&◌, List, [], ◌∷◌, Bool,
 use Rattle.std.specs.Str.Parse.{digits_value}
 use Rattle.yd_ids.specs.declared.id.Client.{Client}
 use Rattle.std.specs.Str.{bytes_eq}
-use Rattle.yd_app.specs.Command.{Command, convert, cut, edit, merge, pack, show, vector}
+use Rattle.yd_app.specs.Command.{Command, check, convert, cut, edit, merge, pack, show, vector}
 use Rattle.yd_app.specs.declared.format.Format.{Format}
 use Rattle.yd_app.specs.declared.format.Format.TheVariants.{V1, V2}
 use Rattle.yd_modes.specs.declared.mode.Mode.{Mode}
@@ -97,6 +97,10 @@ edit_in [] = None
 edit_in (word ∷ []) = None
 edit_in (word ∷ name ∷ names) = edit_by (client_in word) name names
 
+-- `check`
+abbrev pub check_in : List (List ℕ) → Begun
+check_in names = Some (check, names)
+
 -- ---- the table
 
 abbrev pub table : List Row
@@ -108,6 +112,7 @@ table =
     ∷ record { name = codes "vector"; arguments = vector_in }
     ∷ record { name = codes "cut"; arguments = cut_in }
     ∷ record { name = codes "edit"; arguments = edit_in }
+    ∷ record { name = codes "check"; arguments = check_in }
     ∷ []
 
 -- the row of the name reads the words behind it

@@ -36,6 +36,8 @@ pub enum Command<'a> {
     /// The script under this name is played by this client on what the files hold, and what its lines
     /// made is written as one update.
     Edit { client: Client, script: &'a str },
+    /// It is told how much all updates hold, and whether they agree and keep the edit rules.
+    Check,
 }
 
 /// Which files a command wants.
@@ -62,6 +64,7 @@ impl<'a> Command<'a> {
             Command::Vector => Wanted::Several,
             Command::Cut { .. } => Wanted::OneUpdate,
             Command::Edit { .. } => Wanted::Any,
+            Command::Check => Wanted::Several,
         }
     }
 
@@ -142,6 +145,9 @@ fn command_named<'a>(name: &str, words: &'a [Word]) -> Option<(Command<'a>, &'a 
     }
     if name == "edit" {
         return edit_of(words);
+    }
+    if name == "check" {
+        return Some((Command::Check, words));
     }
     None
 }

@@ -87,3 +87,11 @@ impl From<yd_merge::NoMemory> for NoMemory {
         NoMemory
     }
 }
+
+impl From<yd_checking::NoMemory> for NoMemory {
+    ghost from_gives = { λ _ e. e ≡ record {} };
+
+    fn from(_refused: yd_checking::NoMemory) -> NoMemory {
+        NoMemory
+    }
+}

@@ -5,7 +5,7 @@ ghost use Rattle.std.specs.Prelude.{◌≡◌, [], Some};
 ghost use Rattle.yd_world.specs.MemoryLibrary.{shelf_of};
 ghost use Rattle.yd_world.specs.MemorySink.{IsCalm};
 ghost use Rattle.yd_world.specs.ScriptBoard.{traffic_of};
-ghost use Rattle.yd_app.specs.Law.{AskForOne, MergeRunsConverge, MergesAreConverted, MergesConverge, OneIsDue, RunsConverge, ShowsConverge};
+ghost use Rattle.yd_app.specs.Law.{AskForOne, CheckRunsConverge, ChecksConverge, MergeRunsConverge, MergesAreConverted, MergesConverge, OneIsDue, RunsConverge, ShowsConverge};
 ghost use Rattle.yd_app.specs.Run.{Follows, Writes};
 
 use crate::program::run;
@@ -47,6 +47,18 @@ pub fn merges_converge()
 /// written the same, where their updates agree.
 pub fn merge_runs_converge()
     ensures { MergeRunsConverge }
+{}
+
+/// Files of the same changes are told alike by `check`, in all seven lines: in any order, repeated or
+/// translated, and merged. They have to agree as for [`shows_converge`].
+pub fn checks_converge()
+    ensures { ChecksConverge }
+{}
+
+/// Two runs of `check` over the same changes that answer 0 have written the same, where their updates
+/// agree.
+pub fn check_runs_converge()
+    ensures { CheckRunsConverge }
 {}
 
 /// `convert` of what `merge` wrote in one format is what `merge` writes in the other. A merge in V2

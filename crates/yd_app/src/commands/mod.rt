@@ -10,6 +10,7 @@ ghost use Rattle.yd_app.specs.Command.{command_of, HasRange, IsOfInputs};
 ghost use Rattle.yd_app.specs.Output.{IsMadeOf};
 ghost use Rattle.yd_app.specs.Stopping.{MakesOn, StopsMaking};
 
+mod check;
 mod convert;
 mod cut;
 mod edit;
@@ -70,5 +71,6 @@ fn output_of<'a>(alloc: Global, command: Command<'a>, inputs: &Inputs) -> Result
         Command::Vector => Ok(vector::vector(alloc, inputs)?),
         Command::Cut { .. } => Ok(cut::cut(alloc, inputs)?),
         Command::Edit { client, script } => edit::edit(alloc, client, script, inputs),
+        Command::Check => Ok(check::check(alloc, inputs)?),
     }
 }

@@ -1,7 +1,6 @@
 use Rattle.std.proofs.Common.{◌≡◌, ◌++◌, List, [], ℕ, sym, ap₂, ◌∙◌, subst, append_assoc}
 use Rattle.std.proofs.lemmas.List.{append-nil}
 use Rattle.std.specs.Prelude.{codes, decimal}
-use Rattle.yd_app.specs.Commands.Edit.{with_number}
 use Rattle.yd_app.specs.Writing.{TakesFront}
 use Rattle.yd_app.proofs.WritingLemmas.{front_then, then_front}
 use Rattle.yd_app.proofs.script.tell_number.Goals as goal
