@@ -1,5 +1,5 @@
 -- What a file of each kind stands for is taken in.
-use Rattle.std.proofs.Common.{◌≡◌, ℕ, List, [], ◌∷◌, ◌++◌, Result, Ok, Err, IfErr, IfOk, OnOk, refl, sym, append-nil}
+use Rattle.std.proofs.Common.{◌≡◌, ℕ, List, [], ◌∷◌, ◌++◌, Result, Ok, Err, IfErr, IfOk, OnOk, refl, append-nil}
 use Rattle.yd_fields.specs.UpdatePlan.{vector_plan}
 use Rattle.yd_ids.specs.declared.id.Client.{Client}
 use Rattle.yd_words.proofs.EachLemmas.{each_append}
@@ -11,7 +11,7 @@ use Rattle.yd_parts.specs.declared.fault.ReadError.TheVariants as errors
 use Rattle.yd_reading.specs.Answer.{ReadsWhole}
 use Rattle.yd_script.specs.File.{StandsForScript}
 use Rattle.yd_v1.specs.Grammar.{FillsV1}
-use Rattle.yd_v1.specs.Log.{StandsBehind, StandsForLog}
+use Rattle.yd_v1.specs.Log.{StandsBehind}
 use Rattle.yd_files.specs.Reading.{RefusedBy, TakesFile, TakesRead}
 use Rattle.yd_files.specs.Verdict.{Inputs, StandsIn, one_update, script, updates, vector}
 use Rattle.yd_files.specs.declared.kind.Kind.{Kind}

@@ -40,9 +40,9 @@ pub fn read_files<'a, L: Library>(
     Ok(others.with(updates))
 }
 
-/// Reads the files as [`read_files`] does, and hands their updates on one after another, so that none
-/// is kept; it answers what else they stand for. After an error, which updates were handed on is left
-/// open.
+/// Reads the files as [`read_files`] does, and hands their updates on one after another, so that
+/// none is kept; it answers what else they stand for. After an error, which updates were handed on
+/// is left open.
 pub fn take_files<'a, L: Library, T: UpdateTaker>(
     alloc: Global,
     library: &mut L,

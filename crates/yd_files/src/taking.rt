@@ -18,8 +18,8 @@ use yd_script::read_script;
 use yd_v1::{UpdateTaker, read_v1, read_vector, take_log};
 use yd_v2::read_v2;
 
-/// Reads the bytes of a file of this kind, and takes in what they stand for, or tells the first fault
-/// in them. What was taken in before an error is left open.
+/// Reads the bytes of a file of this kind, and takes in what they stand for, or tells the first
+/// fault in them. What was taken in before an error is left open.
 pub fn take_file<T: UpdateTaker>(
     alloc: Global,
     kind: Kind,

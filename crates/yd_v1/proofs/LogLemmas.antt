@@ -1,5 +1,5 @@
 -- Logs are read exactly.
-use Rattle.std.proofs.Common.{◌≡◌, ◌≢◌, ◌∙◌, ℕ, zero, suc, ◌<◌, ◌≤◌, ◌+◌, ◌-◌, List, [], ◌∷◌, ◌++◌, length, map, Result, Ok, Err, inl, inr, refl, ap, subst, sym, arith, append_assoc, append-nil, length-append}
+use Rattle.std.proofs.Common.{◌≡◌, ◌≢◌, ◌∙◌, ℕ, zero, suc, ◌<◌, ◌≤◌, ◌+◌, ◌-◌, List, [], ◌∷◌, ◌++◌, length, Result, Ok, Err, inl, inr, refl, ap, subst, sym, arith, append_assoc, append-nil, length-append}
 use Rattle.yd_num.proofs.ReadingLemmas.{ok_value}
 use Rattle.yd_num.specs.Number.{IsTerminated}
 use Rattle.yd_ops.specs.Value.{UpdateValue}
@@ -12,13 +12,10 @@ use Rattle.yd_parts.specs.declared.fault.ReadError.{ReadError}
 use Rattle.yd_fields.specs.UpdatePlan.{update_plan}
 use Rattle.std.specs.Prelude.{None}
 use Rattle.std.specs.Result.{IsErrAnd}
-use Rattle.std.proofs.lemmas.List.{map-append}
 use Rattle.std.proofs.lemmas.Result.{err_from_is_err_and}
 use Rattle.yd_words.proofs.EachLemmas.{each_append}
 use Rattle.yd_words.specs.Each.{Each}
 use Rattle.yd_ops.specs.Valid.{IsValidUpdate}
-use Rattle.yd_ops.specs.View.{update_value}
-use Rattle.yd_ops.specs.declared.updates.Update.{Update}
 use Rattle.yd_parts.proofs.FaultLemmas.{fault_outwards}
 use Rattle.yd_reading.specs.Files.{FilesAreRead}
 use Rattle.yd_v1.proofs.FileLemmas.{files_read}

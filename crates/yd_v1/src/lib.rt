@@ -4,10 +4,10 @@
 //! In V1 the fields of an update stand one after another, each in its parts ([`V1Reader`],
 //! [`V1Writer`]). [`read_v1`] answers the update that a file stands for, or the first fault in it,
 //! by cause and place; [`write_v1`] answers the bytes of an update, and they stand for it. State
-//! vectors are spelled in V1 too ([`read_vector`], [`write_vector`]). A log file is updates in V1 one
-//! behind the other ([`read_log`], [`write_log`]), and it can be read and written without keeping its
-//! updates ([`take_log`], [`LogWriter`]). That all of them are exact is proved of every file,
-//! every update and every vector ([`law`]).
+//! vectors are spelled in V1 too ([`read_vector`], [`write_vector`]). A log file is updates in V1
+//! one behind the other ([`read_log`], [`write_log`]), and it can be read and written without
+//! keeping its updates ([`take_log`], [`LogWriter`]). That all of them are exact is proved of every
+//! file, every update and every vector ([`law`]).
 //!
 //! ```rust
 //! let update = read_v1(alloc, &[0, 0])?;

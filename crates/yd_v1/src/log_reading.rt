@@ -25,8 +25,8 @@ pub fn read_log(alloc: Global, bytes: &[u8]) -> Result<UpdateList, ReadError>
     read_list(alloc, bytes)
 }
 
-/// Reads a log file as [`read_log`] does, and hands its updates on one after another, so that none is
-/// kept. After an error those before the fault were handed on (own).
+/// Reads a log file as [`read_log`] does, and hands its updates on one after another, so that none
+/// is kept. After an error those before the fault were handed on (own).
 pub fn take_log<T: UpdateTaker>(alloc: Global, bytes: &[u8], taker: &mut T) -> Result<(), ReadError>
     ensures exact { ReadsWhole (λ done. T.taken taker.new)
         (StandsBehind (T.taken taker.old) bytes.now) (HasFirstFaultLog bytes.now) result }

@@ -13,8 +13,8 @@ use yd_num::Bytes;
 use yd_ops::Update;
 use yd_parts::NoMemory;
 
-/// Writes a log of the updates that it takes, and keeps none of them. It is seen as the bytes of the
-/// log so far.
+/// Writes a log of the updates that it takes, and keeps none of them. It is seen as the bytes of
+/// the log so far.
 #[derive(Drop)]
 pub struct LogWriter {
     alloc: Global,

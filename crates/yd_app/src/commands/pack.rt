@@ -12,8 +12,8 @@ use yd_files::{File, FileFault, take_files};
 use yd_v1::LogWriter;
 use yd_world::Library;
 
-/// The bytes of a log of the updates of the files, in their order, or why reading them stopped. Each
-/// update is written when it is read, and none is kept.
+/// The bytes of a log of the updates of the files, in their order, or why reading them stopped.
+/// Each update is written when it is read, and none is kept.
 pub fn pack<'a, L: Library>(
     alloc: Global,
     library: &mut L,

@@ -1,4 +1,4 @@
-use Rattle.std.proofs.Common.{◌≡◌, ◌++◌, ◌∷◌, List, [], ℕ, map, refl}
+use Rattle.std.proofs.Common.{◌≡◌, ◌++◌, ◌∷◌, [], refl}
 use Rattle.yd_fields.specs.UpdatePlan.{vector_plan}
 use Rattle.yd_ids.specs.Vector.{IsVector}
 use Rattle.yd_ops.specs.Valid.{IsValidUpdate}
