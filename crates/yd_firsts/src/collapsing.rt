@@ -75,7 +75,8 @@ fn single(piece: Stretch, left: Option<Id>) -> Stretch
     }
 }
 
-/// The last unit of each piece that begins with one of the ids. There are none where one is missing.
+/// The last unit of each piece that begins with one of the ids. There are none where one is
+/// missing.
 pub(crate) fn lasts_of(
     alloc: Global,
     pieces: &[Stretch],
@@ -118,15 +119,16 @@ fn ending_with(pieces: &[Stretch], id: Id) -> Option<usize>
     None
 }
 
-/// The place of the last piece that does not begin behind an id in the order of writing, in which the
-/// pieces are.
+/// The place of the last piece that does not begin behind an id in the order of writing, in which
+/// the pieces are.
 fn place_of(pieces: &[Stretch], id: Id) -> Option<usize> {
     pieces
         .partition_point(|piece| begins_up_to(*piece, id))
         .checked_sub(1)
 }
 
-/// The piece does not begin behind an id: it is of a greater client, or of the same with no greater clock.
+/// The piece does not begin behind an id: it is of a greater client, or of the same with no greater
+/// clock.
 fn begins_up_to(piece: Stretch, id: Id) -> bool {
     piece.id.client.0 > id.client.0
         || piece.id.client.0 == id.client.0 && piece.id.clock <= id.clock

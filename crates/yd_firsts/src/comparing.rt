@@ -23,8 +23,8 @@ pub struct Firsts {
     pub lasts: Vec<Id>,
 }
 
-/// The order of the units of stretches, told by the first and the last units of pieces. A right origin
-/// that is not the id of one of the units counts as absent.
+/// The order of the units of stretches, told by the first and the last units of pieces. A right
+/// origin that is not the id of one of the units counts as absent.
 ///
 /// It takes what `yd_order::compare_stretches` takes of one unit for each piece, where that finds a
 /// strict order, and each right origin is a unit. Else the pieces are all units one by one. The

@@ -10,8 +10,8 @@ use std::alloc::Global;
 use yd_ids::{Id, is_smaller};
 use yd_order::Stretch;
 
-/// The stretches, each cut behind the left origins and in front of the right origins that lie in it.
-/// No clause says where it is cut.
+/// The stretches, each cut behind the left origins and in front of the right origins that lie in
+/// it. No clause says where it is cut.
 pub(crate) fn pieces_of(alloc: Global, stretches: &[Stretch]) -> Result<Vec<Stretch>, NoMemory>
     requires { Each EndsAtClock stretches.now }
     ensures { IfOk result (λ pieces. ArePiecesOf pieces.items stretches.now) }
@@ -70,8 +70,8 @@ fn lies_in(stretch: Stretch, id: Id) -> bool {
     id.client.0 == stretch.id.client.0 && id.clock < stretch.id.clock.saturating_add(stretch.len)
 }
 
-/// Appends what of a stretch is in front of an id, and says what is left. Where the id is not inside,
-/// all is left.
+/// Appends what of a stretch is in front of an id, and says what is left. Where the id is not
+/// inside, all is left.
 fn cut_off(pieces: &mut Vec<Stretch>, stretch: Stretch, id: Id) -> Result<Stretch, NoMemory>
     requires { EndsAtClock stretch }
     ensures { IfOk result (λ rest. CutsOff pieces.old.items pieces.new.items stretch rest) }

@@ -13,9 +13,9 @@ use std::alloc::Global;
 use yd_ids::{Id, Vector};
 use yd_received::Received;
 
-/// For each place an end: the ids from the place up to it have the one at the place in their past, or
-/// are it. In a list as it was written these are all units that were put behind it or behind one of
-/// these. Each end is asked once whether it goes on.
+/// For each place an end: the ids from the place up to it have the one at the place in their past,
+/// or are it. In a list as it was written these are all units that were put behind it or behind one
+/// of these. Each end is asked once whether it goes on.
 pub(crate) fn ends_of(
     alloc: Global,
     received: &Received,

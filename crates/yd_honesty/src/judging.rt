@@ -81,9 +81,9 @@ fn are_in_order(list: &Comparison, left: Option<usize>, right: Option<usize>) ->
     }
 }
 
-/// Something that the maker of the unit at a place had stands strictly between two places. In a strict
-/// order no place is looked at that does not stand between them, and where one is not of the past, all
-/// that have it in their past are left out.
+/// Something that the maker of the unit at a place had stands strictly between two places. In a
+/// strict order no place is looked at that does not stand between them, and where one is not of the
+/// past, all that have it in their past are left out.
 fn is_parted(
     received: &Received,
     pasts: &[Vector],
@@ -101,7 +101,8 @@ fn is_parted(
     requires placed { IsPlaced list.now.ids.items list.now.is_strict list.now.cells.items
         left right }
     ensures { (x : IdSeen) → slice_get list.now.ids.items at ≡ Some x → Decides result
-        (IsParted received.now list.now.ids.items list.now.is_strict list.now.cells.items x left right) }
+        (IsParted received.now list.now.ids.items list.now.is_strict list.now.cells.items
+        x left right) }
 {
     let mut place = first_behind(list, left);
     let end = first_not_ahead(list, right);

@@ -2,12 +2,14 @@
 
 ghost use Rattle.yd_honesty.specs.Law.{DishonestIsSmallest, LaterUnitsKeep};
 
-/// No id breaks the edit rules exactly where what is held keeps them; else it is the smallest that does.
+/// No id breaks the edit rules exactly where what is held keeps them; else it is the smallest that
+/// does.
 pub fn dishonest_is_smallest()
     ensures { DishonestIsSmallest }
 {}
 
-/// In a list with a strict order, the later units of a run keep the edit rules if the first one does.
+/// In a list with a strict order, the later units of a run keep the edit rules if the first one
+/// does.
 pub fn later_units_keep()
     ensures { LaterUnitsKeep }
 {}

@@ -12,8 +12,8 @@ use yd_ids::Id;
 use yd_ops::{List, Parent, Run};
 use yd_received::{Entry, Received};
 
-/// The ids that the first of the units needs: the unit before it of its client, its origins, and the
-/// item of the list that it carries.
+/// The ids that the first of the units needs: the unit before it of its client, its origins, and
+/// the item of the list that it carries.
 pub(crate) fn needs_of(
     alloc: Global,
     received: &Received,

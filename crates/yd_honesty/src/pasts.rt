@@ -155,8 +155,8 @@ fn is_held(entry: Entry) -> bool
     }
 }
 
-/// Notes all that the first of held units needs, with the past of each, and says whether that is more
-/// than there was.
+/// Notes all that the first of held units needs, with the past of each, and says whether that is
+/// more than there was.
 fn note_needs(
     received: &Received,
     pasts: &[Vector],

@@ -22,13 +22,13 @@ use yd_order::{Comparison, Stretch};
 use yd_received::Received;
 use yd_state::{State, gathered};
 
-/// The smallest id of an operation that breaks the edit rules, among those that are held and not lost.
-/// There is none exactly where what is held is honest (own; the rules are those of YATA).
+/// The smallest id of an operation that breaks the edit rules, among those that are held and not
+/// lost. There is none exactly where what is held is honest (own; the rules are those of YATA).
 ///
-/// Each list is put in order once, in the time and memory that `compare_firsts` takes for it, and then
-/// the first units of its pieces are judged one by one. Beside that it takes memory with entries times
-/// clients. A piece costs the steps from its left to its right origin, where what is made on what is not
-/// of its past is one step.
+/// Each list is put in order once, in the time and memory that `compare_firsts` takes for it, and
+/// then the first units of its pieces are judged one by one. Beside that it takes memory with
+/// entries times clients. A piece costs the steps from its left to its right origin, where what is
+/// made on what is not of its past is one step.
 pub fn dishonest(alloc: Global, state: &State) -> Result<Option<Id>, NoMemory>
     ensures { IfOk result (λ found.
         found ≡ dishonest_of (held_set (received_in state.now).operations)) }
@@ -72,8 +72,8 @@ fn judge_at(
     Ok(found)
 }
 
-/// The smaller one of an id that was found before, and the smallest one of a list that breaks the edit
-/// rules.
+/// The smaller one of an id that was found before, and the smallest one of a list that breaks the
+/// edit rules.
 fn judge_list(
     alloc: Global,
     received: &Received,
