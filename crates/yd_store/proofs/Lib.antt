@@ -3,3 +3,4 @@ pub mod KeepingLemmas
 pub mod AddingLemmas
 pub mod IntegratingLemmas
 pub mod DeletingLemmas
+pub mod EmptyingLemmas

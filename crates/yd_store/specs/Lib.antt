@@ -3,3 +3,4 @@ pub mod Store
 pub mod Units
 pub mod Integrating
 pub mod Deleting
+pub mod Emptying

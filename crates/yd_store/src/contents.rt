@@ -1,9 +1,9 @@
 //! What the runs of a store hold.
 
-ghost use Rattle.std.specs.Prelude.{◌≡◌, ◌<◌, ◌≤◌, ◌+◌, ◌++◌, ◌∷◌, [], length, OnOk, OnErr, IsOk, option_copied};
+ghost use Rattle.std.specs.Prelude.{◌≡◌, ◌<◌, ◌≤◌, ◌+◌, ◌++◌, ◌∷◌, [], None, slice_set, length, OnOk, OnErr, IsOk, option_copied};
 ghost use Rattle.yd_store.specs.Contents.{told, told_of, run_at, CanCut, CutsTold, KeepsTold};
 
-use crate::cutting::{cut_told, push_told};
+use crate::cutting::{cut_told, drop_told, push_told};
 use std::alloc::{AllocError, Global};
 use std::marker::Model;
 use yd_arena::Beside;
@@ -70,6 +70,15 @@ impl Contents {
         ensures room { self.old.room ≤ self.new.room + 1 }
     {
         push_told(&mut self.runs, run);
+    }
+
+    /// Lets a place tell nothing, as one that is gone. It takes no memory.
+    pub fn empty(&mut self, place: usize)
+        requires { place < length self.old.rows }
+        ensures rows { self.new.rows ≡ slice_set self.old.rows place None }
+        ensures room { self.new.room ≡ self.old.room }
+    {
+        drop_told(&mut self.runs, place);
     }
 }
 

@@ -1,6 +1,6 @@
 //! How what a place tells is cut and added to, over a plain vector.
 
-ghost use Rattle.std.specs.Prelude.{◌≡◌, ◌<◌, ◌≤◌, ◌+◌, ◌++◌, ◌∷◌, [], map, length, IfSome, IfOk, OnOk, OnErr, slice_set, vec_capacity};
+ghost use Rattle.std.specs.Prelude.{◌≡◌, ◌<◌, ◌≤◌, ◌+◌, ◌++◌, ◌∷◌, [], None, map, length, IfSome, IfOk, OnOk, OnErr, slice_set, vec_capacity};
 ghost use Rattle.yd_ids.specs.Id.{IsClock};
 ghost use Rattle.yd_ops.specs.Value.{len_of};
 ghost use Rattle.yd_ops.specs.Cutting.{run_before, run_behind};
@@ -18,6 +18,15 @@ pub fn push_told(runs: &mut Vec<Option<Run>>, run: Option<Run>)
     ensures memory { vec_capacity runs.old ≤ vec_capacity runs.new }
 {
     let _ = runs.push(run);
+}
+
+/// Lets a place tell nothing.
+pub fn drop_told(runs: &mut Vec<Option<Run>>, place: usize)
+    requires { place < length runs.old.items }
+    ensures items { runs.new.items ≡ slice_set runs.old.items place None }
+    ensures memory { vec_capacity runs.new ≡ vec_capacity runs.old }
+{
+    runs[place] = None;
 }
 
 /// Leaves the first units of a run in it, and answers the others as a run, as `Run::cut` does.

@@ -13,6 +13,7 @@ ghost use Rattle.yd_marks.specs.Marks.{mark_at, IsBorder, MarksSpan};
 ghost use Rattle.yd_store.specs.Contents.{told, told_of, run_at};
 ghost use Rattle.yd_store.specs.Store.{spare_of, stretch_of, gone_stretch, IsKept, SplitsAt, StandsIn, AddsRun, AddsOutside};
 ghost use Rattle.yd_store.specs.Units.{KeepsUnits, AddsUnits, AddsApart};
+ghost use Rattle.yd_store.specs.Emptying.{EmptiesRun};
 
 use crate::contents::Contents;
 use crate::counted::counts;
@@ -375,6 +376,17 @@ impl Store {
         self.marks.add(None, len, OUTSIDE);
         self.contents.add(Some(run));
         Ok(place)
+    }
+
+    /// Lets a run that is in no list be gone: of its units the ids alone are told from here on. Lists,
+    /// index and marks are as before. It takes no memory.
+    pub fn empty_run(&mut self, place: usize)
+        requires place { place < length (runs_of self.old.placed) }
+        requires loose { IsLoose self.old.placed.linked place }
+        ensures emptied { EmptiesRun self.old self.new place }
+        ensures spare { (client : ℕ) → spare_of self.new client ≡ spare_of self.old client }
+    {
+        self.contents.empty(place);
     }
 
     /// Marks the units of a span as deleted, run by run. The span is held, and parts no run: see

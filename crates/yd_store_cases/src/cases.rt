@@ -1,7 +1,7 @@
 //! The cases.
 
 use crate::step::Case;
-use crate::step::Step::{self, Add, Delete, Deleted, Gone, Lost, Mark, Put, Split};
+use crate::step::Step::{self, Add, Delete, Deleted, Empty, Gone, Lost, Mark, Put, Split};
 
 /// Three runs at the front: `B` and `A` have no origins, and `C` stands before `B`.
 const B: Step = Put(0, (0, 0), None, None, "B");
@@ -42,7 +42,7 @@ macro_rules! case {
 }
 
 /// The cases in which runs are cut, and those in which nothing is scanned.
-pub const CUTS: [Case; 18] = [
+pub const CUTS: [Case; 19] = [
     Case {
         name: "a run is split at 2 and at 4",
         steps: &[
@@ -145,6 +145,17 @@ pub const CUTS: [Case; 18] = [
             Split((2, 1)),
         ],
         ids: &[(2, 0), (2, 1), (2, 2), (2, 3)],
+    },
+    Case {
+        name: "lost units are gone",
+        steps: &[
+            A_BY_1,
+            Lost((2, 0), "xyz"),
+            Split((2, 1)),
+            Empty((2, 1)),
+            Empty((1, 0)),
+        ],
+        ids: &[(1, 0), (2, 0), (2, 1), (2, 2), (2, 3)],
     },
     case!(
         "units between are known by their neighbours",

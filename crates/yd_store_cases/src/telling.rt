@@ -83,7 +83,9 @@ pub fn tell_id(alloc: Global, store: &Store, at: At, out: &mut Vec<u8>) -> Resul
     let Some(found) = store.find(id) else {
         return add(out, " is not held");
     };
-    if store.is_deleted(found.place) {
+    if store.run_of(found.place).is_none() {
+        add(out, " is gone")?;
+    } else if store.is_deleted(found.place) {
         add(out, " is deleted")?;
     }
     match store.list_of(found.place) {
