@@ -5,7 +5,7 @@
 //! becomes of sends that fail (`specs/Carrying.antt`); and the loops of both (`specs/Serving.antt`,
 //! `specs/Syncing.antt`). Each law is the contract of an empty function ([`law`]), and [`example`]
 //! has small runs that the checker computes. Open sessions ([`Sessions`]) and what is to be done
-//! ([`ActionList`]) have their values; no call carries out an event yet.
+//! ([`ActionList`]) have their values, and `yd_machines` carries out events.
 //!
 //! ```rust
 //! law::hub_receives();

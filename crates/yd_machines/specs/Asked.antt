@@ -13,7 +13,8 @@ use Rattle.yd_hub.specs.OwnAnswers.{CanAnswer, answers_of}
 abbrev pub answers_in : Kept → List (Client × ℕ) → Answers
 answers_in replica vector = answers_of (received_of replica) vector (own_deletes replica)
 
--- the vector counts what the replica holds, so that it answers as the laws of synchronisation ask for
+-- the vector counts what the replica holds, so that it answers as the laws of synchronisation ask
+-- for
 abbrev pub IsVectorOf : Kept → List (Client × ℕ) → Type 0
 IsVectorOf replica vector = CanAnswer (received_of replica) vector (own_deletes replica)
 

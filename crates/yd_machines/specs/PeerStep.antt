@@ -58,8 +58,8 @@ IsProperEvent (Tick now) = Unit {0}
 IsProperEvent (Edited update) = IsValidUpdate (update_value update)
 IsProperEvent (State state now) = IfSome state IsState
 
--- a step took an event: the peer is what the event makes of it, and these messages answer it, as the
--- replica answers before it
+-- a step took an event: the peer is what the event makes of it, and these messages answer it, as
+-- the replica answers before it
 pub record TakesEvent (replica : Kept) (old new : PeerState) (event : PeerEventValue)
     (sent : List MessageValue) : Type 0 where
   pub vector : List (Client × ℕ)
@@ -99,7 +99,8 @@ abbrev pub IsAnswer : Kept → PeerState → PeerEventValue → List MessageValu
 IsAnswer replica old event sent = (vector : List (Client × ℕ)) →
     peer_answer message_reading (answers_in replica vector) old event ≡ Ok sent
 
--- the connection stands: a state vector that counts what is held is asked with, and the own entry told
+-- the connection stands: a state vector that counts what is held is asked with, and the own entry
+-- told
 pub record AsksFirst (replica : Kept) (peer : PeerState) (sent : List MessageValue) : Type 0 where
   pub vector : List (Client × ℕ)
   pub counts : IsVectorOf replica vector

@@ -47,7 +47,8 @@ impl Peer {
     pub(crate) fn take(&mut self, message: Message, now: u64) -> Result<MessageList, NoMemory>
         requires { IsValidMessage (message_value message) }
         ensures taken { IfOk result (λ sent. TakesMessage (replica_of self.old)
-            (peer_state self.old) (peer_state self.new) now (message_value message) (sent_in sent)) }
+            (peer_state self.old) (peer_state self.new) now (message_value message)
+            (sent_in sent)) }
         ensures sendable { IfOk result AreSendable }
         ensures unchanged { OnErr result (peer_state self.new ≡ peer_state self.old) }
     {

@@ -18,9 +18,9 @@ use yd_world::{Event, Session, What};
 /// As many sessions may be open at once.
 const MOST_SESSIONS: usize = 1024;
 
-/// The server's core (y-websocket's server; the limit of sessions and the closes are own): a replica,
-/// the open sessions, and who is there. Contracts see it as `hub_state`, and its replica as
-/// `replica_of_hub`.
+/// The server's core (y-websocket's server; the limit of sessions and the closes are own): a
+/// replica, the open sessions, and who is there. Contracts see it as `hub_state`, and its replica
+/// as `replica_of_hub`.
 #[derive(Drop)]
 pub struct Hub {
     pub(crate) alloc: Global,
@@ -55,11 +55,11 @@ impl Hub {
         &self.replica
     }
 
-    /// Takes one event, and answers what is to be done, in order (y-websocket, its server; the closes
-    /// are own). Where memory ends the hub is as it was, but for whether its replica is behind. A
-    /// message to several sessions is there once. A step takes the time of its message, of the update
-    /// that is applied and of the sessions that are addressed; where a session ends, and where nothing
-    /// came, it goes over all clients once.
+    /// Takes one event, and answers what is to be done, in order (y-websocket, its server; the
+    /// closes are own). Where memory ends the hub is as it was, but for whether its replica is
+    /// behind. A message to several sessions is there once. A step takes the time of its message,
+    /// of the update that is applied and of the sessions that are addressed; where a session ends,
+    /// and where nothing came, it goes over all clients once.
     pub fn step(&mut self, event: &Event) -> Result<ActionList, NoMemory>
         ensures taken { IfOk result (λ actions. TakesHubEvent (replica_of_hub self.old)
             (hub_state self.old) (hub_state self.new) event.entry.now (ordered actions)) }

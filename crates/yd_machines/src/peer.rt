@@ -16,8 +16,8 @@ use yd_ids::Client;
 use yd_ops::Update;
 use yd_sync::Message;
 
-/// The client's core (y-websocket's client): a replica, who is there, and how far the exchange with a
-/// server came. Contracts see it as `peer_state`, and its replica as `replica_of`.
+/// The client's core (y-websocket's client): a replica, who is there, and how far the exchange with
+/// a server came. Contracts see it as `peer_state`, and its replica as `replica_of`.
 #[derive(Drop)]
 pub struct Peer {
     pub(crate) alloc: Global,
@@ -74,10 +74,10 @@ impl Peer {
     }
 
     /// Takes one event, and answers the messages that are to be sent, in order (y-websocket, its
-    /// client; the refusals are own). Bytes that are no message are refused, and so is what would set
-    /// the own state above clock 2^53-1. After a refusal, want of memory included, the peer is as it
-    /// was, but for whether its replica is behind. A step takes the time of the message, of the update
-    /// that is applied and of what is sent; a tick goes over all clients once.
+    /// client; the refusals are own). Bytes that are no message are refused, and so is what would
+    /// set the own state above clock 2^53-1. After a refusal, want of memory included, the peer is
+    /// as it was, but for whether its replica is behind. A step takes the time of the message, of
+    /// the update that is applied and of what is sent; a tick goes over all clients once.
     pub fn step(&mut self, event: &PeerEvent) -> Result<MessageList, PeerFault>
         requires { IsProperEvent event.now }
         ensures taken { IfOk result (λ sent. TakesEvent (replica_of self.old) (peer_state self.old)
@@ -123,7 +123,8 @@ impl Peer {
         ensures answer { IfOk result (λ sent. IsAnswer (replica_of self.old) (peer_state self.old)
             (received bytes.now now) (sent_in sent)) }
         ensures sendable { IfOk result AreSendable }
-        ensures refused { IfErr result (RefusesEvent (peer_state self.old) (received bytes.now now)) }
+        ensures refused { IfErr result
+            (RefusesEvent (peer_state self.old) (received bytes.now now)) }
         ensures unchanged { OnErr result (peer_state self.new ≡ peer_state self.old) }
     {
         let message = message_in(self.alloc, bytes)?;
