@@ -31,38 +31,33 @@ first_hub replica = record { received = received_of replica; sessions = []; tabl
 
 -- a step took an event: the hub is what the event makes of it, and these are the actions that it
 -- orders, as the replica answers before it
-pub record TakesHubEvent (replica : Kept) (old new : HubState) (event : Event)
-    (actions : List ActionValue) : Type 0 where
+pub record TakesHubEvent (replica : Kept) (old new : HubState) (event : Event) (actions : List ActionValue) : Type 0 where
   pub vector : List (Client × ℕ)
   pub counts : IsVectorOf replica vector
   pub after : new ≡ hub_after message_reading old event
   pub orders : hub_actions message_reading (answers_in replica vector) old event ≡ actions
 
 -- one that comes is asked with a state vector that counts what is held, and told who is there
-pub record Welcomes (replica : Kept) (hub : HubState) (session : ℕ)
-    (actions : List ActionValue) : Type 0 where
+pub record Welcomes (replica : Kept) (hub : HubState) (session : ℕ) (actions : List ActionValue) : Type 0 where
   pub vector : List (Client × ℕ)
   pub counts : IsVectorOf replica vector
   pub orders : actions
       ≡ send session (step1 vector) ∷ entries_to (states_of hub.table) (session ∷ [])
 
 -- a session came: these are the actions that this orders
-pub record Opens (replica : Kept) (hub : HubState) (session : ℕ)
-    (actions : List ActionValue) : Type 0 where
+pub record Opens (replica : Kept) (hub : HubState) (session : ℕ) (actions : List ActionValue) : Type 0 where
   pub vector : List (Client × ℕ)
   pub counts : IsVectorOf replica vector
   pub orders : actions_of_opened (answers_in replica vector) hub session ≡ actions
 
 -- bytes came from a session, and were taken, with whatever state vector the replica has
-pub record Hears (replica : Kept) (old new : HubState) (now session : ℕ) (bytes : List ℕ)
-    (actions : List ActionValue) : Type 0 where
+pub record Hears (replica : Kept) (old new : HubState) (now session : ℕ) (bytes : List ℕ) (actions : List ActionValue) : Type 0 where
   pub after : new ≡ after_what message_reading old now (Heard (record { 0 = session }) bytes)
   pub orders : (vector : List (Client × ℕ)) → actions_of_what message_reading
       (answers_in replica vector) old now (Heard (record { 0 = session }) bytes) ≡ actions
 
 -- a message came from an open session, and was taken
-pub record HubTakes (replica : Kept) (old new : HubState) (now session : ℕ) (message : MessageValue)
-    (actions : List ActionValue) : Type 0 where
+pub record HubTakes (replica : Kept) (old new : HubState) (now session : ℕ) (message : MessageValue) (actions : List ActionValue) : Type 0 where
   pub after : new ≡ after_message old now session message
   pub orders : (vector : List (Client × ℕ)) →
       actions_of_message (answers_in replica vector) old now session message ≡ actions

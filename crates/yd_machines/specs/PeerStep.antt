@@ -60,8 +60,7 @@ IsProperEvent (State state now) = IfSome state IsState
 
 -- a step took an event: the peer is what the event makes of it, and these messages answer it, as
 -- the replica answers before it
-pub record TakesEvent (replica : Kept) (old new : PeerState) (event : PeerEventValue)
-    (sent : List MessageValue) : Type 0 where
+pub record TakesEvent (replica : Kept) (old new : PeerState) (event : PeerEventValue) (sent : List MessageValue) : Type 0 where
   pub vector : List (Client × ℕ)
   pub counts : IsVectorOf replica vector
   pub after : new ≡ peer_after message_reading old event
@@ -77,8 +76,7 @@ RefusesEvent old event faults.ClockFull = (answers : Answers) →
 
 -- a message was taken: the peer is what it makes of it, and these messages answer it, with whatever
 -- state vector the replica has
-pub record TakesMessage (replica : Kept) (old new : PeerState) (now : ℕ) (message : MessageValue)
-    (sent : List MessageValue) : Type 0 where
+pub record TakesMessage (replica : Kept) (old new : PeerState) (now : ℕ) (message : MessageValue) (sent : List MessageValue) : Type 0 where
   pub after : new ≡ after_heard old now (Ok message)
   pub answer : (vector : List (Client × ℕ)) →
       answer_to_heard (answers_in replica vector) old (Ok message) ≡ Ok sent
