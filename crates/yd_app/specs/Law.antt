@@ -47,7 +47,8 @@ AreSameChanges one other = HaveOneContents one other ⊎ SayOneThing one other
 
 -- files in any formats, by any names and in any libraries, show the same of each root, in every mode, where they are the same changes
 abbrev pub ShowsConverge : Type 0
-ShowsConverge = (shelf other : Shelf) (files others : List File) (one another : Inputs) (mode : Mode) (root : List ℕ) → StandFor (Some shelf) files one → StandFor (Some other) others another → AreSameChanges one.updates another.updates →
+ShowsConverge = (shelf other : Shelf) (files others : List File) (one another : Inputs) (mode : Mode) (root : List ℕ) → StandFor (Some shelf) files one →
+    StandFor (Some other) others another → AreSameChanges one.updates another.updates →
     (bytes others_bytes : List ℕ) → IsOutputOf (show mode root) one bytes → IsOutputOf (show mode root) another others_bytes → bytes ≡ others_bytes
 
 -- the words ask to show the root in the mode, of files that are read as these inputs, and what is promised for status 0 was written
@@ -73,7 +74,8 @@ WritesOfMerge command = ⊥
 
 -- files in any formats, by any names and in any libraries, have the same merge and the same vector where they are the same changes
 abbrev pub MergesConverge : Type 0
-MergesConverge = (command : Command) (shelf other : Shelf) (files others : List File) (one another : Inputs) → WritesOfMerge command → StandFor (Some shelf) files one → StandFor (Some other) others another → AreSameChanges one.updates another.updates →
+MergesConverge = (command : Command) (shelf other : Shelf) (files others : List File) (one another : Inputs) → WritesOfMerge command → StandFor (Some shelf) files one →
+    StandFor (Some other) others another → AreSameChanges one.updates another.updates →
     (bytes others_bytes : List ℕ) → IsOutputOf command one bytes → IsOutputOf command another others_bytes → bytes ≡ others_bytes
 
 -- the words ask for the command of files that are read as these inputs, and what is promised for status 0 was written
@@ -121,5 +123,6 @@ FitsIn V2 u = structs_in u.blocks ≤ most_structs
 
 -- `convert` of what `merge` wrote in one format is the merge in the other
 abbrev pub MergesAreConverted : Type 0
-MergesAreConverted = (shelf other : Shelf) (files : List File) (name : List ℕ) (form to : Format) (inputs others : Inputs) (bytes written : List ℕ) → StandFor (Some shelf) files inputs → IsMadeOf (merge form) inputs bytes → FitsIn form (merge_of inputs.updates) →
+MergesAreConverted = (shelf other : Shelf) (files : List File) (name : List ℕ) (form to : Format) (inputs others : Inputs) (bytes written : List ℕ) → StandFor (Some shelf) files inputs →
+    IsMadeOf (merge form) inputs bytes → FitsIn form (merge_of inputs.updates) →
     other.bytes_under name ≡ Some bytes → StandFor (Some other) (file_in form name ∷ []) others → IsOutputOf (convert to) others written → IsOutputOf (merge to) inputs written

@@ -13,7 +13,8 @@ use yd_world::Sink;
 pub fn deliver<'a, S: Sink>(made: Result<Vec<u8>, Stop<'a>>, out: &mut S) -> Result<(), Stop<'a>>
     ensures delivers { Delivers made.entry (count_of (S.faults out.old) (S.faults out.new))
         (S.bytes_taken out.old) (S.bytes_taken out.new) result }
-    ensures untouched { IsOneOf (status_of result) (1 ∷ 2 ∷ 3 ∷ 6 ∷ 7 ∷ 8 ∷ []) → out.new ≡ out.old }
+    ensures untouched { IsOneOf (status_of result) (1 ∷ 2 ∷ 3 ∷ 6 ∷ 7 ∷ 8 ∷ [])
+        → out.new ≡ out.old }
     ensures writes { S.is_calm out.old → IsOk made.entry → status_of result ≢ 4 }
     ensures written { status_of result ≢ 4 → S.faults out.new ≡ S.faults out.old }
 {
