@@ -1,0 +1,4 @@
+pub mod AnswerLemmas
+pub mod FaultLemmas
+pub mod PositionLemmas
+pub mod WrittenLemmas
