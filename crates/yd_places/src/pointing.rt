@@ -1,10 +1,13 @@
 //! Positions, made at an index.
 
-ghost use Rattle.std.specs.Prelude.{◌≡◌, None, IfOk, IfErr, OnOk};
+ghost use Rattle.std.specs.Prelude.{◌≡◌, None, IfOk, IfErr, IfSome, OnOk};
+ghost use Rattle.yd_ids.specs.Id.{IsId};
+ghost use Rattle.yd_ops.specs.Valid.{IsParent};
 ghost use Rattle.yd_editing.specs.TextEdit.{counted_units, end_refusal};
 ghost use Rattle.yd_making.specs.Steps.{IsCause};
 ghost use Rattle.yd_making.specs.declared.fault.EditFault.TheVariants.{NoMemory as NoRoom};
 ghost use Rattle.yd_doc.specs.Kept.{own_document};
+ghost use Rattle.yd_position.specs.Writing.{HasIds};
 ghost use Rattle.yd_places.specs.Place.{position_of, target_of_parent, unit_near};
 
 use std::alloc::Global;
@@ -26,6 +29,8 @@ pub fn position_at(
 ) -> Result<Position, EditFault>
     ensures made { IfOk result (λ position. position
         ≡ position_of (own_document replica.now) list.now index assoc) }
+    ensures ids { IsParent list.now.parent
+        → IfOk result (λ position. HasIds position.target) }
     ensures accepted { OnOk result
         (end_refusal (counted_units (own_document replica.now) list.now) index ≡ None) }
     ensures refused { IfErr result (λ fault. IsCause fault
@@ -49,7 +54,8 @@ pub fn position_at(
 
 /// The unit that a position at an index keeps to.
 fn unit_near(replica: &Replica, list: &List, index: u64, assoc: i64) -> Option<Id>
-    ensures { result ≡ unit_near (counted_units (own_document replica.now) list.now) index assoc }
+    ensures unit { result ≡ unit_near (counted_units (own_document replica.now) list.now) index assoc }
+    ensures in_range { IfSome result IsId }
 {
     if assoc >= 0 {
         return replica.unit_at(list, index);

@@ -1,7 +1,8 @@
 -- Positions are read exactly: what is read is what the bytes stand for, and their first deviation is the one that is read.
 use Rattle.std.proofs.Common.{◌≡◌, ◌≢◌, ◌∙◌, ◌<◌, ◌^◌, ℕ, ℤ, List, [], ◌∷◌, Option, Some, None, Result, Ok, Err, inl, inr, refl, ap, subst, sym}
 use Rattle.yd_num.proofs.ReadingLemmas.{ok_value}
-use Rattle.yd_cols.proofs.RangeLemmas.{signed_in_range}
+use Rattle.yd_cols.proofs.RangeLemmas.{signed_in_range, unsigned_in_range}
+use Rattle.yd_num.specs.Number.{unsigned_at}
 use Rattle.yd_num.specs.Reading.{Cause as NumCause}
 use Rattle.yd_num.specs.Signed.{signed_at}
 use Rattle.yd_num.specs.declared.signed.Signed.{Signed}
@@ -9,7 +10,7 @@ use Rattle.yd_parts.specs.AnyPlan.{whole_number}
 use Rattle.yd_parts.proofs.ExactLemmas.{failed_read, given_read, plan_fails, plan_gives}
 use Rattle.yd_parts.proofs.PartExactLemmas.{parts_exact}
 use Rattle.yd_parts.specs.Fault.{Fault}
-use Rattle.yd_parts.specs.Part.{Unread, all_of, behind, last_spot, part_at, placed, signed}
+use Rattle.yd_parts.specs.Part.{Unread, all_of, behind, last_spot, part_at, placed, signed, unsigned}
 use Rattle.yd_parts.specs.PartGrammar.{FailsPart, StandsPart}
 use Rattle.yd_parts.specs.Plan.{and_then, read_by}
 use Rattle.yd_parts.specs.declared.fault.Column.TheVariants.{Whole}
@@ -48,7 +49,16 @@ ends_err : (target : Target) (number : Signed) (place : ℕ) (bytes : List ℕ) 
 ends_err target number place [] some = absurd (some refl)
 ends_err target number place (b ∷ bytes) some = refl
 
--- a number that is read is in range
+-- numbers that are read are in range
+pub unsigned_part_in_range : (left : Unread) (v : ℕ) (next : Unread) → part_at unsigned left ≡ Ok (v, next) → v < 2 ^ 53
+unsigned_part_in_range left v next is = go (unsigned_at left.bytes) refl is
+  where
+    go : (got : Result (ℕ × List ℕ) NumCause) → unsigned_at left.bytes ≡ got → placed left got ≡ Ok (v, next) → v < 2 ^ 53
+    go (Ok read) there gives =
+        let same : read.0 ≡ v = ap (λ (q : ℕ × Unread). q.0) (ok_value {E = Fault} (read.0, behind left read.1) (v, next) gives) in
+        subst (λ n. n < 2 ^ 53) same (unsigned_in_range left.bytes read.0 read.1 there)
+    go (Err cause) there gives = absurd cc
+
 pub number_in_range : (left : Unread) (number : Signed) (next : Unread) → part_at signed left ≡ Ok (number, next) → number.size < 2 ^ 55
 number_in_range left number next is = go (signed_at left.bytes) refl is
   where

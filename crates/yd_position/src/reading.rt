@@ -1,6 +1,7 @@
 //! Positions, read.
 
-ghost use Rattle.std.specs.Prelude.{◌≡◌, ◌<◌, ◌^◌};
+ghost use Rattle.std.specs.Prelude.{◌≡◌, ◌<◌, ◌^◌, IfOk};
+ghost use Rattle.yd_position.specs.Writing.{HasIds};
 ghost use Rattle.yd_parts.specs.AnyPlan.{whole_number};
 ghost use Rattle.yd_position.specs.Grammar.{ReadsPosition};
 ghost use Rattle.yd_position.specs.Reading.{MakesPosition, position_reading, number_fault, error_of, with_assoc};
@@ -16,14 +17,16 @@ use yd_parts::{Cause, Column, Parts, ReadError};
 /// follows what it points at, `assoc` is 0 (Yjs 13, decodeRelativePosition; that bytes behind the
 /// position are refused, and the limits of numbers, are own).
 pub fn read_position(alloc: Global, bytes: &[u8]) -> Result<Position, PositionFault>
-    ensures { ReadsPosition bytes.now result }
+    ensures exact { ReadsPosition bytes.now result }
+    ensures ids { IfOk result (λ position. HasIds position.target) }
 {
     read_parts(alloc, bytes)
 }
 
 #[tactic(auto, unfolding(crate::specs::Reading::position_reading))]
 fn read_parts(alloc: Global, bytes: &[u8]) -> Result<Position, PositionFault>
-    ensures { MakesPosition result (position_reading bytes.now) }
+    ensures made { MakesPosition result (position_reading bytes.now) }
+    ensures ids { IfOk result (λ position. HasIds position.target) }
 {
     let mut parts = Parts::new(Column::Whole, bytes);
     match read_target(alloc, &mut parts) {
@@ -35,7 +38,8 @@ fn read_parts(alloc: Global, bytes: &[u8]) -> Result<Position, PositionFault>
 
 /// The position with this target, and with the association that is left.
 fn read_assoc(target: Target, parts: &mut Parts<'_>) -> Result<Position, PositionFault>
-    ensures { MakesPosition result (with_assoc target parts.old) }
+    ensures made { MakesPosition result (with_assoc target parts.old) }
+    ensures kept { IfOk result (λ position. position.target ≡ target) }
 {
     if parts.left() == 0 {
         return Ok(Position { target, assoc: 0 });
