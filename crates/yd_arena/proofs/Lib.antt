@@ -3,3 +3,4 @@ pub mod UnitsLemmas
 pub mod ArenaLemmas
 pub mod GrowthLemmas
 pub mod BesideLemmas
+pub mod TakingLemmas

@@ -10,7 +10,7 @@ use Rattle.yd_scan.specs.Stretches.{stretch_at, units_of, later_units, units_at,
 use Rattle.yd_index.specs.Line.{Lined}
 use Rattle.yd_index.specs.Lines.{entries_of, next_of, room_of}
 use Rattle.yd_index.specs.Holding.{Holds, cut_stretches}
-use Rattle.yd_arena.specs.Lists.{Linked, list_at, PutsBehind}
+use Rattle.yd_arena.specs.Lists.{Linked, list_at, PutsBehind, TakesOut, emptied}
 
 -- the lines of the index, and the runs with their lists
 pub record Placed : Type 0 where
@@ -94,3 +94,14 @@ pub record AddsLoose (old new : Placed) (run : Stretch) : Type 0 where
   pub lists : new.linked.lists ≡ old.linked.lists
   pub next : next_clock new run.id.client.0 ≡ run.id.clock + run.len
   pub other_nexts : (client : ℕ) → client ≢ run.id.client.0 → next_clock new client ≡ next_clock old client
+
+-- the last run of a client has no units any more and is in no list, and its first clock is the client's next one again
+pub record TakesLast (old new : Placed) (client place : ℕ) : Type 0 where
+  pub within : place < length (runs_of old)
+  pub own : (stretch_at (runs_of old) place).id.client.0 ≡ client
+  pub filled : 0 < (stretch_at (runs_of old) place).len
+  pub ends : (stretch_at (runs_of old) place).id.clock + (stretch_at (runs_of old) place).len ≡ next_clock old client
+  pub runs : runs_of new ≡ emptied (runs_of old) place
+  pub lists : TakesOut old.linked.lists new.linked.lists place
+  pub next : next_clock new client ≡ (stretch_at (runs_of old) place).id.clock
+  pub other_nexts : (k : ℕ) → k ≢ client → next_clock new k ≡ next_clock old k

@@ -1,10 +1,11 @@
 -- Runs at places and the lists that link them, as contracts see them (own).
-use Rattle.std.specs.Prelude.{◌≡◌, ◌≢◌, ◌<◌, ◌≤◌, ◌-◌, ℕ, List, [], Some, min, length, get_or}
+use Rattle.std.specs.Prelude.{◌≡◌, ◌≢◌, ◌<◌, ◌≤◌, ◌-◌, ℕ, List, [], Some, min, length, get_or, set}
 use Rattle.yd_words.specs.Member.{IsIn, AreDistinct}
-use Rattle.yd_chains.specs.Chain.{put_behind}
+use Rattle.yd_chains.specs.Chain.{put_behind, without}
 use Rattle.yd_chains.specs.Link.{Chained}
 use Rattle.yd_scan.specs.declared.stretch.Stretch.{Stretch}
 use Rattle.yd_scan.specs.Stretches.{stretch_at}
+use Rattle.yd_index.specs.Holding.{front_of}
 
 -- the runs by place, the places of each list in order, and how many more runs cannot fail
 pub record Linked : Type 0 where
@@ -45,3 +46,13 @@ pub record PutsBehind (old new : List (List ℕ)) (place more : ℕ) : Type 0 wh
   pub count : length new ≡ length old
   pub own : (k : ℕ) → k < length old → IsIn place (get_or old k []) → get_or new k [] ≡ put_behind (Some place) more (get_or old k [])
   pub others : (k : ℕ) → k < length old → (IsIn place (get_or old k []) → ⊥) → get_or new k [] ≡ get_or old k []
+
+-- the list that has a place loses it, and all others stay
+pub record TakesOut (old new : List (List ℕ)) (place : ℕ) : Type 0 where
+  pub count : length new ≡ length old
+  pub own : (k : ℕ) → k < length old → IsIn place (get_or old k []) → get_or new k [] ≡ without place (get_or old k [])
+  pub others : (k : ℕ) → k < length old → (IsIn place (get_or old k []) → ⊥) → get_or new k [] ≡ get_or old k []
+
+-- the runs, with the one at a place without units
+abbrev pub emptied : List Stretch → ℕ → List Stretch
+emptied stretches place = set stretches place (front_of (stretch_at stretches place) 0)

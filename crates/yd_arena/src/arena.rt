@@ -5,7 +5,7 @@ ghost use Rattle.yd_ids.specs.Id.{IsClock};
 ghost use Rattle.yd_words.specs.Member.{IsIn};
 ghost use Rattle.yd_scan.specs.Stretches.{stretch_at, IsNoLater, EndsLeft};
 ghost use Rattle.yd_arena.specs.Lists.{AreLists};
-ghost use Rattle.yd_arena.specs.Arena.{runs_of, count_of, places_in, next_clock, room_for, IsArena, HasUnit, IsSame, CutsRun, CutsAt, GrowsByRun, AddsLoose};
+ghost use Rattle.yd_arena.specs.Arena.{runs_of, count_of, places_in, next_clock, room_for, IsArena, HasUnit, IsSame, CutsRun, CutsAt, GrowsByRun, AddsLoose, TakesLast};
 
 use crate::beside::{Beside, cut_both};
 use crate::growing::add_entry;
@@ -218,5 +218,19 @@ impl Arena {
         let place = self.lists.len();
         add_entry(&mut self.index, &new, place);
         self.lists.add_loose(new)
+    }
+
+    /// Takes the last run of a client out of its list, if it is in one, and leaves it without units, so
+    /// that its first clock is the client's next one again. Its place is answered, and stays. It takes
+    /// no memory, and no room is lost.
+    pub fn take_last(&mut self, client: Client) -> usize
+        requires { 0 < next_clock self.old client.0 }
+        ensures done { TakesLast self.old self.new client.0 result }
+        ensures lists { AreLists self.old.linked }
+        ensures rooms { (k : ℕ) → room_for self.old k ≤ room_for self.new k }
+    {
+        let last = self.index.pop(client);
+        self.lists.take_out(last.place);
+        last.place
     }
 }

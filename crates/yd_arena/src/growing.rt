@@ -5,7 +5,7 @@ ghost use Rattle.yd_chains.specs.Link.{AreSound, IsFree};
 ghost use Rattle.yd_scan.specs.Stretches.{stretch_at};
 ghost use Rattle.yd_index.specs.Lines.{next_of, room_of, Adds};
 ghost use Rattle.yd_index.specs.Holding.{front_of, rest_of, cut_stretches};
-ghost use Rattle.yd_arena.specs.Lists.{PutsBehind};
+ghost use Rattle.yd_arena.specs.Lists.{PutsBehind, TakesOut};
 
 use std::alloc::AllocError;
 use yd_chains::Chains;
@@ -45,7 +45,7 @@ fn rest_of(stretch: Stretch, n: u64) -> Stretch
 }
 
 /// Leaves so many units of a run, from its first on.
-fn shorten(stretches: &mut Vec<Stretch>, place: usize, n: u64)
+pub fn shorten(stretches: &mut Vec<Stretch>, place: usize, n: u64)
     requires { place < length stretches.old.items }
     ensures items { stretches.new.items ≡
         slice_set stretches.old.items place (front_of (stretch_at stretches.old.items place) n) }
@@ -83,6 +83,20 @@ pub fn put_part(chains: &mut Chains, place: usize, more: usize)
         return;
     };
     chains.insert(list, Some(place), more);
+}
+
+/// Takes a place out of its list, if it is in one.
+#[tactic(auto, using(crate::proofs::TakingLemmas::takes_out, crate::proofs::TakingLemmas::takes_none))]
+pub fn take_part(chains: &mut Chains, place: usize)
+    requires { place < chains.old.count }
+    ensures taken { TakesOut chains.old.chains chains.new.chains place }
+    ensures sound { AreSound chains.old }
+    ensures count { chains.new.count ≡ chains.old.count }
+{
+    let Some(list) = chains.chain_of(place) else {
+        return;
+    };
+    chains.remove(list, place);
 }
 
 /// Gives the scan marks for so many runs, each 0.

@@ -7,9 +7,11 @@ ghost use Rattle.yd_chains.specs.Chain.{first_of, last_of, behind, before, put_b
 ghost use Rattle.yd_scan.specs.Stretches.{stretch_at, IsNoLater, IsIndex, EndsLeft, HasOrigins};
 ghost use Rattle.yd_scan.specs.Scanning.{IsScanPlace};
 ghost use Rattle.yd_index.specs.Holding.{cut_stretches};
-ghost use Rattle.yd_arena.specs.Lists.{list_at, AreLists, IsLoose, PutsBehind};
+ghost use Rattle.yd_arena.specs.Lists.{list_at, AreLists, IsLoose, PutsBehind, TakesOut, emptied};
 
-use crate::growing::{begin_scan, cut_stretch, grow_marks, grow_places, push_stretch, put_part};
+use crate::growing::{
+    begin_scan, cut_stretch, grow_marks, grow_places, push_stretch, put_part, shorten, take_part,
+};
 use std::alloc::{AllocError, Global};
 use std::marker::Model;
 use yd_chains::Chains;
@@ -213,6 +215,19 @@ impl Lists {
         put_part(&mut self.chains, place, more);
         cut_stretch(&mut self.stretches, place, n);
         more
+    }
+
+    /// Takes a run out of its list, if it is in one, and leaves it without units. Its place stays, and
+    /// is in no list. It takes no memory, and no room is lost.
+    pub fn take_out(&mut self, place: usize)
+        requires { place < length self.old.stretches }
+        ensures stretches { self.new.stretches ≡ emptied self.old.stretches place }
+        ensures lists { TakesOut self.old.lists self.new.lists place }
+        ensures sound { AreLists self.old }
+        ensures room { self.old.room ≤ self.new.room }
+    {
+        take_part(&mut self.chains, place);
+        shorten(&mut self.stretches, place, 0);
     }
 
     /// The place behind which a new run goes in a list: that which the scan of its first unit finds
