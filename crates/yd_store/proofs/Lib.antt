@@ -4,3 +4,5 @@ pub mod AddingLemmas
 pub mod IntegratingLemmas
 pub mod DeletingLemmas
 pub mod EmptyingLemmas
+pub mod LoweringLemmas
+pub mod LoweredLemmas

@@ -4,3 +4,4 @@ pub mod Units
 pub mod Integrating
 pub mod Deleting
 pub mod Emptying
+pub mod Lowering

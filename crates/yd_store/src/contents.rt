@@ -1,12 +1,17 @@
 //! What the runs of a store hold.
 
 ghost use Rattle.std.specs.Prelude.{◌≡◌, ◌<◌, ◌≤◌, ◌+◌, ◌++◌, ◌∷◌, [], None, slice_set, length, OnOk, OnErr, IsOk, option_copied};
+ghost use Rattle.yd_arena.specs.Arena.{runs_of, next_clock};
+ghost use Rattle.yd_marks.specs.Marks.{IsBorder};
 ghost use Rattle.yd_store.specs.Contents.{told, told_of, run_at, CanCut, CutsTold, KeepsTold};
+ghost use Rattle.yd_store.specs.Lowering.{told_down, LowersSpan};
 
 use crate::cutting::{cut_told, drop_told, push_told};
+use crate::level::{Level, lower_told};
 use std::alloc::{AllocError, Global};
 use std::marker::Model;
-use yd_arena::Beside;
+use yd_arena::{Arena, Beside};
+use yd_ids::{Id, Span};
 use yd_ops::Run;
 
 /// The run of each place, where it is told. A gone one has none.
@@ -79,6 +84,45 @@ impl Contents {
         ensures room { self.new.room ≡ self.old.room }
     {
         drop_told(&mut self.runs, place);
+    }
+
+    /// Tells the units of a span down to a level, run by run. The span is held, and parts no run. It
+    /// takes no memory.
+    pub fn lower(&mut self, arena: &Arena, span: Span, level: Level)
+        requires each { length self.old.rows ≡ length (runs_of arena.now) }
+        requires held { span.clock + span.len ≤ next_clock arena.now span.client.0 }
+        requires front { IsBorder (runs_of arena.now) span.client.0 span.clock }
+        requires back { IsBorder (runs_of arena.now) span.client.0 (span.clock + span.len) }
+        ensures lowered { LowersSpan (runs_of arena.now) level
+            (told_of self.old) (told_of self.new) span }
+        ensures room { self.new.room ≡ self.old.room }
+    {
+        let mut clock = span.clock;
+        let mut left = span.len;
+        while left > 0 {
+            let id = Id {
+                client: span.client,
+                clock,
+            };
+            let Some(found) = arena.find(id) else {
+                unreachable!();
+            };
+            self.lower_run(found.place, level);
+            let len = arena.lists().stretch(found.place).len;
+            clock += len;
+            left -= len;
+        }
+    }
+
+    /// Tells the run at a place down to a level.
+    fn lower_run(&mut self, place: usize, level: Level)
+        requires { place < length self.old.rows }
+        ensures told { told_of self.new ≡ slice_set (told_of self.old) place
+            (told_down level (run_at (told_of self.old) place)) }
+        ensures len { length self.new.rows ≡ length self.old.rows }
+        ensures room { self.new.room ≡ self.old.room }
+    {
+        lower_told(&mut self.runs, place, level);
     }
 }
 

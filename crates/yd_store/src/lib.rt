@@ -21,10 +21,13 @@ mod cutting;
 mod deleting;
 mod fault;
 mod integrating;
+mod level;
+mod lowering;
 mod parts;
 mod rights;
 mod store;
 
 pub use contents::Contents;
 pub use fault::Unplaced;
+pub use level::Level;
 pub use store::Store;

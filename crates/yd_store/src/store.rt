@@ -11,13 +11,15 @@ ghost use Rattle.yd_arena.specs.Lists.{AreLists, IsLoose};
 ghost use Rattle.yd_arena.specs.Arena.{runs_of, count_of, places_in, next_clock, HasUnit, IsArena};
 ghost use Rattle.yd_marks.specs.Marks.{mark_at, IsBorder, MarksSpan};
 ghost use Rattle.yd_store.specs.Contents.{told, told_of, run_at};
-ghost use Rattle.yd_store.specs.Store.{spare_of, stretch_of, gone_stretch, IsKept, SplitsAt, StandsIn, AddsRun, AddsOutside};
+ghost use Rattle.yd_store.specs.Store.{spare_of, stretch_of, gone_stretch, AreTold, IsKept, KeepsRuns, SplitsAt, StandsIn, AddsRun, AddsOutside};
 ghost use Rattle.yd_store.specs.Units.{KeepsUnits, AddsUnits, AddsApart};
 ghost use Rattle.yd_store.specs.Emptying.{EmptiesRun};
+ghost use Rattle.yd_store.specs.Lowering.{LowersSpan};
 
 use crate::contents::Contents;
 use crate::counted::counts;
 use crate::fault::Unplaced;
+use crate::level::Level;
 use crate::parts::{add_list_parts, reserve_parts, seek};
 use crate::rights::{kept_right, stands_in};
 use std::alloc::Global;
@@ -195,11 +197,8 @@ impl Store {
         ensures lists { OnOk result (self.new.placed.linked.lists ≡
             self.old.placed.linked.lists ++ [] ∷ []) }
         ensures live { OnOk result (self.new.marks.live ≡ self.old.marks.live ++ 0 ∷ []) }
-        ensures unchanged { OnErr result (self.new.placed.linked.lists ≡
-            self.old.placed.linked.lists) }
-        ensures runs { runs_of self.new.placed ≡ runs_of self.old.placed }
-        ensures lines { self.new.placed.lines ≡ self.old.placed.lines }
-        ensures rows { self.new.marks.rows ≡ self.old.marks.rows }
+        ensures unchanged { OnErr result (IsKept self.old self.new) }
+        ensures runs { KeepsRuns self.old.placed self.old.marks self.new.placed self.new.marks }
         ensures contents { self.new.contents ≡ self.old.contents }
         ensures spare { (client : ℕ) → spare_of self.new client ≡ spare_of self.old client }
     {
@@ -402,6 +401,22 @@ impl Store {
         ensures spare { (client : ℕ) → spare_of self.new client ≡ spare_of self.old client }
     {
         self.marks.mark_deleted(&self.arena, span);
+    }
+
+    /// Tells the units of a span down to a level, run by run, where it parts no run. It takes no
+    /// memory.
+    pub(crate) fn lower_runs(&mut self, span: Span, level: Level)
+        requires held { span.clock + span.len ≤ next_clock self.old.placed span.client.0 }
+        requires front { IsBorder (runs_of self.old.placed) span.client.0 span.clock }
+        requires back { IsBorder (runs_of self.old.placed) span.client.0 (span.clock + span.len) }
+        ensures told { AreTold (runs_of self.old.placed) (told_of self.old.contents) }
+        ensures lowered { LowersSpan (runs_of self.old.placed) level
+            (told_of self.old.contents) (told_of self.new.contents) span }
+        ensures placed { self.new.placed ≡ self.old.placed }
+        ensures marks { self.new.marks ≡ self.old.marks }
+        ensures spare { (client : ℕ) → spare_of self.new client ≡ spare_of self.old client }
+    {
+        self.contents.lower(&self.arena, span, level);
     }
 }
 
