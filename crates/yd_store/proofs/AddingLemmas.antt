@@ -1,5 +1,5 @@
 -- A run that is added to a store adds its operations: to a list, in a row, or outside all lists.
-use Rattle.std.proofs.Common.{◌≡◌, ◌↔◌, ◌⊎◌, ℕ, ◌+◌, ◌<◌, true, false, inl, inr, List, [], ◌∷◌, ◌++◌, Option, Some, None, map, length, get_or, refl, sym, ap, ap₂, ◌∙◌, subst, arith, true≢false}
+use Rattle.std.proofs.Common.{◌≡◌, ◌↔◌, ◌⊎◌, ℕ, ◌+◌, ◌<◌, ◌≤◌, true, false, inl, inr, List, [], ◌∷◌, ◌++◌, Option, Some, None, map, length, get_or, refl, sym, ap, ap₂, ◌∙◌, subst, arith, true≢false}
 use Rattle.std.specs.Prelude.{flat_map}
 use Rattle.std.proofs.lemmas.List.{get_or_append_left, get_or_at, length-append, append_assoc}
 use Rattle.std.proofs.lemmas.List.Concat.{flat_map-append}
@@ -15,9 +15,9 @@ use Rattle.yd_scan.specs.declared.stretch.Stretch.{Stretch}
 use Rattle.yd_scan.specs.Stretches.{stretch_at, no_stretch, units_of}
 use Rattle.yd_index.proofs.HoldingLemmas.{below_or_last}
 use Rattle.yd_arena.specs.Lists.{AreLists}
-use Rattle.yd_arena.specs.Arena.{Placed, runs_of, count_of, places_in, IsSame, AddsLoose}
+use Rattle.yd_arena.specs.Arena.{Placed, runs_of, count_of, places_in, next_clock, IsSame, AddsLoose}
 use Rattle.yd_marks.specs.declared.mark.Mark.{Mark}
-use Rattle.yd_marks.specs.Marks.{Marked, IsMarked}
+use Rattle.yd_marks.specs.Marks.{Marked, IsMarked, IsBorder}
 use Rattle.yd_marks.proofs.MarkLemmas.{adds_keep_marks}
 use Rattle.yd_store.specs.Contents.{Contented, told, told_of, run_at}
 use Rattle.yd_store.specs.Store.{Stored, IsStore, stretch_of, AddsRun, AddsOutside}
@@ -49,6 +49,22 @@ module _ (old new : Stored) (store : IsStore old.placed old.marks old.contents) 
   len_is : length (runs_of new.placed) ≡ length were + 1
   len_is = ap length runs ∙ length-append were (stretch ∷ [])
 
+  run_old : (i : ℕ) → i < length were → stretch_at (runs_of new.placed) i ≡ stretch_at were i
+  run_old i lt = ap (λ (rs : List Stretch). stretch_at rs i) runs ∙ get_or_append_left were (stretch ∷ []) no_stretch i lt
+
+  run_new : stretch_at (runs_of new.placed) (length were) ≡ stretch
+  run_new = ap (λ (rs : List Stretch). stretch_at rs (length were)) runs ∙ get_or_at were stretch [] no_stretch (length were) refl
+
+  -- the new run begins at its client's next clock, so it goes over none up to there
+  border_stays : stretch.id.clock ≡ next_clock old.placed stretch.id.client.0 → (k c : ℕ) → c ≤ next_clock old.placed k → IsBorder were k c → IsBorder (runs_of new.placed) k c
+  border_stays at_next k c le border i il own = elim (below_or_last i (length were) (omega (arith, il, len_is))) [
+    | inl low ↦ subst (λ (r : Stretch). (r.id.clock + r.len ≤ c) ⊎ (c ≤ r.id.clock)) (sym (run_old i low)) (border i low (subst (λ (r : Stretch). r.id.client.0 ≡ k) (run_old i low) own))
+    | inr e ↦
+        let same : stretch_at (runs_of new.placed) i ≡ stretch = ap (λ j. stretch_at (runs_of new.placed) j) e ∙ run_new in
+        let is : stretch.id.client.0 ≡ k = subst (λ (r : Stretch). r.id.client.0 ≡ k) same own in
+        inr (omega (arith, le, at_next, ap (next_clock old.placed) is, ap (λ (r : Stretch). r.id.clock) same))
+  ]
+
   -- places of the lists have what they had
   places_same : (list : ℕ) → list < count_of old.placed → (places : List ℕ) → ((j : ℕ) → IsIn j places → IsIn j (places_in old.placed list)) → flat_map now places ≡ flat_map was places
   places_same list lt places of = lists_same was now places (λ j h. at_old j (lists.within list j lt (of j h)))
@@ -79,8 +95,8 @@ marked runs rows stretch mark each deleted id =
 
 -- ---- a run in a list
 
-pub adds_units : (old new : Stored) (list : ℕ) (run : RunValue) → IsStore old.placed old.marks old.contents → AreLists old.placed.linked → list < count_of old.placed → AddsRun old new list run → AddsUnits old new list run
-adds_units old new list run store lists lt adds =
+pub adds_units : (old new : Stored) (list : ℕ) (run : RunValue) → IsStore old.placed old.marks old.contents → AreLists old.placed.linked → list < count_of old.placed → AddsRun old new list run → run.id.clock ≡ next_clock old.placed run.id.client.0 → AddsUnits old new list run
+adds_units old new list run store lists lt adds at_next =
     let stretch = stretch_of run adds.right in
     let f = now old new store lists stretch (Some run) adds.grows.runs adds.runs in
     let was_then = was old new store lists stretch (Some run) adds.grows.runs adds.runs in
@@ -103,6 +119,9 @@ adds_units old new list run store lists lt adds =
       others = λ other olt ne. ap (flat_map f) (adds.grows.others other ne) ∙ places_same old new store lists stretch (Some run) adds.grows.runs adds.runs other olt (places_in old.placed other) (λ j h. h);
       operations = λ o. (operations_back old new store lists stretch (Some run) adds.grows.runs adds.runs o, operations_on old new store lists stretch (Some run) adds.grows.runs adds.runs o);
       marks = λ id. rw (adds.grows.runs, adds.rows) (unmarked (runs_of old.placed) old.marks.rows (stretch_of run adds.right) _ store.counted.each refl id);
+      next = adds.grows.next;
+      other_nexts = adds.grows.other_nexts;
+      borders = border_stays old new store lists stretch (Some run) adds.grows.runs adds.runs at_next;
     }
 
 -- ---- a run in no list
@@ -122,12 +141,15 @@ outside_added old mid new marks midm more contents midc grown stretch z same row
   runs = told_more midc grown z more_runs ∙ ap (λ (rs : List (Option Run)). map told rs ++ told z ∷ []) contents_same;
 }
 
-pub adds_apart : (old new : Stored) (stretch : Stretch) (z : Option RunValue) → IsStore old.placed old.marks old.contents → AreLists old.placed.linked → AddsOutside old new stretch z → AddsApart old new stretch z
-adds_apart old new stretch z store lists adds = record {
+pub adds_apart : (old new : Stored) (stretch : Stretch) (z : Option RunValue) → IsStore old.placed old.marks old.contents → AreLists old.placed.linked → AddsOutside old new stretch z → stretch.id.clock ≡ next_clock old.placed stretch.id.client.0 → AddsApart old new stretch z
+adds_apart old new stretch z store lists adds at_next = record {
   count = ap length adds.adds.lists;
   lists = λ list lt.
       ap (λ (ls : List (List ℕ)). flat_map (now old new store lists stretch z adds.adds.runs adds.runs) (get_or ls list [])) adds.adds.lists
       ∙ places_same old new store lists stretch z adds.adds.runs adds.runs list lt (places_in old.placed list) (λ j h. h);
   operations = λ o. (operations_back old new store lists stretch z adds.adds.runs adds.runs o, operations_on old new store lists stretch z adds.adds.runs adds.runs o);
   marks = λ id. rw (adds.adds.runs, adds.rows) (marked (runs_of old.placed) old.marks.rows stretch _ store.counted.each refl id);
+  next = adds.adds.next;
+  other_nexts = adds.adds.other_nexts;
+  borders = border_stays old new store lists stretch z adds.adds.runs adds.runs at_next;
 }

@@ -58,6 +58,9 @@ adds_from old mid new list run k lt a = record {
     (λ h. (a.operations o).1 (elim h [ inl x ↦ inl ((k.operations o).1 x) | inr x ↦ inr x ])),
   );
   marks = λ id. ((λ h. (k.marks id).0 ((a.marks id).0 h)), (λ h. (a.marks id).1 ((k.marks id).1 h)));
+  next = a.next;
+  other_nexts = λ j ne. a.other_nexts j ne ∙ k.nexts j;
+  borders = λ j c le b. a.borders j c (omega (arith, le, k.nexts j)) (k.borders j c b);
 }
 
 -- ---- origins

@@ -6,3 +6,6 @@ pub mod DeletingLemmas
 pub mod EmptyingLemmas
 pub mod LoweringLemmas
 pub mod LoweredLemmas
+pub mod TakingLemmas
+pub mod TakenLemmas
+pub mod BackLemmas

@@ -184,7 +184,7 @@ pub record IsAmong (first : Id) (n : ℕ) (id : Id) : Type 0 where
 later_among : (first id : Id) (n : ℕ) → IsAmong (later_id first 1) n id → IsAmong first (suc n) id
 later_among first id n a = record { client = a.client; low = omega (arith, a.low); high = omega (arith, a.high) }
 
-from_among : (id : Id) (left right : Option Id) (list : Option DocList) (us : List UnitContent) (o : Operation) → IsIn o (operations_from id left right list us) → IsAmong id (length us) o.id
+pub from_among : (id : Id) (left right : Option Id) (list : Option DocList) (us : List UnitContent) (o : Operation) → IsIn o (operations_from id left right list us) → IsAmong id (length us) o.id
 from_among id left right list [] o h = absurd h
 from_among id left right list (u ∷ us) o (inl e) = subst (λ (x : Id). IsAmong id (suc (length us)) x) (sym (ap (λ (p : Operation). p.id) e)) (record { client = refl; low = omega arith; high = omega arith })
 from_among id left right list (u ∷ us) o (inr h) = later_among id o.id (length us) (from_among (later_id id 1) (Some id) right None us o h)

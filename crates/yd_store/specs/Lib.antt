@@ -5,3 +5,5 @@ pub mod Integrating
 pub mod Deleting
 pub mod Emptying
 pub mod Lowering
+pub mod Taking
+pub mod Law

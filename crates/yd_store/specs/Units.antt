@@ -1,8 +1,8 @@
 -- The units of a store, as operations, and what a cut and an addition make of them (own).
-use Rattle.std.specs.Prelude.{◌≡◌, ◌≢◌, ◌↔◌, ◌⊎◌, ◌<◌, ◌++◌, ℕ, List, Option, Some, None, flat_map, length}
+use Rattle.std.specs.Prelude.{◌≡◌, ◌≢◌, ◌↔◌, ◌⊎◌, ◌<◌, ◌≤◌, ◌+◌, ◌++◌, ℕ, List, Option, Some, None, flat_map, length}
 use Rattle.yd_ids.specs.declared.id.Id.{Id}
 use Rattle.yd_words.specs.Member.{IsIn}
-use Rattle.yd_ops.specs.Value.{RunValue}
+use Rattle.yd_ops.specs.Value.{RunValue, len_of}
 use Rattle.yd_ops.specs.Operation.{Operation, operations_of_run, gone_from}
 use Rattle.yd_scan.specs.declared.stretch.Stretch.{Stretch}
 use Rattle.yd_scan.specs.Stretches.{stretch_at, units_of}
@@ -46,7 +46,8 @@ pub record KeepsUnits (old new : Stored) : Type 0 where
   pub nexts : (client : ℕ) → next_clock new.placed client ≡ next_clock old.placed client
   pub borders : (client clock : ℕ) → IsBorder (runs_of old.placed) client clock → IsBorder (runs_of new.placed) client clock
 
--- a list has the operations of a run more, in a row, and all others are as they were; none of the new ones is marked
+-- a list has the operations of a run more, in a row, and all others are as they were; none of the new ones is marked; they are the next of their client,
+-- and where no run was parted up to there, none is
 pub record AddsUnits (old new : Stored) (list : ℕ) (run : RunValue) : Type 0 where
   pub count : count_of new.placed ≡ count_of old.placed
   pub before : List Operation
@@ -56,10 +57,16 @@ pub record AddsUnits (old new : Stored) (list : ℕ) (run : RunValue) : Type 0 w
   pub others : (other : ℕ) → other < count_of old.placed → other ≢ list → operations_in new other ≡ operations_in old other
   pub operations : (o : Operation) → HasOperation new o ↔ (HasOperation old o ⊎ IsIn o (operations_of_run run))
   pub marks : (id : Id) → HasMarked new id ↔ HasMarked old id
+  pub next : next_clock new.placed run.id.client.0 ≡ run.id.clock + len_of run.content
+  pub other_nexts : (k : ℕ) → k ≢ run.id.client.0 → next_clock new.placed k ≡ next_clock old.placed k
+  pub borders : (k c : ℕ) → c ≤ next_clock old.placed k → IsBorder (runs_of old.placed) k c → IsBorder (runs_of new.placed) k c
 
--- the operations of a run are there more, in no list, and all are marked
+-- the operations of a run are there more, in no list, and all are marked; they are the next of their client
 pub record AddsApart (old new : Stored) (stretch : Stretch) (run : Option RunValue) : Type 0 where
   pub count : count_of new.placed ≡ count_of old.placed
   pub lists : (list : ℕ) → list < count_of old.placed → operations_in new list ≡ operations_in old list
   pub operations : (o : Operation) → HasOperation new o ↔ (HasOperation old o ⊎ IsIn o (operations_told stretch run))
   pub marks : (id : Id) → HasMarked new id ↔ (HasMarked old id ⊎ IsIn id (units_of stretch))
+  pub next : next_clock new.placed stretch.id.client.0 ≡ stretch.id.clock + stretch.len
+  pub other_nexts : (k : ℕ) → k ≢ stretch.id.client.0 → next_clock new.placed k ≡ next_clock old.placed k
+  pub borders : (k c : ℕ) → c ≤ next_clock old.placed k → IsBorder (runs_of old.placed) k c → IsBorder (runs_of new.placed) k c

@@ -21,11 +21,13 @@ mod cutting;
 mod deleting;
 mod fault;
 mod integrating;
+pub mod law;
 mod level;
 mod lowering;
 mod parts;
 mod rights;
 mod store;
+mod taking;
 
 pub use contents::Contents;
 pub use fault::Unplaced;

@@ -15,6 +15,7 @@ ghost use Rattle.yd_store.specs.Store.{spare_of, stretch_of, gone_stretch, AreTo
 ghost use Rattle.yd_store.specs.Units.{KeepsUnits, AddsUnits, AddsApart};
 ghost use Rattle.yd_store.specs.Emptying.{EmptiesRun};
 ghost use Rattle.yd_store.specs.Lowering.{LowersSpan};
+ghost use Rattle.yd_store.specs.Taking.{TakesBack, AreDead};
 
 use crate::contents::Contents;
 use crate::counted::counts;
@@ -110,6 +111,7 @@ impl Store {
     pub(crate) fn is_sound(&self)
         ensures arena { IsArena self.now.placed.lines (runs_of self.now.placed) }
         ensures lists { AreLists self.now.placed.linked }
+        ensures told { AreTold (runs_of self.now.placed) (told_of self.now.contents) }
     {
         let id = Id {
             client: Client(0),
@@ -417,6 +419,25 @@ impl Store {
         ensures spare { (client : ℕ) → spare_of self.new client ≡ spare_of self.old client }
     {
         self.contents.lower(&self.arena, span, level);
+    }
+
+    /// Takes the last run of a client out, where its runs from a clock on are marked as deleted. The
+    /// client's next clock is answered. It takes no memory, and no spare is lost.
+    pub(crate) fn take_last(&mut self, client: Client, clock: u64) -> u64
+        requires high { clock < next_clock self.old.placed client.0 }
+        requires border { IsBorder (runs_of self.old.placed) client.0 clock }
+        requires dead { AreDead self.old client.0 clock }
+        ensures next { result ≡ next_clock self.new.placed client.0 }
+        ensures above { clock ≤ result }
+        ensures lower { result < next_clock self.old.placed client.0 }
+        ensures taken { TakesBack self.old self.new client.0 result }
+        ensures dead { AreDead self.new client.0 clock }
+        ensures spares { (k : ℕ) → spare_of self.old k ≤ spare_of self.new k }
+    {
+        let _ = seek(&self.arena, Id { client, clock });
+        let place = self.arena.take_last(client);
+        self.contents.empty(place);
+        self.arena.next_clock(client)
     }
 }
 

@@ -14,4 +14,5 @@ pub returns-clause-units : goal.returns-clause-units
 returns-clause-units c =
     rw (← c.self.view_is) (adds_apart (record { placed = c.self.inside.arena; marks = c.self.inside.marks; contents = c.self.inside.contents }) (record { placed = c.add_loose-place.new.self; marks = c.add.new.self; contents = c.add-2.new.self })
     _ None c.self.invariant c.reserve_parts.ensures.lists (outside_added c.self.inside.arena c.reserve_parts.new.arena c.add_loose-place.new.self c.self.inside.marks c.reserve_parts.new.marks c.add.new.self c.self.inside.contents c.reserve_parts.new.contents c.add-2.new.self
-    _ None c.reserve_parts.ensures.kept.arena c.reserve_parts.ensures.kept.rows c.reserve_parts.ensures.kept.live c.reserve_parts.ensures.kept.runs c.add_loose-place.ensures.done c.add.ensures.rows c.add.ensures.live c.add-2.ensures.rows))
+    _ None c.reserve_parts.ensures.kept.arena c.reserve_parts.ensures.kept.rows c.reserve_parts.ensures.kept.live c.reserve_parts.ensures.kept.runs c.add_loose-place.ensures.done c.add.ensures.rows c.add.ensures.live c.add-2.ensures.rows)
+    (rw (← c.self.view_is) at c.requires.next))

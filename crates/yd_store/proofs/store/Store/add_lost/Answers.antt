@@ -18,4 +18,5 @@ returns-clause-units c =
     _ (Some (run_value c.args.run)) c.self.invariant c.reserve_parts-room.ensures.lists (outside_added c.self.inside.arena c.reserve_parts-room.new.arena c.add_loose-place.new.self c.self.inside.marks c.reserve_parts-room.new.marks c.add.new.self c.self.inside.contents c.reserve_parts-room.new.contents c.add-2.new.self
     _ (Some c.args.run) c.reserve_parts-room.ensures.kept.arena c.reserve_parts-room.ensures.kept.rows c.reserve_parts-room.ensures.kept.live c.reserve_parts-room.ensures.kept.runs
     (subst (λ n. AddsLoose c.reserve_parts-room.new.arena c.add_loose-place.new.self (record { id = c.args.run.id; len = n; left = c.args.run.left; right = None })) c.len-len.ensures c.add_loose-place.ensures.done)
-    c.add.ensures.rows c.add.ensures.live c.add-2.ensures.rows))
+    c.add.ensures.rows c.add.ensures.live c.add-2.ensures.rows)
+    (rw (← c.self.view_is) at c.requires.next))

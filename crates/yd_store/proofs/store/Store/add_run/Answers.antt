@@ -28,4 +28,5 @@ returns-clause-units c =
     rw (← c.self.view_is) (adds_units (record { placed = c.self.inside.arena; marks = c.self.inside.marks; contents = c.self.inside.contents }) (record { placed = c.add_run-place.new.self; marks = c.add.new.self; contents = c.add-2.new.self })
     c.args.list (run_value c.args.run) c.self.invariant c.reserve_parts-room.ensures.lists (rw (← c.self.view_is) at c.requires.list) (run_added c.self.inside.arena c.reserve_parts-room.new.arena c.add_run-place.new.self c.self.inside.marks c.reserve_parts-room.new.marks c.add.new.self c.self.inside.contents c.reserve_parts-room.new.contents c.add-2.new.self
     c.args.list c.args.run c.kept_right-right.result c.len-len.result c.counts.result c.reserve_parts-room.ensures.kept.arena c.reserve_parts-room.ensures.kept.rows c.reserve_parts-room.ensures.kept.live c.reserve_parts-room.ensures.kept.runs c.len-len.ensures c.counts.ensures
-    c.kept_right-right.ensures c.add_run-place.ensures.done c.add.ensures.rows c.add.ensures.live c.add-2.ensures.rows))
+    c.kept_right-right.ensures c.add_run-place.ensures.done c.add.ensures.rows c.add.ensures.live c.add-2.ensures.rows)
+    (rw (← c.self.view_is) at c.requires.next))
