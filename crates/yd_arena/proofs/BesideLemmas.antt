@@ -1,8 +1,7 @@
 -- A cut of the index that is undone, since what lies beside the run could not be cut.
-use Rattle.std.proofs.Common.{◌≡◌, ◌<◌, ℕ, List, refl, ap, ◌∙◌, subst, arith}
+use Rattle.std.proofs.Common.{ℕ, List, refl, ap, ◌∙◌, arith}
 use Rattle.yd_ids.specs.declared.id.Id.{Id}
-use Rattle.yd_index.specs.declared.line.Entry.{Entry}
-use Rattle.yd_index.specs.Line.{Lined, Fills, IsInside, Begins, entry_in, with_cut, without_cut}
+use Rattle.yd_index.specs.Line.{Lined, Fills, IsInside, Begins, without_cut}
 use Rattle.yd_index.specs.Lines.{entries_of, next_of, Cuts, Uncuts, Stays}
 use Rattle.yd_index.proofs.UncutLemmas.{uncut_is, cut_found}
 

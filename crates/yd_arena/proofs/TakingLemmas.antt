@@ -1,5 +1,5 @@
 -- The last run of a client is taken out: its list loses its place, and the index its entry.
-use Rattle.std.proofs.Common.{◌≡◌, ◌≢◌, ℕ, ◌+◌, ◌<◌, ◌≤◌, inl, inr, List, [], ◌∷◌, ◌++◌, Some, None, length, get_or, set, refl, sym, ap, ◌∙◌, subst, arith}
+use Rattle.std.proofs.Common.{◌≡◌, ◌≢◌, ℕ, ◌+◌, ◌<◌, inl, inr, List, [], ◌∷◌, ◌++◌, Some, None, length, get_or, set, refl, sym, ap, ◌∙◌, subst, arith}
 use Rattle.std.proofs.lemmas.List.{length-set, get_or-set_same, get_or-set_other}
 use Rattle.yd_ids.specs.Id.{IsClock}
 use Rattle.yd_words.specs.Member.{IsIn, AreDistinct}
@@ -12,7 +12,7 @@ use Rattle.yd_scan.specs.Stretches.{no_stretch, stretch_at}
 use Rattle.yd_index.specs.declared.line.Entry.{Entry}
 use Rattle.yd_index.specs.Line.{Lined}
 use Rattle.yd_index.specs.Lines.{entries_of, next_of, Pops}
-use Rattle.yd_index.specs.Holding.{front_of, IsStretchOf, StretchesFill, Holds, entry_for}
+use Rattle.yd_index.specs.Holding.{front_of, IsStretchOf, StretchesFill, entry_for}
 use Rattle.yd_index.proofs.LineLemmas.{end_above}
 use Rattle.yd_index.proofs.LinesLemmas.{eq_says}
 use Rattle.yd_index.proofs.RowLemmas.{fills_of, entry_run}

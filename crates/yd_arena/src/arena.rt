@@ -220,9 +220,9 @@ impl Arena {
         self.lists.add_loose(new)
     }
 
-    /// Takes the last run of a client out of its list, if it is in one, and leaves it without units, so
-    /// that its first clock is the client's next one again. Its place is answered, and stays. It takes
-    /// no memory, and no room is lost.
+    /// Takes the last run of a client out of its list, if it is in one, and leaves it without units,
+    /// so that its first clock is the client's next one again. Its place is answered, and stays. It
+    /// takes no memory, and no room is lost.
     pub fn take_last(&mut self, client: Client) -> usize
         requires { 0 < next_clock self.old client.0 }
         ensures done { TakesLast self.old self.new client.0 result }

@@ -217,8 +217,8 @@ impl Lists {
         more
     }
 
-    /// Takes a run out of its list, if it is in one, and leaves it without units. Its place stays, and
-    /// is in no list. It takes no memory, and no room is lost.
+    /// Takes a run out of its list, if it is in one, and leaves it without units. Its place stays,
+    /// and is in no list. It takes no memory, and no room is lost.
     pub fn take_out(&mut self, place: usize)
         requires { place < length self.old.stretches }
         ensures stretches { self.new.stretches ≡ emptied self.old.stretches place }

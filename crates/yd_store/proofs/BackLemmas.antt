@@ -1,5 +1,5 @@
 -- A run that is added and taken back leaves a store as it was.
-use Rattle.std.proofs.Common.{◌≡◌, ◌≢◌, ℕ, ◌<◌, inl, inr, Bool, true, false, List, [], ◌∷◌, ◌++◌, refl, sym, ap, ap₂, ◌∙◌, subst, arith}
+use Rattle.std.proofs.Common.{◌≡◌, ℕ, ◌<◌, inl, inr, Bool, true, false, List, [], ◌∷◌, ◌++◌, refl, sym, ap, ap₂, ◌∙◌, subst, arith}
 use Rattle.std.specs.Prelude.{filter, flat_map}
 use Rattle.std.proofs.lemmas.List.{append_assoc}
 use Rattle.yd_ids.specs.declared.id.Id.{Id}
@@ -15,7 +15,7 @@ use Rattle.yd_arena.specs.Arena.{IsArena, runs_of, count_of, places_in, next_clo
 use Rattle.yd_arena.proofs.ArenaLemmas.{unit_below}
 use Rattle.yd_store.specs.Contents.{told_of}
 use Rattle.yd_store.specs.Store.{Stored, AreTold}
-use Rattle.yd_store.specs.Units.{operations_at, operations_in, HasOperation, HasMarked, AddsUnits}
+use Rattle.yd_store.specs.Units.{operations_at, operations_in, HasOperation, AddsUnits}
 use Rattle.yd_store.specs.Taking.{is_left, IsLeft, TakesBack}
 use Rattle.yd_store.specs.Law.{TakenBackIsAsBefore, IsAsBefore}
 use Rattle.yd_store.proofs.LoweringLemmas.{from_among}

@@ -1,19 +1,17 @@
 -- What a span that is told less does to the operations of a store.
-use Rattle.std.proofs.Common.{◌≡◌, ℕ, ◌+◌, ◌<◌, ◌≤◌, inl, inr, List, [], ◌∷◌, ◌++◌, map, length, refl, sym, ap, ap₂, ◌∙◌, subst, arith}
+use Rattle.std.proofs.Common.{◌≡◌, ℕ, ◌+◌, ◌<◌, inl, inr, List, [], ◌∷◌, ◌++◌, map, length, refl, sym, ap, ◌∙◌, subst, arith}
 use Rattle.std.specs.Prelude.{flat_map}
 use Rattle.std.proofs.lemmas.List.{map-append}
-use Rattle.yd_ids.specs.declared.id.Id.{Id}
 use Rattle.yd_ids.specs.declared.id.Span.{Span}
 use Rattle.yd_words.specs.Member.{IsIn}
 use Rattle.yd_ops.specs.Operation.{Operation}
-use Rattle.yd_scan.specs.Stretches.{stretch_at}
 use Rattle.yd_arena.specs.Lists.{AreLists}
 use Rattle.yd_arena.specs.Arena.{Placed, runs_of, count_of, places_in}
 use Rattle.yd_marks.specs.Marks.{Marked, IsBorder}
 use Rattle.yd_store.specs.declared.level.Level.{Level}
 use Rattle.yd_store.specs.Contents.{told_of}
 use Rattle.yd_store.specs.Store.{Stored, AreTold}
-use Rattle.yd_store.specs.Units.{operations_at, operations_in, HasOperation, KeepsUnits}
+use Rattle.yd_store.specs.Units.{operations_at, operations_in, KeepsUnits}
 use Rattle.yd_store.specs.Lowering.{number_of, LowersSpan, lowered_in, LowersUnits}
 use Rattle.yd_store.proofs.KeepingLemmas.{lists_same}
 use Rattle.yd_store.proofs.LoweringLemmas.{at_place}

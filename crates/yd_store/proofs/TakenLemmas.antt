@@ -1,13 +1,12 @@
 -- Runs that are taken out of a store one after another, once they are marked as deleted.
-use Rattle.std.proofs.Common.{◌≡◌, ◌≢◌, ◌⊎◌, ℕ, ◌+◌, ◌-◌, ◌<◌, ◌≤◌, inl, inr, Bool, true, false, List, [], ◌∷◌, ◌++◌, Option, Some, None, length, get_or, set, refl, sym, ap, ap₂, ◌∙◌, subst, arith, true≢false}
-use Rattle.std.specs.Prelude.{filter, IfSome, if◌then◌else◌}
+use Rattle.std.proofs.Common.{◌≡◌, ◌≢◌, ℕ, ◌+◌, ◌<◌, ◌≤◌, inl, inr, Bool, true, false, List, [], ◌∷◌, ◌++◌, Some, None, length, set, refl, sym, ap, ◌∙◌, subst, arith, true≢false}
+use Rattle.std.specs.Prelude.{filter, IfSome}
 use Rattle.std.proofs.lemmas.List.{length-set}
 use Rattle.yd_ids.specs.declared.id.Id.{Id}
 use Rattle.yd_ids.specs.declared.id.Span.{Span}
 use Rattle.yd_words.specs.Member.{IsIn}
 use Rattle.yd_chains.specs.Chain.{before, behind}
 use Rattle.yd_chains.proofs.ChainLemmas.{has_place, around}
-use Rattle.yd_ops.specs.Value.{RunValue}
 use Rattle.yd_ops.specs.Operation.{Operation}
 use Rattle.yd_scan.specs.declared.stretch.Stretch.{Stretch}
 use Rattle.yd_scan.specs.Stretches.{stretch_at}
@@ -21,7 +20,7 @@ use Rattle.yd_marks.specs.Marks.{mark_at, live_of, live_at, total, BeginsIn, IsB
 use Rattle.yd_marks.proofs.MarkLemmas.{marks_are_units}
 use Rattle.yd_marks.proofs.TotalLemmas.{total_append, total_same}
 use Rattle.yd_store.specs.Contents.{Contented, told_of, run_at}
-use Rattle.yd_store.specs.Store.{Stored, AreTold, IsRunOf, IsStore}
+use Rattle.yd_store.specs.Store.{Stored, IsRunOf, IsStore}
 use Rattle.yd_store.specs.Taking.{is_left, IsLeft, TakesBack, AreDead}
 use Rattle.yd_store.proofs.TakingLemmas.{left_passes, taken_len, other_run, this_run, other_told, this_told}
 

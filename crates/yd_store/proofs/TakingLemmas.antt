@@ -1,6 +1,6 @@
 -- The last run of a client is taken out of a store.
-use Rattle.std.proofs.Common.{◌≡◌, ◌≢◌, ℕ, ◌+◌, ◌-◌, ◌<◌, ◌≤◌, inl, inr, ◌⊎◌, Bool, true, false, List, [], ◌∷◌, ◌++◌, Option, Some, None, length, get_or, set, refl, sym, ap, ap₂, ◌∙◌, subst, arith}
-use Rattle.std.specs.Prelude.{filter, flat_map, IfSome}
+use Rattle.std.proofs.Common.{◌≡◌, ◌≢◌, ℕ, ◌+◌, ◌-◌, ◌<◌, ◌≤◌, inl, inr, ◌⊎◌, Bool, true, false, List, [], ◌∷◌, ◌++◌, Option, Some, None, length, set, refl, sym, ap, ap₂, ◌∙◌, subst, arith}
+use Rattle.std.specs.Prelude.{filter, flat_map}
 use Rattle.std.proofs.lemmas.List.{length-set, get_or-set_same, get_or-set_other}
 use Rattle.std.proofs.lemmas.List.Concat.{flat_map-append}
 use Rattle.yd_ids.specs.declared.id.Id.{Id}
@@ -16,16 +16,15 @@ use Rattle.yd_scan.specs.Stretches.{stretch_at, no_stretch}
 use Rattle.yd_index.specs.Holding.{front_of}
 use Rattle.yd_index.proofs.LineLemmas.{lt_says}
 use Rattle.yd_index.proofs.LinesLemmas.{eq_says}
-use Rattle.yd_arena.specs.Lists.{AreLists, emptied}
+use Rattle.yd_arena.specs.Lists.{AreLists}
 use Rattle.yd_arena.specs.Arena.{IsArena, HasUnit, runs_of, count_of, places_in, next_clock, TakesLast}
 use Rattle.yd_arena.proofs.ArenaLemmas.{unit_below}
-use Rattle.yd_marks.specs.Marks.{mark_at, IsBorder, IsMarked}
+use Rattle.yd_marks.specs.Marks.{IsBorder, IsMarked}
 use Rattle.yd_marks.proofs.BorderLemmas.{one_run}
 use Rattle.yd_store.specs.Contents.{told_of, run_at}
-use Rattle.yd_store.specs.Store.{Stored, AreTold, IsRunOf}
+use Rattle.yd_store.specs.Store.{Stored, AreTold}
 use Rattle.yd_store.specs.Units.{operations_told, operations_at, operations_in, HasOperation}
 use Rattle.yd_store.specs.Taking.{is_left, IsLeft, TakesBack}
-use Rattle.yd_store.proofs.KeepingLemmas.{lists_same}
 use Rattle.yd_store.proofs.LoweringLemmas.{told_among}
 
 -- ---- what is left, as a test

@@ -86,8 +86,8 @@ impl Contents {
         drop_told(&mut self.runs, place);
     }
 
-    /// Tells the units of a span down to a level, run by run. The span is held, and parts no run. It
-    /// takes no memory.
+    /// Tells the units of a span down to a level, run by run. The span is held, and parts no run.
+    /// It takes no memory.
     pub fn lower(&mut self, arena: &Arena, span: Span, level: Level)
         requires each { length self.old.rows ≡ length (runs_of arena.now) }
         requires held { span.clock + span.len ≤ next_clock arena.now span.client.0 }

@@ -23,8 +23,8 @@ impl Store {
         Ok(())
     }
 
-    /// Lets the units of a span be gone, all of which are held and lost: their ids alone are told from
-    /// here on. Runs are cut at its ends first. Where it finds no memory, no unit changes.
+    /// Lets the units of a span be gone, all of which are held and lost: their ids alone are told
+    /// from here on. Runs are cut at its ends first. Where it finds no memory, no unit changes.
     pub fn empty_lost(&mut self, span: Span) -> Result<(), NoMemory>
         requires held { span.clock + span.len ≤ next_clock self.old.placed span.client.0 }
         ensures done { OnOk result (LowersUnits self.old self.new span 0) }

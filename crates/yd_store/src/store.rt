@@ -421,8 +421,8 @@ impl Store {
         self.contents.lower(&self.arena, span, level);
     }
 
-    /// Takes the last run of a client out, where its runs from a clock on are marked as deleted. The
-    /// client's next clock is answered. It takes no memory, and no spare is lost.
+    /// Takes the last run of a client out, where its runs from a clock on are marked as deleted.
+    /// The client's next clock is answered. It takes no memory, and no spare is lost.
     pub(crate) fn take_last(&mut self, client: Client, clock: u64) -> u64
         requires high { clock < next_clock self.old.placed client.0 }
         requires border { IsBorder (runs_of self.old.placed) client.0 clock }

@@ -11,9 +11,9 @@ use yd_ids::{Client, Span};
 
 impl Store {
     /// Takes the client's units from a clock on out of the store and out of its lists, where no run
-    /// goes over that clock. So a store has the operations again that it had before they were added;
-    /// runs that were cut stay so, and the places of those taken out stay without units. It takes no
-    /// memory, and no spare is lost.
+    /// goes over that clock. So a store has the operations again that it had before they were
+    /// added; runs that were cut stay so, and the places of those taken out stay without units. It
+    /// takes no memory, and no spare is lost.
     pub fn take_back(&mut self, client: Client, clock: u64)
         requires below { clock ≤ next_clock self.old.placed client.0 }
         requires border { IsBorder (runs_of self.old.placed) client.0 clock }

@@ -1,10 +1,9 @@
-use Rattle.std.proofs.Common.{◌≡◌, ◌<◌, ◌∙◌, None, refl, set, sym, subst, arith}
+use Rattle.std.proofs.Common.{◌<◌, ◌∙◌, refl, sym, subst, arith}
 use Rattle.std.proofs.lemmas.List.{length-map}
-use Rattle.yd_arena.specs.Arena.{runs_of, next_clock}
-use Rattle.yd_marks.specs.Marks.{IsBorder}
-use Rattle.yd_store.specs.Contents.{told, told_of}
+use Rattle.yd_arena.specs.Arena.{next_clock}
+use Rattle.yd_store.specs.Contents.{told}
 use Rattle.yd_store.specs.Store.{Stored}
-use Rattle.yd_store.specs.Taking.{TakesBack, AreDead}
+use Rattle.yd_store.specs.Taking.{TakesBack}
 use Rattle.yd_store.proofs.EmptyingLemmas.{told_empty}
 use Rattle.yd_store.proofs.TakingLemmas.{takes_back}
 use Rattle.yd_store.proofs.TakenLemmas.{begins_above, store_taken, still_dead}
