@@ -1,7 +1,9 @@
 //! The cases.
 
 use crate::step::Case;
-use crate::step::Step::{self, Add, Delete, Deleted, Empty, Gone, Lost, Mark, Put, Split};
+use crate::step::Step::{
+    self, Add, Back, Delete, Deleted, Empty, EmptyLost, Gone, Lost, Lower, Mark, Put, Split,
+};
 
 /// Three runs at the front: `B` and `A` have no origins, and `C` stands before `B`.
 const B: Step = Put(0, (0, 0), None, None, "B");
@@ -169,6 +171,54 @@ pub const CUTS: [Case; 19] = [
         Add((1, 0), "a"),
         Add((2, 0), "bc"),
         Mark((2, 0), 1),
+    ),
+];
+
+/// The cases in which units are told less, or are taken out again.
+pub const LOSSES: [Case; 7] = [
+    case!(
+        "a span within a run is spelled deleted",
+        Put(0, (1, 0), None, None, "abcdef"),
+        Lower((1, 2), 2),
+    ),
+    case!(
+        "a deleted span over the borders of runs is spelled so",
+        Put(0, (1, 0), None, None, "abcdef"),
+        Split((1, 3)),
+        Delete((1, 2), 2),
+        Lower((1, 2), 2),
+    ),
+    Case {
+        name: "a span of lost units is gone",
+        steps: &[
+            A_BY_1,
+            Lost((2, 0), "xyzw"),
+            Split((2, 2)),
+            EmptyLost((2, 1), 2),
+        ],
+        ids: &[(1, 0), (2, 0), (2, 1), (2, 2), (2, 3)],
+    },
+    Case {
+        name: "a run is taken out, and what it parted stays so",
+        steps: &[ABC, XY, Back((2, 0))],
+        ids: &[(1, 2), (2, 0)],
+    },
+    Case {
+        name: "the last units of a run are taken out",
+        steps: &[Put(0, (1, 0), None, None, "abcdef"), Back((1, 4))],
+        ids: &[(1, 3), (1, 4)],
+    },
+    Case {
+        name: "gone and lost units are taken out",
+        steps: &[A_BY_1, Gone((2, 0), 2), Lost((2, 2), "x"), Back((2, 1))],
+        ids: &[(1, 0), (2, 0), (2, 1), (2, 2)],
+    },
+    case!(
+        "a run is taken out and added again",
+        A_BY_1,
+        N_BY_2,
+        Back((1, 0)),
+        A_BY_1,
     ),
 ];
 

@@ -40,6 +40,9 @@ pub fn change(alloc: Global, store: &mut Store, step: Step) -> Result<(), NoMemo
         Step::Split(at) => split(store, id_of(at)),
         Step::Delete(at, len) => delete(store, span_of(at, len)),
         Step::Mark(at, len) => mark(store, span_of(at, len)),
+        Step::Lower(at, len) => lower(store, span_of(at, len)),
+        Step::EmptyLost(at, len) => empty_lost(store, span_of(at, len)),
+        Step::Back(at) => take_back(store, id_of(at)),
     }
 }
 
@@ -205,5 +208,36 @@ fn mark_held(store: &mut Store, span: Span) -> Result<(), NoMemory>
         clock: span.clock + span.len,
     })?;
     store.mark_deleted(span);
+    Ok(())
+}
+
+/// Spells the units of a span deleted.
+fn lower(store: &mut Store, span: Span) -> Result<(), NoMemory>
+    ensures { count_of store.new.placed ≡ count_of store.old.placed }
+{
+    if is_held(store, span) {
+        store.lower(span)?;
+    }
+    Ok(())
+}
+
+/// Lets the units of a span be gone.
+fn empty_lost(store: &mut Store, span: Span) -> Result<(), NoMemory>
+    ensures { count_of store.new.placed ≡ count_of store.old.placed }
+{
+    if is_held(store, span) {
+        store.empty_lost(span)?;
+    }
+    Ok(())
+}
+
+/// Takes a client's units from an id on out again.
+fn take_back(store: &mut Store, id: Id) -> Result<(), NoMemory>
+    ensures { count_of store.new.placed ≡ count_of store.old.placed }
+{
+    if id.clock <= store.next_clock(id.client) {
+        store.part_at(id)?;
+        store.take_back(id.client, id.clock);
+    }
     Ok(())
 }

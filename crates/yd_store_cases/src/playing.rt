@@ -21,7 +21,7 @@ pub struct Retries {
 }
 
 /// Plays a case, and adds its line.
-pub fn play_case(
+pub(crate) fn play_case(
     alloc: Global,
     case: &Case,
     out: &mut Vec<u8>,

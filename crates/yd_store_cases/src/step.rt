@@ -24,6 +24,12 @@ pub enum Step {
     Delete(At, u64),
     /// The same, where runs are cut first and then marked.
     Mark(At, u64),
+    /// So many units are spelled deleted, from this id on.
+    Lower(At, u64),
+    /// So many units, which are in no list, are told no more.
+    EmptyLost(At, u64),
+    /// The client's units from this id on are taken out again.
+    Back(At),
 }
 
 /// Changes in the order in which they come, and what is asked then.

@@ -10,7 +10,7 @@ use yd_ops::{Content, NoMemory};
 use yd_store::Store;
 
 /// The runs of a list in order, and how many of its units are live.
-pub fn tell_list(
+pub(crate) fn tell_list(
     alloc: Global,
     store: &Store,
     list: usize,
@@ -73,7 +73,12 @@ fn tell_run(store: &Store, place: usize, out: &mut Vec<u8>) -> Result<(), NoMemo
 }
 
 /// What is told of an id: that it is not held, or whether it is deleted, and in which list it is.
-pub fn tell_id(alloc: Global, store: &Store, at: At, out: &mut Vec<u8>) -> Result<(), NoMemory> {
+pub(crate) fn tell_id(
+    alloc: Global,
+    store: &Store,
+    at: At,
+    out: &mut Vec<u8>,
+) -> Result<(), NoMemory> {
     let (client, clock) = at;
     add(out, format!(in alloc; "; {client}.{clock}")?.as_str())?;
     let id = Id {
@@ -95,7 +100,7 @@ pub fn tell_id(alloc: Global, store: &Store, at: At, out: &mut Vec<u8>) -> Resul
 }
 
 /// Whether a list has the same places backwards.
-pub fn goes_back(alloc: Global, store: &Store, list: usize) -> Result<bool, NoMemory>
+pub(crate) fn goes_back(alloc: Global, store: &Store, list: usize) -> Result<bool, NoMemory>
     requires { list < count_of store.now.placed }
 {
     let mut places = Vec::new(alloc);
@@ -121,7 +126,7 @@ pub fn goes_back(alloc: Global, store: &Store, list: usize) -> Result<bool, NoMe
 }
 
 /// Adds a text.
-pub fn add(out: &mut Vec<u8>, text: &str) -> Result<(), NoMemory> {
+pub(crate) fn add(out: &mut Vec<u8>, text: &str) -> Result<(), NoMemory> {
     out.extend_from_slice(text.as_bytes())?;
     Ok(())
 }
