@@ -9,8 +9,10 @@ ghost use Rattle.yd_meaning.specs.Document.{IsDocumentOf};
 ghost use Rattle.yd_meaning.specs.Held.{held_clock, held_set};
 ghost use Rattle.yd_meaning.specs.Law.{IsCompleted};
 ghost use Rattle.yd_grouping.specs.Groupable.{AreGroupable};
+ghost use Rattle.yd_grouping.specs.Grouped.{IsGrouped};
 ghost use Rattle.yd_grouping.specs.Merged.{reply_of};
-ghost use Rattle.yd_editing.specs.Law.{MakesContent, EditIsTaken};
+ghost use Rattle.yd_editing.specs.Law.{MakesContent, EditIsTaken, IsStepInRange};
+ghost use Rattle.yd_editing.specs.Made.{update_of_edit};
 ghost use Rattle.yd_editing.specs.Refused.{refusal_of};
 ghost use Rattle.yd_editing.specs.Step.{Step};
 ghost use Rattle.yd_doc.specs.Editing.{own_basis};
@@ -70,4 +72,17 @@ pub fn edits_are_taken(replica: &Replica)
     // What is kept is looked at, since its invariant says this.
     let _received = replica.state.received();
     yd_editing::law::edits_are_taken();
+}
+
+/// The update of an edit is grouped: it is the one grouped update of its operations and deletions.
+/// The ids that a step removes are maximal spans, as those of an `IdSet` are.
+pub fn edits_are_grouped(replica: &Replica)
+    ensures { (steps : List Step) → Each IsStepInRange steps → Each MakesContent steps
+        → refusal_of (own_basis replica.now) steps ≡ None
+        → IsGrouped (update_of_edit (own_basis replica.now) steps) }
+{
+    // What is kept is looked at, since its invariant says this.
+    let _received = replica.state.received();
+    yd_editing::law::edits_are_taken();
+    yd_editing::law::edits_are_valid();
 }
