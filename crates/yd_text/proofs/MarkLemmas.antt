@@ -1,53 +1,32 @@
--- A key's marks, piece by piece: its value in force at a unit, and its marks between two units.
-use Rattle.std.proofs.Common.{◌≡◌, ◌⊎◌, ◌↔◌, ◌<◌, ◌≤◌, ◌+◌, ℕ, zero, suc, Bool, true, false, ◌&&◌, ◌||◌, not, List, [], ◌∷◌, ◌++◌, length, map, take, drop, Some, Result, Ok, Err, inl, inr, refl, sym, ap, ap₂, ◌∙◌, subst, arith}
-use Rattle.std.specs.Prelude.{filter, if◌then◌else◌, Decides, IsTrue, IfOk}
+-- A key's marks between two units, piece by piece.
+use Rattle.std.proofs.Common.{◌≡◌, ◌⊎◌, ◌↔◌, ◌<◌, ◌≤◌, ◌+◌, ℕ, Bool, true, false, ◌&&◌, ◌||◌, not, List, [], ◌∷◌, ◌++◌, length, map, take, drop, Some, inl, inr, refl, sym, ap, ap₂, ◌∙◌, subst, arith}
+use Rattle.std.specs.Prelude.{filter, if◌then◌else◌, Decides}
 use Rattle.std.specs.Str.{bytes_eq}
 use Rattle.yd_words.specs.Each.{Each}
 use Rattle.yd_words.specs.Member.{IsIn}
-use Rattle.yd_words.proofs.EachLemmas.{each_front}
-use Rattle.yd_words.proofs.MemberLemmas.{each_in, in_left_part, in_right_part, in_parts}
-use Rattle.yd_any.specs.Tree.{AnyTree, AnyTrees, no_trees, tree}
+use Rattle.yd_words.proofs.MemberLemmas.{in_left_part, in_right_part, in_parts}
+use Rattle.yd_any.specs.Tree.{AnyTree}
 use Rattle.yd_ids.specs.declared.id.Id.{Id}
 use Rattle.yd_ids.specs.declared.id.Span.{Span}
 use Rattle.yd_ids.specs.Ids.{is_same}
 use Rattle.yd_ids.specs.Set.{HasId, AddsSpan, AreMaximal}
 use Rattle.yd_ids.proofs.IdLemmas.{same_numbers}
 use Rattle.yd_ops.specs.Value.{ContentValue, json, binary, string, embed, format, nested, any, deleted, len_of}
-use Rattle.yd_any.specs.Valid.{is_valid_json}
-use Rattle.yd_grouping.specs.Groupable.{IsValidOperation, IsValidUnitContent}
 use Rattle.yd_ops.specs.declared.lists.List.{List as DocList}
-use Rattle.yd_ops.specs.Operation.{Operation, UnitContent, text_unit, any_unit, json_unit, bytes, embedded, mark, nested_type, deleted_unit, gone_unit, later_id, units_of_trees, deleted_units, units_of_content}
+use Rattle.yd_ops.specs.Operation.{Operation, UnitContent, mark, later_id, units_of_content}
 use Rattle.yd_ops.specs.View.{content_value}
 use Rattle.yd_editing.specs.Made.{units_up_to, units_behind}
-use Rattle.yd_editing.specs.TextEdit.{value_after, value_in_force, is_mark_of, marks_between, ids_of_units}
+use Rattle.yd_editing.specs.TextEdit.{is_mark_of, marks_between, ids_of_units}
 use Rattle.yd_state.specs.declared.listing.RunView.{RunView}
 use Rattle.yd_meaning.specs.Document.{Document}
 use Rattle.yd_state.specs.Lent.{Lent, lent, lent_from, lent_units, units_of_view, IsWithin}
-use Rattle.yd_text.specs.Marks.{value_behind, value_up_to, HoldValid, are_marks_of, id_where, marks_up_to, GetsWhere}
+use Rattle.yd_text.specs.Marks.{are_marks_of, id_where, marks_up_to, GetsWhere}
 use Rattle.yd_text.specs.Rows.{is_in_row}
+use Rattle.yd_text.proofs.AlikeLemmas.{IsAlike, piece_alike}
 use Rattle.yd_text.proofs.RangeLemmas.{ids_are}
 use Rattle.yd_text.proofs.RowLemmas.{InRange, row_tested, contents_of, length-contents}
 
 -- ---- the units of a document
-
-pub value_lent : (is_gone : Id → Bool) (key : List ℕ) (x : Id) (v : AnyTree) (os : List Operation) →
-    value_up_to key x v (map (lent is_gone) os) ≡ value_in_force key (units_up_to (Some x) (filter (λ (o : Operation). not (is_gone o.id)) os)) v
-value_lent is_gone key x v [] = refl
-value_lent is_gone key x v (o ∷ os) = go (is_gone o.id) (is_same o.id x) refl (value_lent is_gone key x v os) (value_lent is_gone key x (value_after key o.content v) os)
-  where
-    live : List Operation
-    live = filter (λ (p : Operation). not (is_gone p.id)) os
-
-    after : AnyTree
-    after = value_after key o.content v
-
-    go : (d t : Bool) → is_same o.id x ≡ t → value_up_to key x v (map (lent is_gone) os) ≡ value_in_force key (units_up_to (Some x) live) v →
-        value_up_to key x after (map (lent is_gone) os) ≡ value_in_force key (units_up_to (Some x) live) after →
-        (if d then value_up_to key x v (map (lent is_gone) os) else (if t then after else value_up_to key x after (map (lent is_gone) os)))
-        ≡ value_in_force key (units_up_to (Some x) (if not d then o ∷ live else live)) v
-    go true t e passed other = passed
-    go false true e passed other = ap (λ s. value_in_force key (if s then [] else units_up_to (Some x) live) after) (sym e)
-    go false false e passed other = other ∙ ap (λ s. value_in_force key (if s then [] else units_up_to (Some x) live) after) (sym e)
 
 -- the ids of marks
 abbrev ids_of_marks : List ℕ → List Operation → List Id
@@ -106,282 +85,127 @@ module _ (is_gone : Id → Bool) (key : List ℕ) (first last : Id) where
       go true more = more
       go false more = found (is_same o.id last) (is_same o.id first) more
 
--- ---- lemmas for callers: what is held is valid
+-- ---- marks between two units, row by row
 
--- what a list's units hold, where all that is received is valid
-pub hold_valid : (document : Document) (name : DocList) (received : List Operation) → Each IsValidOperation received →
-    ((o : Operation) → IsIn o (document.units name) → IsIn o received) → HoldValid (lent_units document name)
-hold_valid document name received valid among = go (document.units name) among
-  where
-    go : (os : List Operation) → ((o : Operation) → IsIn o os → IsIn o received) → HoldValid (map (lent document.deleted) os)
-    go [] within = tt
-    go (o ∷ os) within = ((each_in IsValidOperation received valid o (within o (inl refl))).content, go os (λ p i. within p (inr i)))
+module _ (key : List ℕ) (first last : Id) where
+  gone_marks : (id : Id) (us : List UnitContent) (rest : List Lent) (came : Bool) → marks_up_to key first last came (lent_from id true us ++ rest) ≡ marks_up_to key first last came rest
+  gone_marks id [] rest came = refl
+  gone_marks id (u ∷ us) rest came = gone_marks (later_id id 1) us rest came
 
--- behind a piece it is so too
-pub valid_behind : (view : RunView) (old new : List Lent) → old ≡ units_of_view view ++ new → HoldValid old → HoldValid new
-valid_behind view old new is valid = behind (units_of_view view) (subst HoldValid is valid)
-  where
-    behind : (us : List Lent) → HoldValid (us ++ new) → HoldValid new
-    behind [] hold = hold
-    behind (u ∷ us) hold = behind us hold.1
+  either_more : (a b c : Bool) → ((a || b) || c) ≡ (a || (b || c))
+  either_more true b c = refl
+  either_more false b c = refl
 
--- ---- contents
+  none_of : (a : Bool) → (a && false) ≡ false
+  none_of true = refl
+  none_of false = refl
 
-module _ (key : List ℕ) where
-  -- a content's units all do the same to the value, and all are marks of the key or none
-  abbrev IsAlike : ContentValue → UnitContent → Type 0
-  IsAlike content unit = ((v : AnyTree) → value_after key unit v ≡ value_behind key content v) × (is_mark_of key unit ≡ are_marks_of key content)
-
-  alike_map : {X : Type 0} (f : X → UnitContent) (content : ContentValue) → ((x : X) → IsAlike content (f x)) → (xs : List X) → Each (IsAlike content) (map f xs)
-  alike_map f content are [] = tt
-  alike_map f content are (x ∷ xs) = (are x, alike_map f content are xs)
-
-  trees_alike : (values ts : AnyTrees) → Each (IsAlike (any values)) (units_of_trees ts)
-  trees_alike values no_trees = tt
-  trees_alike values (tree t ts) = (((λ v. refl), refl), trees_alike values ts)
-
-  deleted_alike : (count n : ℕ) → Each (IsAlike (deleted count)) (deleted_units n)
-  deleted_alike count zero = tt
-  deleted_alike count (suc n) = (((λ v. refl), refl), deleted_alike count n)
-
-  all_alike : (content : ContentValue) → Each (IsAlike content) (units_of_content content)
-  all_alike (json units) = alike_map _ (json units) (λ x. ((λ v. refl), refl)) units
-  all_alike (binary blob) = (((λ v. refl), refl), tt)
-  all_alike (string units) = alike_map _ (string units) (λ x. ((λ v. refl), refl)) units
-  all_alike (embed value) = (((λ v. refl), refl), tt)
-  all_alike (format k value) = (((λ v. refl), refl), tt)
-  all_alike (nested kind) = (((λ v. refl), refl), tt)
-  all_alike (any values) = trees_alike values values
-  all_alike (deleted count) = deleted_alike count count
-
-  -- setting a value once more changes nothing
-  set_again : (content : ContentValue) (v : AnyTree) → value_behind key content (value_behind key content v) ≡ value_behind key content v
-  set_again (json units) v = refl
-  set_again (binary blob) v = refl
-  set_again (string units) v = refl
-  set_again (embed value) v = refl
-  set_again (format k value) v = go (bytes_eq k key)
+  -- of a row without marks none is had
+  bare_row : (id : Id) (us : List UnitContent) (rest : List Lent) (came : Bool) → Each (λ unit. is_mark_of key unit ≡ false) us →
+      marks_up_to key first last came (lent_from id false us ++ rest)
+      ≡ (if is_in_row id (length us) last then [] else marks_up_to key first last (came || is_in_row id (length us) first) rest)
+  bare_row id [] rest came each = ap (λ c. marks_up_to key first last c rest) (sym (either_none came))
     where
-      go : (t : Bool) → (if t then value else (if t then value else v)) ≡ (if t then value else v)
-      go true = refl
-      go false = refl
-  set_again (nested kind) v = refl
-  set_again (any values) v = refl
-  set_again (deleted count) v = refl
-
-  each_behind : {X : Type 0} (P : X → Type 0) (n : ℕ) (xs : List X) → Each P xs → Each P (drop n xs)
-  each_behind P zero xs each = each
-  each_behind P (suc n) [] each = tt
-  each_behind P (suc n) (x ∷ xs) each = each_behind P n xs each.1
-
-  piece_alike : (view : RunView) → Each (IsAlike (content_value view.content.now)) (contents_of view)
-  piece_alike view = each_front (IsAlike (content_value view.content.now)) (drop view.offset units) view.len
-      (each_behind (IsAlike (content_value view.content.now)) view.offset units (all_alike (content_value view.content.now)))
+      either_none : (a : Bool) → (a || false) ≡ a
+      either_none true = refl
+      either_none false = refl
+  bare_row id (u ∷ us) rest came each =
+      ap (λ t. id_where t id ++ (if is_same id last then [] else marks_up_to key first last (came || is_same id first) (lent_from (later_id id 1) false us ++ rest)))
+      (ap (λ t. came && t) each.0 ∙ none_of came) ∙ go (is_same id last) (bare_row (later_id id 1) us rest (came || is_same id first) each.1)
     where
-      units : List UnitContent
-      units = units_of_content (content_value view.content.now)
-
-  -- ---- the value in force, row by row
-
-  value_row : (content : ContentValue) (x id : Id) (u : UnitContent) (us : List UnitContent) (rest : List Lent) (v : AnyTree) → Each (IsAlike content) (u ∷ us) →
-      value_up_to key x v (lent_from id false (u ∷ us) ++ rest)
-      ≡ (if is_in_row id (length (u ∷ us)) x then value_behind key content v else value_up_to key x (value_behind key content v) rest)
-  value_row content x id u [] rest v each = ap (λ w. if is_same id x then w else value_up_to key x w rest) (each.0.0 v) ∙ go (is_same id x)
-    where
-      w : AnyTree
-      w = value_behind key content v
-
-      go : (t : Bool) → (if t then w else value_up_to key x w rest) ≡ (if t || false then w else value_up_to key x w rest)
-      go true = refl
-      go false = refl
-  value_row content x id u (y ∷ ys) rest v each =
-      ap (λ w. if is_same id x then w else value_up_to key x w (lent_from (later_id id 1) false (y ∷ ys) ++ rest)) (each.0.0 v)
-      ∙ go (is_same id x) (value_row content x (later_id id 1) y ys rest (value_behind key content v) each.1)
-    where
-      w : AnyTree
-      w = value_behind key content v
-
-      go : (t : Bool) → value_up_to key x w (lent_from (later_id id 1) false (y ∷ ys) ++ rest)
-          ≡ (if is_in_row (later_id id 1) (length (y ∷ ys)) x then value_behind key content w else value_up_to key x (value_behind key content w) rest) →
-          (if t then w else value_up_to key x w (lent_from (later_id id 1) false (y ∷ ys) ++ rest))
-          ≡ (if t || is_in_row (later_id id 1) (length (y ∷ ys)) x then w else value_up_to key x w rest)
+      go : (t : Bool) → marks_up_to key first last (came || is_same id first) (lent_from (later_id id 1) false us ++ rest)
+          ≡ (if is_in_row (later_id id 1) (length us) last then [] else marks_up_to key first last ((came || is_same id first) || is_in_row (later_id id 1) (length us) first) rest) →
+          (if t then [] else marks_up_to key first last (came || is_same id first) (lent_from (later_id id 1) false us ++ rest))
+          ≡ (if t || is_in_row (later_id id 1) (length us) last then [] else marks_up_to key first last (came || (is_same id first || is_in_row (later_id id 1) (length us) first)) rest)
       go true more = refl
-      go false more = more ∙ ap (λ z. if is_in_row (later_id id 1) (length (y ∷ ys)) x then z else value_up_to key x z rest) (set_again content v)
+      go false more = more
+          ∙ ap (λ c. if is_in_row (later_id id 1) (length us) last then [] else marks_up_to key first last c rest)
+          (either_more came (is_same id first) (is_in_row (later_id id 1) (length us) first))
 
-  deleted_row : (x id : Id) (us : List UnitContent) (rest : List Lent) (v : AnyTree) → value_up_to key x v (lent_from id true us ++ rest) ≡ value_up_to key x v rest
-  deleted_row x id [] rest v = refl
-  deleted_row x id (u ∷ us) rest v = deleted_row x (later_id id 1) us rest v
-
-  -- ---- lemmas for callers: the value in force, piece by piece
+  -- ---- lemmas for callers: marks between two units, piece by piece
 
   -- a deleted piece is passed
-  pub value_passed : (view : RunView) → view.deleted ≡ true → (x : Id) (v : AnyTree) (old new : List Lent) → old ≡ units_of_view view ++ new →
-      value_up_to key x v old ≡ value_up_to key x v new
-  value_passed view gone x v old new is = ap (value_up_to key x v) is ∙ ap (λ d. value_up_to key x v (lent_from view.id d (contents_of view) ++ new)) gone
-      ∙ deleted_row x view.id (contents_of view) new v
+  pub marks_passed : (view : RunView) → view.deleted ≡ true → (came : Bool) (old new : List Lent) → old ≡ units_of_view view ++ new →
+      marks_up_to key first last came old ≡ marks_up_to key first last came new
+  marks_passed view gone came old new is = ap (marks_up_to key first last came) is
+      ∙ ap (λ d. marks_up_to key first last came (lent_from view.id d (contents_of view) ++ new)) gone ∙ gone_marks view.id (contents_of view) new came
 
-  -- of a live one the content says what is in force behind it
-  pub value_in_piece : (view : RunView) → IsWithin view → 0 < view.len → view.deleted ≡ false → (x : Id) (t : Bool) → Decides t (InRange view.id view.len x) →
-      (v : AnyTree) (old new : List Lent) → old ≡ units_of_view view ++ new →
-      value_up_to key x v old ≡ (if t then value_behind key (content_value view.content.now) v else value_up_to key x (value_behind key (content_value view.content.now) v) new)
-  value_in_piece view within some live x t d v old new is = ap (value_up_to key x v) is ∙ ap (λ g. value_up_to key x v (lent_from view.id g (contents_of view) ++ new)) live
-      ∙ go (contents_of view) (length-contents view within) (piece_alike view)
+  -- of a live one its id is had where it is a mark of the key behind the first unit
+  marks_in_piece : (view : RunView) → IsWithin view → 0 < view.len → view.deleted ≡ false → (t : Bool) → Decides t (InRange view.id view.len last) →
+      (came : Bool) (old new : List Lent) → old ≡ units_of_view view ++ new →
+      marks_up_to key first last came old
+      ≡ id_where (came && are_marks_of key (content_value view.content.now)) view.id ++ (if t then [] else marks_up_to key first last (came || is_in_row view.id view.len first) new)
+  marks_in_piece view within some live t e came old new is = ap (marks_up_to key first last came) is
+      ∙ ap (λ g. marks_up_to key first last came (lent_from view.id g (contents_of view) ++ new)) live ∙ go (content_value view.content.now) refl
     where
-      go : (us : List UnitContent) → length us ≡ view.len → Each (IsAlike (content_value view.content.now)) us →
-          value_up_to key x v (lent_from view.id false us ++ new)
-          ≡ (if t then value_behind key (content_value view.content.now) v else value_up_to key x (value_behind key (content_value view.content.now) v) new)
-      go [] long each = absurd (omega (arith, long, some))
-      go (u ∷ us) long each = value_row (content_value view.content.now) x view.id u us new v each
-          ∙ ap (λ s. if s then value_behind key (content_value view.content.now) v else value_up_to key x (value_behind key (content_value view.content.now) v) new)
-          (ap (λ n. is_in_row view.id n x) long ∙ row_tested view.id view.len x t d)
+      long : length (contents_of view) ≡ view.len
+      long = length-contents view within
 
-  -- ---- lemmas for callers: what is in force is valid
+      Says : Bool → List Id → Type 0
+      Says m ids = ids ≡ id_where (came && m) view.id ++ (if t then [] else marks_up_to key first last (came || is_in_row view.id view.len first) new)
 
-  after_valid : (u : UnitContent) (v : AnyTree) → IsValidUnitContent u → IsTrue (is_valid_json v) → IsTrue (is_valid_json (value_after key u v))
-  after_valid (text_unit unit) v a b = b
-  after_valid (any_unit value) v a b = b
-  after_valid (json_unit value) v a b = b
-  after_valid (bytes blob) v a b = b
-  after_valid (embedded value) v a b = b
-  after_valid (mark k value) v a b = go (bytes_eq k key)
-    where
-      go : (t : Bool) → IsTrue (is_valid_json (if t then value else v))
-      go true = a
-      go false = b
-  after_valid (nested_type kind) v a b = b
-  after_valid deleted_unit v a b = b
-  after_valid gone_unit v a b = b
+      -- what is no mark
+      bare : (content : ContentValue) → content_value view.content.now ≡ content → are_marks_of key content ≡ false →
+          Says (are_marks_of key content) (marks_up_to key first last came (lent_from view.id false (contents_of view) ++ new))
+      bare content f none = bare_row view.id (contents_of view) new came (weaker (contents_of view) (piece_alike key view))
+          ∙ ap₂ (λ a b. if a then [] else marks_up_to key first last (came || b) new) (ap (λ n. is_in_row view.id n last) long ∙ row_tested view.id view.len last t e)
+          (ap (λ n. is_in_row view.id n first) long)
+          ∙ ap (λ m. id_where m view.id ++ (if t then [] else marks_up_to key first last (came || is_in_row view.id view.len first) new)) (sym (ap (λ m. came && m) none ∙ none_of came))
+        where
+          weaker : (us : List UnitContent) → Each (IsAlike key (content_value view.content.now)) us → Each (λ unit. is_mark_of key unit ≡ false) us
+          weaker [] each = tt
+          weaker (u ∷ us) each = (each.0.1 ∙ ap (are_marks_of key) f ∙ none, weaker us each.1)
 
-  pub value_valid : (view : RunView) → IsWithin view → 0 < view.len → (old new : List Lent) → old ≡ units_of_view view ++ new → HoldValid old →
-      (v : AnyTree) → IsTrue (is_valid_json v) → IsTrue (is_valid_json (value_behind key (content_value view.content.now) v))
-  value_valid view within some old new is valid v before = go (contents_of view) (length-contents view within) (piece_alike view) (subst HoldValid is valid)
-    where
-      go : (us : List UnitContent) → length us ≡ view.len → Each (IsAlike (content_value view.content.now)) us → HoldValid (lent_from view.id view.deleted us ++ new) →
-          IsTrue (is_valid_json (value_behind key (content_value view.content.now) v))
-      go [] long each hold = absurd (omega (arith, long, some))
-      go (u ∷ us) long each hold = subst (λ w. IsTrue (is_valid_json w)) (each.0.0 v) (after_valid u v hold.0 before)
+      -- a mark is one unit
+      one : (k : List ℕ) (value : AnyTree) → content_value view.content.now ≡ format k value → contents_of view ≡ mark k value ∷ []
+      one k value f = ap (λ c. take view.len (drop view.offset (units_of_content c))) f ∙ ap₂ (λ n o. take n (drop o (mark k value ∷ []))) alone front
+        where
+          few : view.offset + view.len ≤ 1
+          few = subst (λ c. view.offset + view.len ≤ len_of c) f within.units
 
-  -- ---- marks between two units, row by row
+          alone : view.len ≡ 1
+          alone = omega (arith, few, some)
 
-  module _ (first last : Id) where
-    gone_marks : (id : Id) (us : List UnitContent) (rest : List Lent) (came : Bool) → marks_up_to key first last came (lent_from id true us ++ rest) ≡ marks_up_to key first last came rest
-    gone_marks id [] rest came = refl
-    gone_marks id (u ∷ us) rest came = gone_marks (later_id id 1) us rest came
+          front : view.offset ≡ 0
+          front = omega (arith, few, some)
 
-    either_more : (a b c : Bool) → ((a || b) || c) ≡ (a || (b || c))
-    either_more true b c = refl
-    either_more false b c = refl
+      single : (k : List ℕ) (value : AnyTree) → content_value view.content.now ≡ format k value →
+          Says (bytes_eq k key) (marks_up_to key first last came (lent_from view.id false (contents_of view) ++ new))
+      single k value f = ap (λ us. marks_up_to key first last came (lent_from view.id false us ++ new)) (one k value f)
+          ∙ ap₂ (λ a b. id_where (came && bytes_eq k key) view.id ++ (if a then [] else marks_up_to key first last (came || b) new))
+          (alone last ∙ row_tested view.id view.len last t e) (alone first)
+        where
+          alone : (x : Id) → is_same view.id x ≡ is_in_row view.id view.len x
+          alone x = go (is_same view.id x) refl ∙ ap (λ n. is_in_row view.id n x) (sym (ap length (one k value f)) ∙ long)
+            where
+              go : (b : Bool) → is_same view.id x ≡ b → is_same view.id x ≡ (is_same view.id x || false)
+              go true g = g ∙ sym (ap (λ b. b || false) g)
+              go false g = g ∙ sym (ap (λ b. b || false) g)
 
-    none_of : (a : Bool) → (a && false) ≡ false
-    none_of true = refl
-    none_of false = refl
+      go : (content : ContentValue) → content_value view.content.now ≡ content →
+          Says (are_marks_of key content) (marks_up_to key first last came (lent_from view.id false (contents_of view) ++ new))
+      go (json units) f = bare (json units) f refl
+      go (binary blob) f = bare (binary blob) f refl
+      go (string units) f = bare (string units) f refl
+      go (embed value) f = bare (embed value) f refl
+      go (format k value) f = single k value f
+      go (nested kind) f = bare (nested kind) f refl
+      go (any values) f = bare (any values) f refl
+      go (deleted count) f = bare (deleted count) f refl
 
-    -- of a row without marks none is had
-    bare_row : (id : Id) (us : List UnitContent) (rest : List Lent) (came : Bool) → Each (λ unit. is_mark_of key unit ≡ false) us →
-        marks_up_to key first last came (lent_from id false us ++ rest)
-        ≡ (if is_in_row id (length us) last then [] else marks_up_to key first last (came || is_in_row id (length us) first) rest)
-    bare_row id [] rest came each = ap (λ c. marks_up_to key first last c rest) (sym (either_none came))
-      where
-        either_none : (a : Bool) → (a || false) ≡ a
-        either_none true = refl
-        either_none false = refl
-    bare_row id (u ∷ us) rest came each =
-        ap (λ t. id_where t id ++ (if is_same id last then [] else marks_up_to key first last (came || is_same id first) (lent_from (later_id id 1) false us ++ rest)))
-        (ap (λ t. came && t) each.0 ∙ none_of came) ∙ go (is_same id last) (bare_row (later_id id 1) us rest (came || is_same id first) each.1)
-      where
-        go : (t : Bool) → marks_up_to key first last (came || is_same id first) (lent_from (later_id id 1) false us ++ rest)
-            ≡ (if is_in_row (later_id id 1) (length us) last then [] else marks_up_to key first last ((came || is_same id first) || is_in_row (later_id id 1) (length us) first) rest) →
-            (if t then [] else marks_up_to key first last (came || is_same id first) (lent_from (later_id id 1) false us ++ rest))
-            ≡ (if t || is_in_row (later_id id 1) (length us) last then [] else marks_up_to key first last (came || (is_same id first || is_in_row (later_id id 1) (length us) first)) rest)
-        go true more = refl
-        go false more = more
-            ∙ ap (λ c. if is_in_row (later_id id 1) (length us) last then [] else marks_up_to key first last c rest)
-            (either_more came (is_same id first) (is_in_row (later_id id 1) (length us) first))
+  -- ---- lemmas for callers: a live piece with the last unit, and one without it
 
-    -- ---- lemmas for callers: marks between two units, piece by piece
+  pub marks_end : (view : RunView) → IsWithin view → 0 < view.len → view.deleted ≡ false → (t : Bool) → Decides t (InRange view.id view.len last) → t ≡ true →
+      (came : Bool) (old new : List Lent) → old ≡ units_of_view view ++ new →
+      marks_up_to key first last came old ≡ id_where (came && are_marks_of key (content_value view.content.now)) view.id ++ []
+  marks_end view within some live t e here came old new is = marks_in_piece view within some live t e came old new is
+      ∙ ap (λ s. id_where (came && are_marks_of key (content_value view.content.now)) view.id ++ (if s then [] else marks_up_to key first last (came || is_in_row view.id view.len first) new)) here
 
-    -- a deleted piece is passed
-    pub marks_passed : (view : RunView) → view.deleted ≡ true → (came : Bool) (old new : List Lent) → old ≡ units_of_view view ++ new →
-        marks_up_to key first last came old ≡ marks_up_to key first last came new
-    marks_passed view gone came old new is = ap (marks_up_to key first last came) is
-        ∙ ap (λ d. marks_up_to key first last came (lent_from view.id d (contents_of view) ++ new)) gone ∙ gone_marks view.id (contents_of view) new came
-
-    -- of a live one its id is had where it is a mark of the key behind the first unit
-    marks_in_piece : (view : RunView) → IsWithin view → 0 < view.len → view.deleted ≡ false → (t : Bool) → Decides t (InRange view.id view.len last) →
-        (came : Bool) (old new : List Lent) → old ≡ units_of_view view ++ new →
-        marks_up_to key first last came old
-        ≡ id_where (came && are_marks_of key (content_value view.content.now)) view.id ++ (if t then [] else marks_up_to key first last (came || is_in_row view.id view.len first) new)
-    marks_in_piece view within some live t e came old new is = ap (marks_up_to key first last came) is
-        ∙ ap (λ g. marks_up_to key first last came (lent_from view.id g (contents_of view) ++ new)) live ∙ go (content_value view.content.now) refl
-      where
-        long : length (contents_of view) ≡ view.len
-        long = length-contents view within
-
-        Says : Bool → List Id → Type 0
-        Says m ids = ids ≡ id_where (came && m) view.id ++ (if t then [] else marks_up_to key first last (came || is_in_row view.id view.len first) new)
-
-        -- what is no mark
-        bare : (content : ContentValue) → content_value view.content.now ≡ content → are_marks_of key content ≡ false →
-            Says (are_marks_of key content) (marks_up_to key first last came (lent_from view.id false (contents_of view) ++ new))
-        bare content f none = bare_row view.id (contents_of view) new came (weaker (contents_of view) (piece_alike view))
-            ∙ ap₂ (λ a b. if a then [] else marks_up_to key first last (came || b) new) (ap (λ n. is_in_row view.id n last) long ∙ row_tested view.id view.len last t e)
-            (ap (λ n. is_in_row view.id n first) long)
-            ∙ ap (λ m. id_where m view.id ++ (if t then [] else marks_up_to key first last (came || is_in_row view.id view.len first) new)) (sym (ap (λ m. came && m) none ∙ none_of came))
-          where
-            weaker : (us : List UnitContent) → Each (IsAlike (content_value view.content.now)) us → Each (λ unit. is_mark_of key unit ≡ false) us
-            weaker [] each = tt
-            weaker (u ∷ us) each = (each.0.1 ∙ ap (are_marks_of key) f ∙ none, weaker us each.1)
-
-        -- a mark is one unit
-        one : (k : List ℕ) (value : AnyTree) → content_value view.content.now ≡ format k value → contents_of view ≡ mark k value ∷ []
-        one k value f = ap (λ c. take view.len (drop view.offset (units_of_content c))) f ∙ ap₂ (λ n o. take n (drop o (mark k value ∷ []))) alone front
-          where
-            few : view.offset + view.len ≤ 1
-            few = subst (λ c. view.offset + view.len ≤ len_of c) f within.units
-
-            alone : view.len ≡ 1
-            alone = omega (arith, few, some)
-
-            front : view.offset ≡ 0
-            front = omega (arith, few, some)
-
-        single : (k : List ℕ) (value : AnyTree) → content_value view.content.now ≡ format k value →
-            Says (bytes_eq k key) (marks_up_to key first last came (lent_from view.id false (contents_of view) ++ new))
-        single k value f = ap (λ us. marks_up_to key first last came (lent_from view.id false us ++ new)) (one k value f)
-            ∙ ap₂ (λ a b. id_where (came && bytes_eq k key) view.id ++ (if a then [] else marks_up_to key first last (came || b) new))
-            (alone last ∙ row_tested view.id view.len last t e) (alone first)
-          where
-            alone : (x : Id) → is_same view.id x ≡ is_in_row view.id view.len x
-            alone x = go (is_same view.id x) refl ∙ ap (λ n. is_in_row view.id n x) (sym (ap length (one k value f)) ∙ long)
-              where
-                go : (b : Bool) → is_same view.id x ≡ b → is_same view.id x ≡ (is_same view.id x || false)
-                go true g = g ∙ sym (ap (λ b. b || false) g)
-                go false g = g ∙ sym (ap (λ b. b || false) g)
-
-        go : (content : ContentValue) → content_value view.content.now ≡ content →
-            Says (are_marks_of key content) (marks_up_to key first last came (lent_from view.id false (contents_of view) ++ new))
-        go (json units) f = bare (json units) f refl
-        go (binary blob) f = bare (binary blob) f refl
-        go (string units) f = bare (string units) f refl
-        go (embed value) f = bare (embed value) f refl
-        go (format k value) f = single k value f
-        go (nested kind) f = bare (nested kind) f refl
-        go (any values) f = bare (any values) f refl
-        go (deleted count) f = bare (deleted count) f refl
-
-    -- ---- lemmas for callers: a live piece with the last unit, and one without it
-
-    pub marks_end : (view : RunView) → IsWithin view → 0 < view.len → view.deleted ≡ false → (t : Bool) → Decides t (InRange view.id view.len last) → t ≡ true →
-        (came : Bool) (old new : List Lent) → old ≡ units_of_view view ++ new →
-        marks_up_to key first last came old ≡ id_where (came && are_marks_of key (content_value view.content.now)) view.id ++ []
-    marks_end view within some live t e here came old new is = marks_in_piece view within some live t e came old new is
-        ∙ ap (λ s. id_where (came && are_marks_of key (content_value view.content.now)) view.id ++ (if s then [] else marks_up_to key first last (came || is_in_row view.id view.len first) new)) here
-
-    pub marks_go_on : (view : RunView) → IsWithin view → 0 < view.len → view.deleted ≡ false → (t : Bool) → Decides t (InRange view.id view.len last) → t ≡ false →
-        (came then_came : Bool) → then_came ≡ (came || is_in_row view.id view.len first) → (old new : List Lent) → old ≡ units_of_view view ++ new →
-        marks_up_to key first last came old ≡ id_where (came && are_marks_of key (content_value view.content.now)) view.id ++ marks_up_to key first last then_came new
-    marks_go_on view within some live t e not_here came then_came so old new is = marks_in_piece view within some live t e came old new is
-        ∙ ap₂ (λ s c. id_where (came && are_marks_of key (content_value view.content.now)) view.id ++ (if s then [] else marks_up_to key first last c new)) not_here (sym so)
+  pub marks_go_on : (view : RunView) → IsWithin view → 0 < view.len → view.deleted ≡ false → (t : Bool) → Decides t (InRange view.id view.len last) → t ≡ false →
+      (came then_came : Bool) → then_came ≡ (came || is_in_row view.id view.len first) → (old new : List Lent) → old ≡ units_of_view view ++ new →
+      marks_up_to key first last came old ≡ id_where (came && are_marks_of key (content_value view.content.now)) view.id ++ marks_up_to key first last then_came new
+  marks_go_on view within some live t e not_here came then_came so old new is = marks_in_piece view within some live t e came old new is
+      ∙ ap₂ (λ s c. id_where (came && are_marks_of key (content_value view.content.now)) view.id ++ (if s then [] else marks_up_to key first last c new)) not_here (sym so)
 
 -- ---- lemmas for callers: all marks
 
@@ -436,10 +260,3 @@ mark_had t id old new before behind e gets x P so_far = ((λ h. so_far.0 (back h
 -- where none is still to come, these are all
 pub all_had : (ids : List Span) (marks : List Id) → marks ≡ [] → (x : Id) (P : Type 0) → (HasId ids x ⊎ IsIn x marks) ↔ P → HasId ids x ↔ P
 all_had ids marks e x P so_far = ((λ h. so_far.0 (inl h)), (λ p. elim (so_far.1 p) [ inl h ↦ h | inr i ↦ absurd (subst (IsIn x) e i) ]))
-
--- ---- lemmas for callers: answers
-
--- what follows of a result follows of an answer with it
-pub ok_then : {X E : Type 0} (P Q : X → Type 0) → ((x : X) → P x → Q x) → (r : Result X E) → IfOk r P → IfOk r Q
-ok_then P Q f (Ok x) h = f x h
-ok_then P Q f (Err e) h = h

@@ -13,9 +13,9 @@ use std::alloc::Global;
 use yd_doc::{EditFault, Replica};
 use yd_ops::{List, Update};
 
-/// Deletes so many live counted units from an index on, by name. `PastEnd` with the length, where the
-/// end is past it; `InsidePair` with the first end of the range that parts a pair. After a refusal the
-/// replica is as before (Yjs 13, delete of a text).
+/// Deletes so many live counted units from an index on, by name. `PastEnd` with the length, where
+/// the end is past it; `InsidePair` with the first end of the range that parts a pair. After a
+/// refusal the replica is as before (Yjs 13, delete of a text).
 pub fn delete(
     alloc: Global,
     replica: &mut Replica,

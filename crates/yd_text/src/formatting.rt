@@ -24,13 +24,13 @@ use yd_doc::{EditFault, Replica, Step, StepList};
 use yd_ids::Id;
 use yd_ops::{Content, List, Update};
 
-/// Gives the key a value over so many live counted units from an index on. A mark of the value comes
-/// directly before the first of them, and behind the last one a mark of the value that was in force
-/// there, null for none; the key's live marks between the two units are removed by name. Of no units
-/// nothing is made, and the index is judged all the same. `NoPlace`, where the list's parent is no
-/// type item that is held and something is made; and else as `delete` and `Replica::edit` refuse.
-/// After a refusal the replica is as before (Yjs 13, format of a text; where the marks go, and which
-/// are made, is own).
+/// Gives the key a value over so many live counted units from an index on. A mark of the value
+/// comes directly before the first of them, and behind the last one a mark of the value that was in
+/// force there, null for none; the key's live marks between the two units are removed by name. Of
+/// no units nothing is made, and the index is judged all the same. `NoPlace`, where the list's
+/// parent is no type item that is held and something is made; and else as `delete` and
+/// `Replica::edit` refuse. After a refusal the replica is as before (Yjs 13, format of a text;
+/// where the marks go, and which are made, is own).
 pub fn format(
     alloc: Global,
     replica: &mut Replica,

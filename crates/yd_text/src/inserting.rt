@@ -24,11 +24,11 @@ use yd_ops::{Content, List, Update};
 use yd_units::Units;
 
 /// Inserts a text directly behind the unit before the index, in UTF-16 units, or at the front. An
-/// empty text makes nothing, and its index is judged all the same. `NoPlace`, where the list's parent
-/// is no type item that is held and the text is not empty; `PastEnd` with the length, where the index
-/// is past it; `InsidePair` with the index, where it parts a pair; and else what `Replica::edit`
-/// refuses. After a refusal the replica is as before (Yjs 13, insert of a text; which of the places
-/// with the same shown text it takes is own).
+/// empty text makes nothing, and its index is judged all the same. `NoPlace`, where the list's
+/// parent is no type item that is held and the text is not empty; `PastEnd` with the length, where
+/// the index is past it; `InsidePair` with the index, where it parts a pair; and else what
+/// `Replica::edit` refuses. After a refusal the replica is as before (Yjs 13, insert of a text;
+/// which of the places with the same shown text it takes is own).
 pub fn insert(
     alloc: Global,
     replica: &mut Replica,

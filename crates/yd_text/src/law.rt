@@ -1,8 +1,9 @@
 //! What each edit of a text shows, each law the contract of a function that does nothing.
 //!
-//! Each is about a replica before an edit and after it (`IsEdit` of `yd_doc`, which `insert`, `embed`,
-//! `delete` and `format` ensure), where the text is quiet before: what is received is honest, nothing
-//! waits, no deletion either, and the list's parent is a root or live (`IsQuietText` of `yd_editing`).
+//! Each is about a replica before an edit and after it (`IsEdit` of `yd_doc`, which `insert`,
+//! `embed`, `delete` and `format` ensure), where the text is quiet before: what is received is
+//! honest, nothing waits, no deletion either, and the list's parent is a root or live
+//! (`IsQuietText` of `yd_editing`).
 
 ghost use Rattle.yd_text.specs.Law.{InsertionsShow, DeletionsShow, FormatsShow};
 

@@ -23,8 +23,8 @@ use yd_doc::{EditFault, Replica, RunView};
 use yd_ids::{Id, IdSet, NoMemory, Span};
 use yd_ops::{Content, List};
 
-/// The key's value in force at a live unit: that of its last live mark before the unit, and null where
-/// there is none. It takes time as reading the list by pieces does, up to that unit.
+/// The key's value in force at a live unit: that of its last live mark before the unit, and null
+/// where there is none. It takes time as reading the list by pieces does, up to that unit.
 pub(crate) fn value_at(
     replica: &Replica,
     list: &List,
@@ -128,7 +128,8 @@ fn add_mark(ids: &mut IdSet, piece: &RunView<'_>, key: &Text, came: bool) -> Res
     requires some { 0 < piece.now.len }
     requires maximal { AreMaximal ids.old }
     ensures added { OnOk result (GetsWhere
-        (came && are_marks_of key.now (content_value piece.now.content.now)) piece.now.id ids.old ids.new) }
+        (came && are_marks_of key.now (content_value piece.now.content.now)) piece.now.id
+        ids.old ids.new) }
     ensures maximal { AreMaximal ids.new }
 {
     if !came {

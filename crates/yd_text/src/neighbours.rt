@@ -30,7 +30,8 @@ pub(crate) fn unit_before(replica: &Replica, list: &List, id: Id) -> Option<Id>
 
 /// The id is one of the piece's.
 pub(crate) fn has_id(piece: &RunView<'_>, id: Id) -> bool
-    ensures { Decides result ((id.client.0 ≡ piece.now.id.client.0) × (piece.now.id.clock ≤ id.clock)
+    ensures { Decides result ((id.client.0 ≡ piece.now.id.client.0)
+        × (piece.now.id.clock ≤ id.clock)
         × (id.clock < piece.now.id.clock + piece.now.len)) }
 {
     id.client.0 == piece.id.client.0

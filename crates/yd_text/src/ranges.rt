@@ -22,8 +22,8 @@ pub(crate) struct Wanted {
     pub len: u64,
 }
 
-/// The ids of so many live counted units from an index on. It takes time as reading the list by pieces
-/// does, and an insertion for each piece of the range.
+/// The ids of so many live counted units from an index on. It takes time as reading the list by
+/// pieces does, and an insertion for each piece of the range.
 pub(crate) fn units_between(
     alloc: Global,
     replica: &Replica,

@@ -12,7 +12,7 @@ use Rattle.yd_state.specs.Lent.{units_left}
 use Rattle.yd_doc.specs.Kept.{received_of, own_document}
 use Rattle.yd_doc.proofs.CountedLemmas.{fewer_left}
 use Rattle.yd_text.specs.Marks.{value_given, value_behind, value_up_to, HoldValid}
-use Rattle.yd_text.proofs.MarkLemmas.{value_lent, value_passed, value_in_piece, value_valid, hold_valid, valid_behind, ok_then}
+use Rattle.yd_text.proofs.ValueLemmas.{value_lent, value_passed, value_in_piece, value_valid, hold_valid, valid_behind, ok_then}
 use Rattle.yd_text.proofs.marks.value_at.Goals as goal
 
 pub loop-piece-init : goal.loop-piece-init
