@@ -11,7 +11,7 @@ use Rattle.yd_files.proofs.VerdictLemmas.{files_judged, stand_apart, stand_one, 
 use Rattle.yd_files.specs.Files.{File}
 use Rattle.yd_files.specs.Verdict.{Inputs, IsTold, StandFor, StopsAt, Verdict, accepted, missing, refused, too_large}
 use Rattle.yd_app.proofs.WordLemmas.{asked_or_not, asks_same}
-use Rattle.yd_app.specs.Command.{Command, check, convert, cut, edit, merge, pack, show, vector}
+use Rattle.yd_app.specs.Command.{Command, edit}
 use Rattle.yd_app.specs.Commands.Edit.{lines_of_first, refused_script_line}
 use Rattle.yd_app.specs.Due.{Due, IsDue, Refuses, lacking, no_step_2, output, over_limit, refusal, usage}
 use Rattle.yd_app.specs.Law.{OneIsDue}
@@ -40,14 +40,8 @@ due_of file missing = lacking file.name
 
 -- it makes one row of updates
 made_one : (command : Command) (inputs : Inputs) (made other : List UpdateValue) → AreMade command inputs made → AreMade command inputs other → made ≡ other
-made_one (show mode root) inputs made other a b = a ∙ sym b
-made_one (convert form) inputs made other a b = a ∙ sym b
-made_one pack inputs made other a b = a ∙ sym b
-made_one (merge form) inputs made other a b = a ∙ sym b
-made_one vector inputs made other a b = a ∙ sym b
-made_one (cut name) inputs made other a b = a ∙ sym b
-made_one check inputs made other a b = a ∙ sym b
 made_one (edit client name) inputs made other a b = lines_end.one_row client _ _ made other a b
+made_one command inputs made other a b = a ∙ sym b
 
 -- it writes one output
 output_one : (command : Command) (inputs : Inputs) (bytes other : List ℕ) → IsOutputOf command inputs bytes → IsOutputOf command inputs other → bytes ≡ other
@@ -56,26 +50,14 @@ output_one command inputs bytes other a b = a.bytes_are
 
 -- or it refuses them with one line
 refusal_one : (command : Command) (inputs : Inputs) (line other : List ℕ) → IsRefusalOf command inputs line → IsRefusalOf command inputs other → line ≡ other
-refusal_one (show mode root) inputs line other a b = absurd a
-refusal_one (convert form) inputs line other a b = absurd a
-refusal_one pack inputs line other a b = absurd a
-refusal_one (merge form) inputs line other a b = absurd a
-refusal_one vector inputs line other a b = absurd a
-refusal_one (cut name) inputs line other a b = absurd a
-refusal_one check inputs line other a b = absurd a
 refusal_one (edit client name) inputs line other a b =
     let same = lines_end.one_stop client _ _ a.0 b.0 a.1 b.1 a.2 b.2 in a.3 ∙ ap₂ (λ number (cause : LineCause). refused_script_line name number cause) same.0 same.1 ∙ sym b.3
+refusal_one command inputs line other a b = absurd a
 
 -- and not both
 output_apart : (command : Command) (inputs : Inputs) (bytes line : List ℕ) → IsOutputOf command inputs bytes → IsRefusalOf command inputs line → ⊥
-output_apart (show mode root) inputs bytes line a b = b
-output_apart (convert form) inputs bytes line a b = b
-output_apart pack inputs bytes line a b = b
-output_apart (merge form) inputs bytes line a b = b
-output_apart vector inputs bytes line a b = b
-output_apart (cut name) inputs bytes line a b = b
-output_apart check inputs bytes line a b = b
 output_apart (edit client name) inputs bytes line a b = lines_end.apart client _ _ a.made b.0 b.1 a.are_made b.2
+output_apart command inputs bytes line a b = b
 
 -- where it made these, it writes something
 output_made : (command : Command) (inputs : Inputs) (made : List UpdateValue) → AreMade command inputs made → (bytes : List ℕ) × IsOutputOf command inputs bytes
@@ -84,17 +66,11 @@ output_made command inputs made are = let document = document_of (received_set i
 
 -- one of the two comes
 output_or_refusal : (command : Command) (inputs : Inputs) → ((bytes : List ℕ) × IsOutputOf command inputs bytes) ⊎ ((line : List ℕ) × IsRefusalOf command inputs line)
-output_or_refusal (show mode root) inputs = inl (output_made (show mode root) inputs [] refl)
-output_or_refusal (convert form) inputs = inl (output_made (convert form) inputs [] refl)
-output_or_refusal pack inputs = inl (output_made pack inputs [] refl)
-output_or_refusal (merge form) inputs = inl (output_made (merge form) inputs [] refl)
-output_or_refusal vector inputs = inl (output_made vector inputs [] refl)
-output_or_refusal (cut name) inputs = inl (output_made (cut name) inputs [] refl)
-output_or_refusal check inputs = inl (output_made check inputs [] refl)
 output_or_refusal (edit client name) inputs = elim (lines_end.some client (received_set inputs.updates) (lines_of_first inputs.scripts)) [
   | inl played ↦ inl (output_made (edit client name) inputs played.0 played.1)
   | inr stops ↦ inr (refused_script_line name stops.0 stops.1, (stops.0, stops.1, stops.2, refl))
 ]
+output_or_refusal command inputs = inl (output_made command inputs [] refl)
 
 -- ---- what is due
 

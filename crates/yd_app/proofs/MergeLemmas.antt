@@ -12,7 +12,7 @@ use Rattle.yd_files.specs.Verdict.{AreRead, Content, Inputs, StandFor, StandsIn,
 use Rattle.yd_files.specs.declared.kind.Kind.{Kind}
 use Rattle.yd_app.proofs.LawLemmas.{received_same}
 use Rattle.yd_app.proofs.WordLemmas.{asks_same}
-use Rattle.yd_app.specs.Command.{Command, check, convert, cut, edit, merge, pack, show, vector}
+use Rattle.yd_app.specs.Command.{Command, convert, merge, vector}
 use Rattle.yd_app.specs.Commands.Convert.{StandsAgain, converted_bytes, converted_output}
 use Rattle.yd_app.specs.Commands.Vector.{vector_bytes}
 use Rattle.yd_grouping.specs.Reach.{reach_of}
@@ -26,14 +26,9 @@ use Rattle.yd_app.specs.declared.format.Format.TheVariants.{V1, V2}
 
 -- updates that merge to one have one output
 output_same : (command : Command) (one another : Inputs) (bytes others_bytes : List ℕ) → WritesOfMerge command → merge_of one.updates ≡ merge_of another.updates → IsOutputOf command one bytes → IsOutputOf command another others_bytes → bytes ≡ others_bytes
-output_same (show mode root) one another bytes others_bytes of same a b = absurd of
-output_same (convert form) one another bytes others_bytes of same a b = absurd of
-output_same pack one another bytes others_bytes of same a b = absurd of
-output_same (cut name) one another bytes others_bytes of same a b = absurd of
-output_same (edit client name) one another bytes others_bytes of same a b = absurd of
-output_same check one another bytes others_bytes of same a b = absurd of
 output_same (merge form) one another bytes others_bytes of same a b = a.bytes_are ∙ ap (converted_bytes form) same ∙ sym b.bytes_are
 output_same vector one another bytes others_bytes of same a b = a.bytes_are ∙ ap (λ (u : UpdateValue). vector_bytes (reach_of u)) same ∙ sym b.bytes_are
+output_same command one another bytes others_bytes of same a b = absurd of
 
 -- files of the same changes have the same merge
 pub merges_same : MergesConverge

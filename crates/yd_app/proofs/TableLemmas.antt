@@ -263,13 +263,6 @@ command_read check names range = refl
 
 -- what words are read as has its numbers in range
 pub range_found : (words : List (List ℕ)) (command : Command) (names : List (List ℕ)) → command_in words ≡ Some (command, names) → HasRange command
-range_found words (show mode root) names is = tt
-range_found words (convert form) names is = tt
-range_found words pack names is = tt
-range_found words (merge form) names is = tt
-range_found words vector names is = tt
-range_found words (cut name) names is = tt
-range_found words check names is = tt
 range_found words (edit client name) names is =
     by_client (client_in (decimal client.0)) refl (subst (λ (ws : List (List ℕ)). command_in ws ≡ Some (edit client name, names)) (command_found words (edit client name) names is) is)
   where
@@ -278,3 +271,4 @@ range_found words (edit client name) names is =
     by_client (Some other) named found =
         let same : edit other name ≡ edit client name = (read_one (edit other name) (edit client name) names names (Some (edit other name, names)) refl found).0 in
         let one : other ≡ client = cc in subst IsClient one (client_named (decimal client.0) other named).1
+range_found words command names is = tt
