@@ -1,13 +1,13 @@
 //! What stands under a key of a map.
 
-ghost use Rattle.std.specs.Prelude.{◌≡◌, Some, IfOk, IfErr, IfSome, OnErr};
+ghost use Rattle.std.specs.Prelude.{◌≡◌, None, Some, IfOk, IfErr, IfSome, OnErr, OnOk};
 ghost use Rattle.yd_ids.specs.Id.{IsId};
 ghost use Rattle.yd_ops.specs.Valid.{IsValidContent, IsParent};
 ghost use Rattle.yd_ops.specs.Value.{len_of};
 ghost use Rattle.yd_ops.specs.View.{content_value, update_value};
-ghost use Rattle.yd_shown.specs.Shown.{key_list as list_of_key};
+ghost use Rattle.yd_shown.specs.Shown.{if_shown, key_list as list_of_key, last_unit};
 ghost use Rattle.yd_editing.specs.Law.{IsMakeable};
-ghost use Rattle.yd_editing.specs.MapEdit.{set_steps, unset_steps, set_refusal, unset_refusal};
+ghost use Rattle.yd_editing.specs.MapEdit.{id_of_unit, set_steps, unset_steps, set_refusal, unset_refusal};
 ghost use Rattle.yd_making.specs.Steps.{IsCause};
 ghost use Rattle.yd_making.specs.declared.fault.EditFault.TheVariants.{NoMemory as NoRoom};
 ghost use Rattle.yd_doc.specs.Editing.{own_basis, IsEdit};
@@ -39,6 +39,8 @@ pub fn map_set(
     ensures done { IfOk result (λ update. IsEdit replica.old replica.new
         (set_steps (own_document replica.old) parent.now key.now (content_value content))
         (update_value update)) }
+    ensures accepted { OnOk result (set_refusal (own_basis replica.old) parent.now key.now
+        (content_value content) ≡ None) }
     ensures refused { IfErr result (λ fault. IsCause fault
         (set_refusal (own_basis replica.old) parent.now key.now (content_value content))) }
     ensures unchanged { OnErr result (replica.new ≡ replica.old) }
@@ -70,6 +72,8 @@ pub fn map_remove(
 ) -> Result<Update, EditFault>
     ensures done { IfOk result (λ update. IsEdit replica.old replica.new
         (unset_steps (own_document replica.old) parent.now key.now) (update_value update)) }
+    ensures accepted { OnOk result
+        (unset_refusal (own_basis replica.old) parent.now key.now ≡ None) }
     ensures refused { IfErr result (λ fault. IsCause fault
         (unset_refusal (own_basis replica.old) parent.now key.now)) }
     ensures unchanged { OnErr result (replica.new ≡ replica.old) }
@@ -83,6 +87,20 @@ pub fn map_remove(
     match replica.remove(&ids) {
         Ok(update) => Ok(update),
         Err(fault) => Err(fault),
+    }
+}
+
+/// The id of the value of a key, by the key's list: the unit that stands last there, where it is live
+/// and no mark (Yjs 13, get of a map). It takes time with the number of lists, and a few look-ups by
+/// bisection.
+pub fn value_in(replica: &Replica, list: &List) -> Option<Id>
+    ensures unit { result ≡ id_of_unit (if_shown (own_document replica.now).deleted
+        (last_unit ((own_document replica.now).units list.now))) }
+    ensures in_range { IfSome result IsId }
+{
+    match shown_id(last_in(replica, list)) {
+        Some(id) => Some(id),
+        None => None,
     }
 }
 
