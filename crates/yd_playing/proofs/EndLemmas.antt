@@ -1,90 +1,112 @@
 -- Lines end one way: all are carried out, or one is the first that is refused.
-use Rattle.std.proofs.Common.{◌≡◌, ◌⊎◌, ℕ, List, [], ◌∷◌, ◌++◌, Option, Some, None, inl, inr, refl, sym, ap, ap₂, ◌∙◌, subst}
+use Rattle.std.proofs.Common.{◌≡◌, ◌⊎◌, ℕ, List, [], ◌∷◌, ◌++◌, Option, Some, None, Result, Ok, Err, inl, inr, refl, sym, ap, ap₂, ◌∙◌, subst}
 use Rattle.yd_ids.specs.declared.id.Client.{Client}
+use Rattle.yd_ops.specs.declared.lists.Parent.{Parent}
 use Rattle.yd_ops.specs.Value.{UpdateValue}
 use Rattle.yd_updates.specs.Received.{Received, received_after, received_more}
-use Rattle.yd_meaning.specs.Document.{Document, document_of}
+use Rattle.yd_meaning.specs.Document.{Document, IsDocumentOf, document_of}
+use Rattle.yd_editing.specs.Basis.{Basis}
 use Rattle.yd_editing.specs.Made.{update_of_edit}
 use Rattle.yd_editing.specs.Step.{Refusal}
 use Rattle.yd_making.specs.Steps.{fault_of}
-use Rattle.yd_making.specs.declared.fault.EditFault.{EditFault}
-use Rattle.yd_script.specs.Line.{Line}
+use Rattle.yd_script.specs.Line.{Change, Line}
 use Rattle.yd_script.specs.Lines.{Numbered}
 use Rattle.yd_script.specs.Reading.{line_in}
-use Rattle.yd_playing.specs.Asked.{line_steps, line_refusal}
+use Rattle.yd_playing.specs.Asked.{change_steps, change_refusal}
 use Rattle.yd_playing.specs.Law.{LinesEndOneWay}
+use Rattle.yd_playing.specs.Led.{led}
 use Rattle.yd_playing.specs.Played.{basis_over, IsCarriedOut, ArePlayed}
 use Rattle.yd_playing.specs.Stopped.{IsRefused, StopsAt}
 use Rattle.yd_playing.specs.declared.fault.LineCause.{LineCause}
-use Rattle.yd_playing.specs.declared.fault.LineCause.TheVariants.{BadLine, Edit}
+use Rattle.yd_playing.specs.declared.fault.LineCause.TheVariants.{BadLine, NoTarget, Edit}
 
 -- ---- one line
 
--- a text is one line, and what is received has one document
-line_one : (text : List ℕ) (line other : Line) → line_in text ≡ Some line → line_in text ≡ Some other → line ≡ other
-line_one text line other a b = same line other (sym a ∙ b)
-  where
-    same : (l m : Line) → Some l ≡ Some m → l ≡ m
-    same l m e = cc
+module _ (client : Client) (r : Received) where
+  -- what a client's edits read over a document of what is received
+  abbrev over : Document → Basis
+  over document = basis_over client document r
 
-module _ (client : Client) (r : Received) (text : List ℕ) where
-  carried_one : (u v : UpdateValue) → IsCarriedOut client r text u → IsCarriedOut client r text v → u ≡ v
-  carried_one u v a b = a.made
-      ∙ ap₂ (λ (d : Document) (l : Line). update_of_edit (basis_over client d r) (line_steps d l)) (a.is_document ∙ sym b.is_document) (line_one text a.line b.line a.is_line b.is_line)
-      ∙ sym b.made
+  -- how a change ends at a parent, by its refusal
+  abbrev edit_ends : Document → Parent → Change → Option Refusal → Result UpdateValue LineCause
+  edit_ends document parent change None = Ok (update_of_edit (over document) (change_steps document parent change))
+  edit_ends document parent change (Some refusal) = Err (Edit (fault_of refusal))
 
-  -- what is refused of a line is one thing
-  refusal_same : (line other : Line) (document another : Document) (first second : Option Refusal) → line ≡ other → document ≡ another →
-      line_refusal (basis_over client document r) line ≡ first → line_refusal (basis_over client another r) other ≡ second → first ≡ second
-  refusal_same line other document another first second e f a b =
-      sym a ∙ ap₂ (λ (d : Document) (l : Line). line_refusal (basis_over client d r) l) f e ∙ b
+  -- how it ends where its target leads
+  abbrev change_ends : Document → Change → Result Parent ℕ → Result UpdateValue LineCause
+  change_ends document change (Err step) = Err (NoTarget step)
+  change_ends document change (Ok parent) = edit_ends document parent change (change_refusal (over document) parent change)
 
-  carried_apart : (u : UpdateValue) (cause : LineCause) → IsCarriedOut client r text u → IsRefused client r text cause → ⊥
-  carried_apart u BadLine a b = none a.line (sym a.is_line ∙ b)
-    where
-      none : (l : Line) → ◌≡◌ {A = Option Line} (Some l) None → ⊥
-      none l e = cc
-  carried_apart u (Edit fault) a b = none b.refusal (refusal_same a.line b.line a.document b.document None (Some b.refusal) (line_one text a.line b.line a.is_line b.is_line)
-      (a.is_document ∙ sym b.is_document) a.accepted b.refused)
-    where
-      none : (refusal : Refusal) → ◌≡◌ {A = Option Refusal} None (Some refusal) → ⊥
-      none refusal e = cc
+  -- how a text ends that is a line, or none
+  abbrev text_ends : Document → Option Line → Result UpdateValue LineCause
+  text_ends document None = Err BadLine
+  text_ends document (Some line) = change_ends document line.change (led (over document) line.target)
 
-  refused_one : (cause because : LineCause) → IsRefused client r text cause → IsRefused client r text because → cause ≡ because
-  refused_one BadLine BadLine a b = refl
-  refused_one BadLine (Edit fault) a b = absurd (none b.line (sym a ∙ b.is_line))
+  -- how a text ends
+  abbrev ends : List ℕ → Result UpdateValue LineCause
+  ends text = text_ends (document_of r) (line_in text)
+
+  -- over a document of what is received
+  ends_over : (text : List ℕ) (document : Document) → IsDocumentOf document r → ends text ≡ text_ends document (line_in text)
+  ends_over text document is = ap (λ (d : Document). text_ends d (line_in text)) (sym is)
+
+  carried_ends : (text : List ℕ) (u : UpdateValue) → IsCarriedOut client r text u → ends text ≡ Ok u
+  carried_ends text u a =
+      ends_over text a.document a.is_document ∙ ap (text_ends a.document) a.is_line ∙ ap (change_ends a.document a.line.change) a.leads
+      ∙ ap (edit_ends a.document a.parent a.line.change) a.accepted ∙ ap Ok (sym a.made)
+
+  refused_ends : (text : List ℕ) (cause : LineCause) → IsRefused client r text cause → ends text ≡ Err cause
+  refused_ends text BadLine a = ap (text_ends (document_of r)) a
+  refused_ends text (NoTarget step) a = ends_over text a.document a.is_document ∙ ap (text_ends a.document) a.is_line ∙ ap (change_ends a.document a.line.change) a.misled
+  refused_ends text (Edit fault) a =
+      ends_over text a.document a.is_document ∙ ap (text_ends a.document) a.is_line ∙ ap (change_ends a.document a.line.change) a.leads
+      ∙ ap (edit_ends a.document a.parent a.line.change) a.refused ∙ ap (λ f. Err (Edit f)) (sym a.fault_is)
+
+  carried_one : (text : List ℕ) (u v : UpdateValue) → IsCarriedOut client r text u → IsCarriedOut client r text v → u ≡ v
+  carried_one text u v a b = same (sym (carried_ends text u a) ∙ carried_ends text v b)
     where
-      none : (l : Line) → ◌≡◌ {A = Option Line} None (Some l) → ⊥
-      none l e = cc
-  refused_one (Edit fault) BadLine a b = absurd (none a.line (sym b ∙ a.is_line))
+      same : ◌≡◌ {A = Result UpdateValue LineCause} (Ok u) (Ok v) → u ≡ v
+      same e = cc
+
+  carried_apart : (text : List ℕ) (u : UpdateValue) (cause : LineCause) → IsCarriedOut client r text u → IsRefused client r text cause → ⊥
+  carried_apart text u cause a b = none (sym (carried_ends text u a) ∙ refused_ends text cause b)
     where
-      none : (l : Line) → ◌≡◌ {A = Option Line} None (Some l) → ⊥
-      none l e = cc
-  refused_one (Edit fault) (Edit other) a b = ap (λ (f : EditFault). Edit f) (a.fault_is ∙ ap fault_of (same a.refusal b.refusal
-      (refusal_same a.line b.line a.document b.document (Some a.refusal) (Some b.refusal) (line_one text a.line b.line a.is_line b.is_line)
-      (a.is_document ∙ sym b.is_document) a.refused b.refused)) ∙ sym b.fault_is)
+      none : ◌≡◌ {A = Result UpdateValue LineCause} (Ok u) (Err cause) → ⊥
+      none e = cc
+
+  refused_one : (text : List ℕ) (cause because : LineCause) → IsRefused client r text cause → IsRefused client r text because → cause ≡ because
+  refused_one text cause because a b = same (sym (refused_ends text cause a) ∙ refused_ends text because b)
     where
-      same : (x y : Refusal) → Some x ≡ Some y → x ≡ y
-      same x y e = cc
+      same : ◌≡◌ {A = Result UpdateValue LineCause} (Err cause) (Err because) → cause ≡ because
+      same e = cc
 
   -- a line is carried out or refused
-  line_ends : ((u : UpdateValue) × IsCarriedOut client r text u) ⊎ ((cause : LineCause) × IsRefused client r text cause)
-  line_ends = by_line (line_in text) refl
+  line_ends : (text : List ℕ) → ((u : UpdateValue) × IsCarriedOut client r text u) ⊎ ((cause : LineCause) × IsRefused client r text cause)
+  line_ends text = by_line (line_in text) refl
     where
-      by_refusal : (line : Line) → line_in text ≡ Some line → (found : Option Refusal) → line_refusal (basis_over client (document_of r) r) line ≡ found →
+      document : Document
+      document = document_of r
+
+      by_refusal : (line : Line) (parent : Parent) → line_in text ≡ Some line → led (over document) line.target ≡ Ok parent →
+          (found : Option Refusal) → change_refusal (over document) parent line.change ≡ found →
           ((u : UpdateValue) × IsCarriedOut client r text u) ⊎ ((cause : LineCause) × IsRefused client r text cause)
-      by_refusal line is None e = inl (
-        update_of_edit (basis_over client (document_of r) r) (line_steps (document_of r) line),
-        record { line = line; document = document_of r; is_line = is; is_document = refl; accepted = e; made = refl },
+      by_refusal line parent is to None e = inl (
+        update_of_edit (over document) (change_steps document parent line.change),
+        record { line = line; document = document; parent = parent; is_line = is; is_document = refl; leads = to; accepted = e; made = refl },
       )
-      by_refusal line is (Some refusal) e = inr (
+      by_refusal line parent is to (Some refusal) e = inr (
         Edit (fault_of refusal),
-        record { line = line; document = document_of r; refusal = refusal; is_line = is; is_document = refl; refused = e; fault_is = refl },
+        record { line = line; document = document; parent = parent; refusal = refusal; is_line = is; is_document = refl; leads = to; refused = e; fault_is = refl },
       )
+
+      by_target : (line : Line) → line_in text ≡ Some line → (found : Result Parent ℕ) → led (over document) line.target ≡ found →
+          ((u : UpdateValue) × IsCarriedOut client r text u) ⊎ ((cause : LineCause) × IsRefused client r text cause)
+      by_target line is (Ok parent) e = by_refusal line parent is e (change_refusal (over document) parent line.change) refl
+      by_target line is (Err step) e = inr (NoTarget step, record { line = line; document = document; is_line = is; is_document = refl; misled = e })
 
       by_line : (found : Option Line) → line_in text ≡ found → ((u : UpdateValue) × IsCarriedOut client r text u) ⊎ ((cause : LineCause) × IsRefused client r text cause)
       by_line None e = inr (BadLine, e)
-      by_line (Some line) e = by_refusal line e (line_refusal (basis_over client (document_of r) r) line) refl
+      by_line (Some line) e = by_target line e (led (over document) line.target) refl
 
 -- ---- lines
 

@@ -2,23 +2,23 @@
 use Rattle.std.proofs.Common.{◌≡◌, ◌⊎◌, ℕ, List, [], ◌∷◌, ◌++◌, Option, Some, None, Result, Ok, Err, OnErr, inl, inr, refl, sym, ap, ◌∙◌, subst, append_assoc}
 use Rattle.std.proofs.lemmas.List.{append-nil}
 use Rattle.yd_ids.specs.declared.id.Client.{Client}
+use Rattle.yd_ops.specs.declared.lists.Parent.{Parent}
 use Rattle.yd_ops.specs.Value.{UpdateValue}
 use Rattle.yd_updates.specs.Received.{Received, received_after, received_more}
 use Rattle.yd_meaning.specs.Document.{Document, IsDocumentOf}
+use Rattle.yd_editing.specs.Made.{update_of_edit}
 use Rattle.yd_editing.specs.Step.{Refusal, no_place, not_held, clock_full, inside_pair, own_waiting, past_end, no_key}
 use Rattle.yd_making.specs.Steps.{fault_of, IsCause}
 use Rattle.yd_making.specs.declared.fault.EditFault.{EditFault}
 use Rattle.yd_making.specs.declared.fault.EditFault.TheVariants as edits
-use Rattle.yd_script.specs.Line.{Line, line_of}
-use Rattle.yd_script.specs.declared.line.Line.{Line as LineSeen}
-use Rattle.yd_script.specs.declared.fault.LineFault.{LineFault}
-use Rattle.yd_script.specs.declared.fault.LineFault.TheVariants as faults
+use Rattle.yd_script.specs.Line.{Line}
 use Rattle.yd_script.specs.Lines.{Numbered}
-use Rattle.yd_script.specs.Reading.{line_in, Reads}
-use Rattle.yd_playing.specs.Asked.{line_refusal}
+use Rattle.yd_script.specs.Reading.{line_in}
+use Rattle.yd_playing.specs.Asked.{change_refusal, change_steps}
+use Rattle.yd_playing.specs.Led.{led}
 use Rattle.yd_playing.specs.Played.{basis_over, IsCarriedOut, ArePlayed, SoFar}
 use Rattle.yd_playing.specs.Stopped.{IsRefusedEdit, IsRefused, StopsFor, IsRefusedFor, IsUnread, refused_by}
-use Rattle.yd_playing.specs.declared.fault.LineCause.TheVariants.{BadLine, Edit}
+use Rattle.yd_playing.specs.declared.fault.LineCause.TheVariants.{BadLine, NoTarget, Edit}
 use Rattle.yd_playing.specs.declared.fault.PlayFault.{PlayFault}
 use Rattle.yd_playing.specs.declared.fault.PlayFault.TheVariants.{NoMemory, Refused}
 
@@ -74,39 +74,44 @@ stops_here client r now lines behind left line us (Refused number cause) so_far 
 
 -- ---- lemmas for callers: one line
 
--- what is read of a line
-pub read_as : (text : List ℕ) (seen : LineSeen) → (◌≡◌ {A = Result LineSeen LineFault} (Ok seen) (Err faults.NoMemory)) ⊎ Reads (line_in text) (Ok seen) → line_in text ≡ Some (line_of seen)
-read_as text seen (inl e) = absurd cc
-read_as text seen (inr reads) = go (line_in text) reads
-  where
-    go : (found : Option Line) → Reads found (Ok seen) → found ≡ Some (line_of seen)
-    go (Some line) e = ap (λ (l : Line). Some l) (sym e)
-    go None e = absurd cc
-
-pub read_as_none : (text : List ℕ) (fault : LineFault) → fault ≡ faults.BadLine →
-    (◌≡◌ {A = Result LineSeen LineFault} (Err fault) (Err faults.NoMemory)) ⊎ Reads (line_in text) (Err fault) → line_in text ≡ None
-read_as_none text fault bad h = by_both (subst (λ f. (◌≡◌ {A = Result LineSeen LineFault} (Err f) (Err faults.NoMemory)) ⊎ Reads (line_in text) (Err f)) bad h)
-  where
-    go : (found : Option Line) → Reads found (Err faults.BadLine) → found ≡ None
-    go (Some line) e = absurd cc
-    go None e = refl
-
-    by_both : (◌≡◌ {A = Result LineSeen LineFault} (Err faults.BadLine) (Err faults.NoMemory)) ⊎ Reads (line_in text) (Err faults.BadLine) → line_in text ≡ None
-    by_both (inl e) = absurd cc
-    by_both (inr reads) = go (line_in text) reads
-
 -- a line that is none is refused
 pub unread_refused : (client : Client) (r : Received) (line : Numbered) (fault : PlayFault) → IsUnread line fault → IsRefusedFor client r line fault
 unread_refused client r line NoMemory is = tt
 unread_refused client r line (Refused number BadLine) is = is
+unread_refused client r line (Refused number (NoTarget step)) is = absurd is
 unread_refused client r line (Refused number (Edit fault)) is = absurd is
 
-module _ (client : Client) (r : Received) (text : Numbered) (line : Line) (document : Document) (is_line : line_in text.text ≡ Some line) (is_document : IsDocumentOf document r) where
-  because : (refusal : Refusal) → line_refusal (basis_over client document r) line ≡ Some refusal → IsRefusedEdit client r text.text (fault_of refusal)
-  because refusal refused = record { line = line; document = document; refusal = refusal; is_line = is_line; is_document = is_document; refused = refused; fault_is = refl }
+module _ (client : Client) (r : Received) (text : Numbered) (line : Line) (document : Document) (parent : Parent)
+    (is_line : line_in text.text ≡ Some line) (is_document : IsDocumentOf document r) (leads : Ok parent ≡ led (basis_over client document r) line.target) where
+  -- an edit that is carried out
+  pub edit_done : (update : UpdateValue) → change_refusal (basis_over client document r) parent line.change ≡ None →
+      update ≡ update_of_edit (basis_over client document r) (change_steps document parent line.change) → IsCarriedOut client r text.text update
+  edit_done update accepted made = record {
+    line = line;
+    document = document;
+    parent = parent;
+    is_line = is_line;
+    is_document = is_document;
+    leads = sym leads;
+    accepted = accepted;
+    made = made;
+  }
+
+  because : (refusal : Refusal) → change_refusal (basis_over client document r) parent line.change ≡ Some refusal → IsRefusedEdit client r text.text (fault_of refusal)
+  because refusal refused = record {
+    line = line;
+    document = document;
+    parent = parent;
+    refusal = refusal;
+    is_line = is_line;
+    is_document = is_document;
+    leads = sym leads;
+    refused = refused;
+    fault_is = refl;
+  }
 
   -- an edit that is refused says so
-  pub edit_refused : (fault : EditFault) → IsCause fault (line_refusal (basis_over client document r) line) → IsRefusedFor client r text (refused_by text.number fault)
+  pub edit_refused : (fault : EditFault) → IsCause fault (change_refusal (basis_over client document r) parent line.change) → IsRefusedFor client r text (refused_by text.number fault)
   edit_refused edits.NoMemory is = tt
   edit_refused (edits.NoPlace id) is = (refl, because (no_place id) is)
   edit_refused (edits.NotHeld id) is = (refl, because (not_held id) is)

@@ -1,4 +1,5 @@
 pub mod Asked
 pub mod Law
+pub mod Led
 pub mod Played
 pub mod Stopped

@@ -1,6 +1,7 @@
 -- Lines of a script that are carried out one after another, each on what was received before it (own).
-use Rattle.std.specs.Prelude.{◌≡◌, ℕ, List, [], ◌∷◌, ◌++◌, Some, None}
+use Rattle.std.specs.Prelude.{◌≡◌, ℕ, List, [], ◌∷◌, ◌++◌, Some, None, Ok}
 use Rattle.yd_ids.specs.declared.id.Client.{Client}
+use Rattle.yd_ops.specs.declared.lists.Parent.{Parent}
 use Rattle.yd_ops.specs.Value.{UpdateValue}
 use Rattle.yd_updates.specs.Received.{Received, received_after, received_more}
 use Rattle.yd_meaning.specs.Document.{Document, IsDocumentOf}
@@ -9,7 +10,8 @@ use Rattle.yd_editing.specs.Made.{update_of_edit}
 use Rattle.yd_script.specs.Line.{Line}
 use Rattle.yd_script.specs.Lines.{Numbered}
 use Rattle.yd_script.specs.Reading.{line_in}
-use Rattle.yd_playing.specs.Asked.{line_steps, line_refusal}
+use Rattle.yd_playing.specs.Asked.{change_steps, change_refusal}
+use Rattle.yd_playing.specs.Led.{led}
 
 -- what an edit of a client reads of what is received, over a document
 abbrev pub basis_over : Client → Document → Received → Basis
@@ -21,14 +23,17 @@ basis_over client document r = record {
   waits = (basis_of client r).waits;
 }
 
--- a text asks for an edit that is not refused, and this is the update that it makes over a document of what is received
+-- a text is a line whose target leads to a parent over a document of what is received, its edit is not refused there, and this is the
+-- update that it makes
 pub record IsCarriedOut (client : Client) (r : Received) (text : List ℕ) (update : UpdateValue) : Type 0 where
   pub line : Line
   pub document : Document
+  pub parent : Parent
   pub is_line : line_in text ≡ Some line
   pub is_document : IsDocumentOf document r
-  pub accepted : line_refusal (basis_over client document r) line ≡ None
-  pub made : update ≡ update_of_edit (basis_over client document r) (line_steps document line)
+  pub leads : led (basis_over client document r) line.target ≡ Ok parent
+  pub accepted : change_refusal (basis_over client document r) parent line.change ≡ None
+  pub made : update ≡ update_of_edit (basis_over client document r) (change_steps document parent line.change)
 
 -- each line is carried out on what is received and on the updates of the lines before it, and these are their updates
 abbrev pub ArePlayed : Client → Received → List Numbered → List UpdateValue → Type 0

@@ -1,6 +1,7 @@
 -- The first line of a script that is refused, and why (own).
-use Rattle.std.specs.Prelude.{◌≡◌, ℕ, List, ◌∷◌, ◌++◌, Some, None}
+use Rattle.std.specs.Prelude.{◌≡◌, ℕ, List, ◌∷◌, ◌++◌, Some, None, Ok, Err}
 use Rattle.yd_ids.specs.declared.id.Client.{Client}
+use Rattle.yd_ops.specs.declared.lists.Parent.{Parent}
 use Rattle.yd_ops.specs.Value.{UpdateValue}
 use Rattle.yd_updates.specs.Received.{Received, received_more}
 use Rattle.yd_meaning.specs.Document.{Document, IsDocumentOf}
@@ -11,26 +12,39 @@ use Rattle.yd_making.specs.declared.fault.EditFault.TheVariants as edits
 use Rattle.yd_script.specs.Line.{Line}
 use Rattle.yd_script.specs.Lines.{Numbered}
 use Rattle.yd_script.specs.Reading.{line_in}
-use Rattle.yd_playing.specs.Asked.{line_refusal}
+use Rattle.yd_playing.specs.Asked.{change_refusal}
+use Rattle.yd_playing.specs.Led.{led}
 use Rattle.yd_playing.specs.Played.{basis_over, ArePlayed}
 use Rattle.yd_playing.specs.declared.fault.LineCause.{LineCause}
-use Rattle.yd_playing.specs.declared.fault.LineCause.TheVariants.{BadLine, Edit}
+use Rattle.yd_playing.specs.declared.fault.LineCause.TheVariants.{BadLine, NoTarget, Edit}
 use Rattle.yd_playing.specs.declared.fault.PlayFault.{PlayFault}
 use Rattle.yd_playing.specs.declared.fault.PlayFault.TheVariants.{NoMemory, Refused}
 
--- a text asks for an edit that is refused over a document of what is received, and this fault says why
+-- a text is a line of whose target this step, from 1, is the first that leads to no type over a document of what is received
+pub record IsMisled (client : Client) (r : Received) (text : List ℕ) (step : ℕ) : Type 0 where
+  pub line : Line
+  pub document : Document
+  pub is_line : line_in text ≡ Some line
+  pub is_document : IsDocumentOf document r
+  pub misled : led (basis_over client document r) line.target ≡ Err step
+
+-- a text is a line whose target leads to a parent over a document of what is received, its edit is refused there, and this fault says
+-- why
 pub record IsRefusedEdit (client : Client) (r : Received) (text : List ℕ) (fault : EditFault) : Type 0 where
   pub line : Line
   pub document : Document
+  pub parent : Parent
   pub refusal : Refusal
   pub is_line : line_in text ≡ Some line
   pub is_document : IsDocumentOf document r
-  pub refused : line_refusal (basis_over client document r) line ≡ Some refusal
+  pub leads : led (basis_over client document r) line.target ≡ Ok parent
+  pub refused : change_refusal (basis_over client document r) parent line.change ≡ Some refusal
   pub fault_is : fault ≡ fault_of refusal
 
--- a text is no line, or its edit is refused
+-- a text is no line, or its target leads nowhere, or its edit is refused
 abbrev pub IsRefused : Client → Received → List ℕ → LineCause → Type 0
 IsRefused client r text BadLine = line_in text ≡ None
+IsRefused client r text (NoTarget step) = IsMisled client r text step
 IsRefused client r text (Edit fault) = IsRefusedEdit client r text fault
 
 -- the line with this number is the first that is refused: all before it are carried out
@@ -58,6 +72,7 @@ IsRefusedFor client r line (Refused number cause) = (number ≡ line.number) × 
 abbrev pub IsUnread : Numbered → PlayFault → Type 0
 IsUnread line NoMemory = Unit {0}
 IsUnread line (Refused number BadLine) = (number ≡ line.number) × (line_in line.text ≡ None)
+IsUnread line (Refused number (NoTarget step)) = ⊥
 IsUnread line (Refused number (Edit fault)) = ⊥
 
 -- the fault of a line whose edit has this fault

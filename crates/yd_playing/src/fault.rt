@@ -10,6 +10,8 @@ use yd_making::EditFault;
 pub enum LineCause {
     /// The text is no line of a script.
     BadLine,
+    /// The step of its target with this number, from 1, leads to no live type.
+    NoTarget(u64),
     /// The line's edit is refused. It is never for want of memory.
     Edit(EditFault),
 }

@@ -12,6 +12,7 @@
 mod carrying;
 mod fault;
 pub mod law;
+mod leading;
 mod playing;
 
 pub use fault::{LineCause, PlayFault};

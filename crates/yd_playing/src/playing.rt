@@ -14,6 +14,7 @@ ghost use Rattle.yd_playing.specs.Stopped.{StopsFor, IsRefusedFor, IsUnread, ref
 
 use crate::carrying::carry_out;
 use crate::fault::{LineCause, PlayFault};
+use crate::leading::lead;
 use std::alloc::Global;
 use yd_doc::law::own_document_is_defined;
 use yd_doc::{EditFault, Replica};
@@ -22,8 +23,8 @@ use yd_script::{Line, LineFault, Lines, NumberedLine, read_line};
 use yd_v1::UpdateList;
 
 /// Carries out the lines of a script in their order, each as one edit of the replica, and answers the
-/// updates that they made. The first line that is no line or whose edit is refused ends it: its number
-/// and why are answered. The replica has then taken the updates of the lines before, and so it has
+/// updates that they made. The first line that is no line, or whose target leads to no live type, or
+/// whose edit is refused, ends it: its number and why are answered. The replica has then taken the updates of the lines before, and so it has
 /// where a growth found no memory. It takes the time of the edits.
 pub fn play(alloc: Global, replica: &mut Replica, script: &str) -> Result<UpdateList, PlayFault>
     ensures played { IfOk result (λ updates. ArePlayed replica.old.client
@@ -63,10 +64,16 @@ fn play_line(
     ensures client { replica.new.client ≡ replica.old.client }
 {
     own_document_is_defined(replica);
-    let asked = read(alloc, line)?;
-    match carry_out(alloc, replica, asked) {
-        Ok(update) => Ok(update),
-        Err(fault) => Err(refused(line.number, fault)),
+    let Line { target, change } = read(alloc, line)?;
+    match lead(replica, target) {
+        Ok(parent) => match carry_out(alloc, replica, parent, change) {
+            Ok(update) => Ok(update),
+            Err(fault) => Err(refused(line.number, fault)),
+        },
+        Err(step) => Err(PlayFault::Refused {
+            number: line.number,
+            cause: LineCause::NoTarget(step),
+        }),
     }
 }
 

@@ -1,2 +1,3 @@
 pub mod FileLemmas
+pub mod GivenLemmas
 pub mod LineLemmas

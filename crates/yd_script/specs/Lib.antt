@@ -1,4 +1,5 @@
 pub mod File
+pub mod Given
 pub mod Line
 pub mod Lines
 pub mod Reading

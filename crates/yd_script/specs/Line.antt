@@ -1,28 +1,78 @@
 -- What a line of a script asks for, without where its texts lie in memory (own).
 use Rattle.std.specs.Prelude.{ℕ, List, IsTrue}
-use Rattle.yd_any.specs.Tree.{AnyTree}
+use Rattle.yd_any.specs.Tree.{AnyTree, AnyTrees}
+use Rattle.yd_any.specs.AnyView.{any_tree, any_trees}
 use Rattle.yd_any.specs.JsonView.{json_tree}
-use Rattle.yd_any.specs.Valid.{is_valid_json}
+use Rattle.yd_any.specs.Valid.{is_valid_any, is_valid_json}
+use Rattle.yd_ops.specs.declared.kinds.Kind.{Kind}
+use Rattle.yd_ops.specs.Valid.{AreValidTrees}
+use Rattle.yd_script.specs.declared.line.Change.{Change as ChangeSeen}
+use Rattle.yd_script.specs.declared.line.Change.TheVariants.{Insert, Embed, Delete, Format, Push, Child, Set, SetType, Unset}
 use Rattle.yd_script.specs.declared.line.Line.{Line as LineSeen}
-use Rattle.yd_script.specs.declared.line.Line.TheVariants.{Insert, Embed, Delete, Format}
+use Rattle.yd_script.specs.declared.target.Target.{Target as TargetSeen}
+use Rattle.yd_script.specs.declared.target.TargetStep.{TargetStep}
 
--- an edit of a root's text: text or a value comes in at an index, so many units from an index on go, or get a value under a key
-pub data Line : Type 0 where
-  insert : List ℕ → ℕ → List ℕ → Line
-  embed : List ℕ → ℕ → AnyTree → Line
-  delete : List ℕ → ℕ → ℕ → Line
-  format : List ℕ → ℕ → ℕ → List ℕ → AnyTree → Line
+-- ---- targets
+
+-- a root's name, and the steps that lead on from it
+pub record Target : Type 0 where
+  pub root : List ℕ
+  pub steps : List TargetStep
+
+-- the target that the code has
+abbrev pub target_of : TargetSeen → Target
+target_of target = record { root = target.root; steps = target.steps.items }
+
+-- ---- changes
+
+-- text, a value, values or a type come in at an index; so many units from an index on go, or get a value under a key; a value or a
+-- type is set under a key, or nothing
+pub data Change : Type 0 where
+  insert : ℕ → List ℕ → Change
+  embed : ℕ → AnyTree → Change
+  delete : ℕ → ℕ → Change
+  format : ℕ → ℕ → List ℕ → AnyTree → Change
+  push : ℕ → AnyTrees → Change
+  child : ℕ → Kind → Change
+  set : List ℕ → AnyTree → Change
+  settype : List ℕ → Kind → Change
+  unset : List ℕ → Change
+
+-- the change that the code has
+abbrev pub change_of : ChangeSeen → Change
+change_of (Insert index text) = insert index text
+change_of (Embed index value) = embed index (json_tree value)
+change_of (Delete index len) = delete index len
+change_of (Format index len key value) = format index len key (json_tree value)
+change_of (Push index values) = push index (any_trees values)
+change_of (Child index kind) = child index kind
+change_of (Set key value) = set key (any_tree value)
+change_of (SetType key kind) = settype key kind
+change_of (Unset key) = unset key
+
+-- its values are ones that an update carries there
+abbrev pub IsValidChange : Change → Type 0
+IsValidChange (insert index text) = Unit {0}
+IsValidChange (embed index value) = IsTrue (is_valid_json value)
+IsValidChange (delete index len) = Unit {0}
+IsValidChange (format index len key value) = IsTrue (is_valid_json value)
+IsValidChange (push index values) = AreValidTrees values
+IsValidChange (child index kind) = Unit {0}
+IsValidChange (set key value) = IsTrue (is_valid_any value)
+IsValidChange (settype key kind) = Unit {0}
+IsValidChange (unset key) = Unit {0}
+
+-- ---- lines
+
+-- where a change is made, and which
+pub record Line : Type 0 where
+  pub target : Target
+  pub change : Change
 
 -- the line that the code has
 abbrev pub line_of : LineSeen → Line
-line_of (Insert root index text) = insert root index text
-line_of (Embed root index value) = embed root index (json_tree value)
-line_of (Delete root index len) = delete root index len
-line_of (Format root index len key value) = format root index len key (json_tree value)
+line_of line = record { target = target_of line.target; change = change_of line.change }
 
--- its value is a JSON value
+-- its change has values that an update carries
 abbrev pub IsValidLine : Line → Type 0
-IsValidLine (insert root index text) = Unit {0}
-IsValidLine (embed root index value) = IsTrue (is_valid_json value)
-IsValidLine (delete root index len) = Unit {0}
-IsValidLine (format root index len key value) = IsTrue (is_valid_json value)
+IsValidLine line = IsValidChange line.change

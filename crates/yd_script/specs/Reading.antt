@@ -1,99 +1,134 @@
--- Which line a text is: a JSON array of a word and what goes with it (own; JSON as `serde_json` reads it).
-use Rattle.std.specs.Prelude.{◌≡◌, ℕ, ◌^◌, ◌-◌, List, [], ◌∷◌, nat_le, if◌then◌else◌, Option, Some, None, option_and_then, Result, MatchResult, codes}
-use Rattle.std.proofs.Common.{Ok, Err}
+-- Which line a text is: a JSON array of a word, a target and what goes with the word (own; JSON as `serde_json` reads it).
+use Rattle.std.specs.Prelude.{ℕ, List, [], ◌∷◌, if◌then◌else◌, Option, Some, None, option_and_then, codes}
 use Rattle.std.specs.Str.{bytes_eq}
-use Rattle.serde_json.specs.Data.{Data, Items, no_items, item}
-use Rattle.serde_json.specs.Find.{as_array, as_number, as_str, as_u64}
+use Rattle.serde_json.specs.Data.{Data}
+use Rattle.serde_json.specs.Find.{as_array, as_str}
 use Rattle.serde_json.specs.Read.{read as read_text}
-use Rattle.yd_any.specs.Tree.{AnyTree}
-use Rattle.yd_any.specs.DataTree.{data_tree}
-use Rattle.yd_any.specs.Outcome.{judged}
-use Rattle.yd_any.specs.declared.fault.JsonFault.{JsonFault}
-use Rattle.yd_script.specs.Line.{Line, insert, embed, delete, format, line_of}
-use Rattle.yd_script.specs.declared.line.Line.{Line as LineSeen}
-use Rattle.yd_script.specs.declared.fault.LineFault.{LineFault}
-use Rattle.yd_script.specs.declared.fault.LineFault.TheVariants.{NoMemory, BadLine}
-
--- the greatest index or length
-abbrev pub most_units : ℕ
-most_units = 2 ^ 53 - 1
-
--- ---- what stands in an array
-
--- an index or a length: a whole number of that range
-abbrev pub number_in : Data → Option ℕ
-number_in d = option_and_then (λ n. if nat_le n most_units then Some n else None) (option_and_then as_u64 (as_number d))
-
--- the tree, where there is one
-abbrev pub tree_in : Result AnyTree JsonFault → Option AnyTree
-tree_in (Ok t) = Some t
-tree_in (Err fault) = None
-
--- a value that JSON values carry
-abbrev pub value_in : Data → Option AnyTree
-value_in d = tree_in (judged (data_tree d))
-
--- the elements of an array
-abbrev pub elements_of : Items → List Data
-elements_of no_items = []
-elements_of (item d ds) = d ∷ elements_of ds
+use Rattle.yd_any.specs.Tree.{AnyTree, AnyTrees}
+use Rattle.yd_ops.specs.declared.kinds.Kind.{Kind}
+use Rattle.yd_script.specs.Given.{elements_of, number_in, value_in, values_in, kind_in, target_in}
+use Rattle.yd_script.specs.Line.{Target, Change, insert, embed, delete, format, push, child, set, settype, unset, Line}
 
 -- ---- what goes with each word
 
--- an insertion of what stands behind its word
-abbrev pub insert_of : Option (List ℕ) → Option ℕ → Option (List ℕ) → Option Line
-insert_of (Some root) (Some index) (Some text) = Some (insert root index text)
-insert_of _ _ _ = None
+-- an insertion of what stands behind its target
+abbrev pub insert_of : Option ℕ → Option (List ℕ) → Option Change
+insert_of (Some index) (Some text) = Some (insert index text)
+insert_of _ _ = None
 
--- `ROOT, INDEX, TEXT`
-abbrev pub insert_in : List Data → Option Line
-insert_in (root ∷ index ∷ text ∷ []) = insert_of (as_str root) (number_in index) (as_str text)
+-- `INDEX, TEXT`
+abbrev pub insert_in : List Data → Option Change
+insert_in (index ∷ text ∷ []) = insert_of (number_in index) (as_str text)
 insert_in _ = None
 
 -- an embed
-abbrev pub embed_of : Option (List ℕ) → Option ℕ → Option AnyTree → Option Line
-embed_of (Some root) (Some index) (Some value) = Some (embed root index value)
-embed_of _ _ _ = None
+abbrev pub embed_of : Option ℕ → Option AnyTree → Option Change
+embed_of (Some index) (Some value) = Some (embed index value)
+embed_of _ _ = None
 
--- `ROOT, INDEX, VALUE`
-abbrev pub embed_in : List Data → Option Line
-embed_in (root ∷ index ∷ value ∷ []) = embed_of (as_str root) (number_in index) (value_in value)
+-- `INDEX, VALUE`
+abbrev pub embed_in : List Data → Option Change
+embed_in (index ∷ value ∷ []) = embed_of (number_in index) (value_in value)
 embed_in _ = None
 
 -- a deletion
-abbrev pub delete_of : Option (List ℕ) → Option ℕ → Option ℕ → Option Line
-delete_of (Some root) (Some index) (Some len) = Some (delete root index len)
-delete_of _ _ _ = None
+abbrev pub delete_of : Option ℕ → Option ℕ → Option Change
+delete_of (Some index) (Some len) = Some (delete index len)
+delete_of _ _ = None
 
--- `ROOT, INDEX, LEN`
-abbrev pub delete_in : List Data → Option Line
-delete_in (root ∷ index ∷ len ∷ []) = delete_of (as_str root) (number_in index) (number_in len)
+-- `INDEX, LEN`
+abbrev pub delete_in : List Data → Option Change
+delete_in (index ∷ len ∷ []) = delete_of (number_in index) (number_in len)
 delete_in _ = None
 
 -- a format
-abbrev pub format_of : Option (List ℕ) → Option ℕ → Option ℕ → Option (List ℕ) → Option AnyTree → Option Line
-format_of (Some root) (Some index) (Some len) (Some key) (Some value) = Some (format root index len key value)
-format_of _ _ _ _ _ = None
+abbrev pub format_of : Option ℕ → Option ℕ → Option (List ℕ) → Option AnyTree → Option Change
+format_of (Some index) (Some len) (Some key) (Some value) = Some (format index len key value)
+format_of _ _ _ _ = None
 
--- `ROOT, INDEX, LEN, KEY, VALUE`
-abbrev pub format_in : List Data → Option Line
-format_in (root ∷ index ∷ len ∷ key ∷ value ∷ []) = format_of (as_str root) (number_in index) (number_in len) (as_str key) (value_in value)
+-- `INDEX, LEN, KEY, VALUE`
+abbrev pub format_in : List Data → Option Change
+format_in (index ∷ len ∷ key ∷ value ∷ []) = format_of (number_in index) (number_in len) (as_str key) (value_in value)
 format_in _ = None
+
+-- values for a list
+abbrev pub push_of : Option ℕ → Option AnyTrees → Option Change
+push_of (Some index) (Some values) = Some (push index values)
+push_of _ _ = None
+
+-- `INDEX, [VALUE,..]`
+abbrev pub push_in : List Data → Option Change
+push_in (index ∷ values ∷ []) = push_of (number_in index) (values_in values)
+push_in _ = None
+
+-- a type for a list
+abbrev pub child_of : Option ℕ → Option Kind → Option Change
+child_of (Some index) (Some kind) = Some (child index kind)
+child_of _ _ = None
+
+-- `INDEX, KIND`
+abbrev pub child_in : List Data → Option Change
+child_in (index ∷ kind ∷ []) = child_of (number_in index) (kind_in kind)
+child_in _ = None
+
+-- a value for a key
+abbrev pub set_of : Option (List ℕ) → Option AnyTree → Option Change
+set_of (Some key) (Some value) = Some (set key value)
+set_of _ _ = None
+
+-- `KEY, VALUE`
+abbrev pub set_in : List Data → Option Change
+set_in (key ∷ value ∷ []) = set_of (as_str key) (value_in value)
+set_in _ = None
+
+-- a type for a key
+abbrev pub settype_of : Option (List ℕ) → Option Kind → Option Change
+settype_of (Some key) (Some kind) = Some (settype key kind)
+settype_of _ _ = None
+
+-- `KEY, KIND`
+abbrev pub settype_in : List Data → Option Change
+settype_in (key ∷ kind ∷ []) = settype_of (as_str key) (kind_in kind)
+settype_in _ = None
+
+-- a key that gives up its value
+abbrev pub unset_of : Option (List ℕ) → Option Change
+unset_of (Some key) = Some (unset key)
+unset_of None = None
+
+-- `KEY`
+abbrev pub unset_in : List Data → Option Change
+unset_in (key ∷ []) = unset_of (as_str key)
+unset_in _ = None
 
 -- ---- the line
 
--- the word, and what goes with it
-abbrev pub call_in : List ℕ → List Data → Option Line
-call_in word rest =
+-- a change of a text, by its word and what goes with it
+abbrev pub text_change_in : List ℕ → List Data → Option Change
+text_change_in word rest =
     if bytes_eq word (codes "insert") then insert_in rest
     else (if bytes_eq word (codes "embed") then embed_in rest
     else (if bytes_eq word (codes "delete") then delete_in rest
     else (if bytes_eq word (codes "format") then format_in rest else None)))
 
--- the word stands first
+-- a change of any parent
+abbrev pub change_in : List ℕ → List Data → Option Change
+change_in word rest =
+    if bytes_eq word (codes "push") then push_in rest
+    else (if bytes_eq word (codes "child") then child_in rest
+    else (if bytes_eq word (codes "set") then set_in rest
+    else (if bytes_eq word (codes "settype") then settype_in rest
+    else (if bytes_eq word (codes "unset") then unset_in rest else text_change_in word rest))))
+
+-- a change with its target, where both are there
+abbrev pub line_with : Option Change → Option Target → Option Line
+line_with (Some change) (Some target) = Some (record { target = target; change = change })
+line_with _ _ = None
+
+-- the word stands first, and the target behind it
 abbrev pub line_in_list : List Data → Option Line
-line_in_list [] = None
-line_in_list (word ∷ rest) = option_and_then (λ w. call_in w rest) (as_str word)
+line_in_list (word ∷ target ∷ rest) = line_with (option_and_then (λ w. change_in w rest) (as_str word)) (target_in target)
+line_in_list _ = None
 
 -- the line that a JSON value is
 abbrev pub line_in_data : Data → Option Line
@@ -102,8 +137,3 @@ line_in_data d = option_and_then (λ items. line_in_list (elements_of items)) (a
 -- the line that a text is
 abbrev pub line_in : List ℕ → Option Line
 line_in text = option_and_then line_in_data (read_text text)
-
--- what is answered: the line, unless a growth found no memory; and that there is none, just where there is none
-abbrev pub Reads : Option Line → Result LineSeen LineFault → Type 0
-Reads (Some line) result = MatchResult result (λ seen. line_of seen ≡ line) (λ fault. fault ≡ NoMemory)
-Reads None result = result ≡ Err BadLine

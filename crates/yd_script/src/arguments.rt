@@ -1,33 +1,29 @@
-//! What goes with the word of a line.
+//! What goes with the word of a line, behind its target.
 
-ghost use Rattle.std.specs.Prelude.{◌≡◌, Err, IfOk, IsTrue, MatchOption, MatchResult, map};
+ghost use Rattle.std.specs.Prelude.{◌≡◌, IfOk, map};
 ghost use Rattle.serde_json.specs.View.{view};
-ghost use Rattle.yd_any.specs.JsonView.{json_tree};
-ghost use Rattle.yd_any.specs.Valid.{is_valid_json};
-ghost use Rattle.yd_script.specs.Line.{IsValidLine, line_of};
-ghost use Rattle.yd_script.specs.Reading.{Reads, delete_in, embed_in, format_in, insert_in, number_in, value_in};
-ghost use Rattle.yd_script.specs.declared.fault.LineFault.TheVariants.{NoMemory, BadLine};
+ghost use Rattle.yd_script.specs.Given.{Answers};
+ghost use Rattle.yd_script.specs.Line.{IsValidChange, change_of};
+ghost use Rattle.yd_script.specs.Reading.{child_in, delete_in, embed_in, format_in, insert_in, push_in, set_in, settype_in, unset_in};
 
 use crate::fault::LineFault;
-use crate::line::Line;
+use crate::given::{any_of, json_of, number_of, values_of};
+use crate::kinds::kind_of;
+use crate::line::Change;
 use serde_json::Value;
 use std::alloc::Global;
-use yd_any::{Json, JsonFault, Text, json_of_value};
+use yd_any::Text;
 
-/// The greatest index or length.
-const MOST_UNITS: u64 = (1 << 53) - 1;
-
-/// `ROOT, INDEX, TEXT`
-pub fn insert_of(alloc: Global, rest: &[Value]) -> Result<Line, LineFault>
-    ensures line { Reads (insert_in (map view rest.now)) result }
-    ensures valid { IfOk result (λ line. IsValidLine (line_of line)) }
+/// `INDEX, TEXT`
+pub fn insert_of(alloc: Global, rest: &[Value]) -> Result<Change, LineFault>
+    ensures change { Answers change_of (insert_in (map view rest.now)) result }
+    ensures valid { IfOk result (λ change. IsValidChange (change_of change)) }
 {
     match rest {
-        [root, index, text] => match (root.as_str(), number_of(index), text.as_str()) {
-            (Some(root), Some(index), Some(text)) => {
-                let root = Text::copy_of(alloc, root)?;
+        [index, text] => match (number_of(index), text.as_str()) {
+            (Some(index), Some(text)) => {
                 let text = Text::copy_of(alloc, text)?;
-                Ok(Line::Insert { root, index, text })
+                Ok(Change::Insert { index, text })
             }
             _ => Err(LineFault::BadLine),
         },
@@ -35,17 +31,53 @@ pub fn insert_of(alloc: Global, rest: &[Value]) -> Result<Line, LineFault>
     }
 }
 
-/// `ROOT, INDEX, VALUE`
-pub fn embed_of(alloc: Global, rest: &[Value]) -> Result<Line, LineFault>
-    ensures line { Reads (embed_in (map view rest.now)) result }
-    ensures valid { IfOk result (λ line. IsValidLine (line_of line)) }
+/// `INDEX, VALUE`
+pub fn embed_of(alloc: Global, rest: &[Value]) -> Result<Change, LineFault>
+    ensures change { Answers change_of (embed_in (map view rest.now)) result }
+    ensures valid { IfOk result (λ change. IsValidChange (change_of change)) }
 {
     match rest {
-        [root, index, value] => match (root.as_str(), number_of(index)) {
-            (Some(root), Some(index)) => {
-                let value = value_of(alloc, value)?;
-                let root = Text::copy_of(alloc, root)?;
-                Ok(Line::Embed { root, index, value })
+        [index, value] => match number_of(index) {
+            Some(index) => {
+                let value = json_of(alloc, value)?;
+                Ok(Change::Embed { index, value })
+            }
+            None => Err(LineFault::BadLine),
+        },
+        _ => Err(LineFault::BadLine),
+    }
+}
+
+/// `INDEX, LEN`
+pub fn delete_of(rest: &[Value]) -> Result<Change, LineFault>
+    ensures change { Answers change_of (delete_in (map view rest.now)) result }
+    ensures valid { IfOk result (λ change. IsValidChange (change_of change)) }
+{
+    match rest {
+        [index, len] => match (number_of(index), number_of(len)) {
+            (Some(index), Some(len)) => { Ok(Change::Delete { index, len }) }
+            _ => Err(LineFault::BadLine),
+        },
+        _ => Err(LineFault::BadLine),
+    }
+}
+
+/// `INDEX, LEN, KEY, VALUE`
+pub fn format_of(alloc: Global, rest: &[Value]) -> Result<Change, LineFault>
+    ensures change { Answers change_of (format_in (map view rest.now)) result }
+    ensures valid { IfOk result (λ change. IsValidChange (change_of change)) }
+{
+    match rest {
+        [index, len, key, value] => match (number_of(index), number_of(len), key.as_str()) {
+            (Some(index), Some(len), Some(key)) => {
+                let value = json_of(alloc, value)?;
+                let key = Text::copy_of(alloc, key)?;
+                Ok(Change::Format {
+                    index,
+                    len,
+                    key,
+                    value,
+                })
             }
             _ => Err(LineFault::BadLine),
         },
@@ -53,75 +85,89 @@ pub fn embed_of(alloc: Global, rest: &[Value]) -> Result<Line, LineFault>
     }
 }
 
-/// `ROOT, INDEX, LEN`
-pub fn delete_of(alloc: Global, rest: &[Value]) -> Result<Line, LineFault>
-    ensures line { Reads (delete_in (map view rest.now)) result }
-    ensures valid { IfOk result (λ line. IsValidLine (line_of line)) }
+/// `INDEX, [VALUE,..]`
+pub fn push_of(alloc: Global, rest: &[Value]) -> Result<Change, LineFault>
+    ensures change { Answers change_of (push_in (map view rest.now)) result }
+    ensures valid { IfOk result (λ change. IsValidChange (change_of change)) }
 {
     match rest {
-        [root, index, len] => match (root.as_str(), number_of(index), number_of(len)) {
-            (Some(root), Some(index), Some(len)) => {
-                let root = Text::copy_of(alloc, root)?;
-                Ok(Line::Delete { root, index, len })
+        [index, values] => match number_of(index) {
+            Some(index) => {
+                let values = values_of(alloc, values)?;
+                Ok(Change::Push { index, values })
             }
-            _ => Err(LineFault::BadLine),
+            None => Err(LineFault::BadLine),
         },
         _ => Err(LineFault::BadLine),
     }
 }
 
-/// `ROOT, INDEX, LEN, KEY, VALUE`
-pub fn format_of(alloc: Global, rest: &[Value]) -> Result<Line, LineFault>
-    ensures line { Reads (format_in (map view rest.now)) result }
-    ensures valid { IfOk result (λ line. IsValidLine (line_of line)) }
+/// `INDEX, KIND`
+pub fn child_of(alloc: Global, rest: &[Value]) -> Result<Change, LineFault>
+    ensures change { Answers change_of (child_in (map view rest.now)) result }
+    ensures valid { IfOk result (λ change. IsValidChange (change_of change)) }
 {
     match rest {
-        [root, index, len, key, value] => {
-            match (
-                root.as_str(),
-                number_of(index),
-                number_of(len),
-                key.as_str(),
-            ) {
-                (Some(root), Some(index), Some(len), Some(key)) => {
-                    let value = value_of(alloc, value)?;
-                    let root = Text::copy_of(alloc, root)?;
-                    let key = Text::copy_of(alloc, key)?;
-                    Ok(Line::Format {
-                        root,
-                        index,
-                        len,
-                        key,
-                        value,
-                    })
-                }
-                _ => Err(LineFault::BadLine),
+        [index, kind] => match number_of(index) {
+            Some(index) => {
+                let kind = kind_of(alloc, kind)?;
+                Ok(Change::Child { index, kind })
             }
-        }
+            None => Err(LineFault::BadLine),
+        },
         _ => Err(LineFault::BadLine),
     }
 }
 
-/// An index or a length.
-fn number_of(value: &Value) -> Option<u64>
-    ensures { result ≡ number_in (view value.now) }
+/// `KEY, VALUE`
+pub fn set_of(alloc: Global, rest: &[Value]) -> Result<Change, LineFault>
+    ensures change { Answers change_of (set_in (map view rest.now)) result }
+    ensures valid { IfOk result (λ change. IsValidChange (change_of change)) }
 {
-    let number = value.as_u64()?;
-    if number > MOST_UNITS {
-        return None;
+    match rest {
+        [key, value] => match key.as_str() {
+            Some(key) => {
+                let value = any_of(alloc, value)?;
+                let key = Text::copy_of(alloc, key)?;
+                Ok(Change::Set { key, value })
+            }
+            None => Err(LineFault::BadLine),
+        },
+        _ => Err(LineFault::BadLine),
     }
-    Some(number)
 }
 
-/// A value that JSON values carry.
-fn value_of(alloc: Global, value: &Value) -> Result<Json, LineFault>
-    ensures value { MatchOption (value_in (view value.now)) (result ≡ Err BadLine) (λ t.
-        MatchResult result (λ j. json_tree j ≡ t) (λ fault. fault ≡ NoMemory)) }
-    ensures valid { IfOk result (λ j. IsTrue (is_valid_json (json_tree j))) }
+/// `KEY, KIND`
+pub fn settype_of(alloc: Global, rest: &[Value]) -> Result<Change, LineFault>
+    ensures change { Answers change_of (settype_in (map view rest.now)) result }
+    ensures valid { IfOk result (λ change. IsValidChange (change_of change)) }
 {
-    match json_of_value(alloc, value) {
-        Ok(json) => Ok(json),
-        Err(JsonFault::NoMemory) => Err(LineFault::NoMemory),
-        Err(_) => Err(LineFault::BadLine),
+    match rest {
+        [key, kind] => match key.as_str() {
+            Some(key) => {
+                let kind = kind_of(alloc, kind)?;
+                let key = Text::copy_of(alloc, key)?;
+                Ok(Change::SetType { key, kind })
+            }
+            None => Err(LineFault::BadLine),
+        },
+        _ => Err(LineFault::BadLine),
+    }
+}
+
+/// `KEY`
+pub fn unset_of(alloc: Global, rest: &[Value]) -> Result<Change, LineFault>
+    ensures change { Answers change_of (unset_in (map view rest.now)) result }
+    ensures valid { IfOk result (λ change. IsValidChange (change_of change)) }
+{
+    match rest {
+        [key] => match key.as_str() {
+            Some(key) => {
+                let key = Text::copy_of(alloc, key)?;
+                Ok(Change::Unset { key })
+            }
+            None => Err(LineFault::BadLine),
+        },
+        _ => Err(LineFault::BadLine),
     }
 }

@@ -1,35 +1,67 @@
 //! What a line asks for.
 
-use yd_any::{Json, Text};
+use crate::target::Target;
+use yd_any::{Any, AnyList, Json, Text};
+use yd_ops::Kind;
 
-/// An edit of the text of a root. Indexes and lengths count UTF-16 units, from 0 to 2^53-1.
+/// A change of a root or of a type in it.
 #[derive(Drop)]
-pub enum Line {
-    /// `["insert",ROOT,INDEX,TEXT]`: the text comes in at the index.
+pub struct Line {
+    /// Where it is made.
+    pub target: Target,
+    /// What is made.
+    pub change: Change,
+}
+
+/// A change of a text, a list or a map. Indexes and lengths count live counted units, of which a text
+/// has one for each UTF-16 unit, from 0 to 2^53-1.
+#[derive(Drop)]
+pub enum Change {
+    /// `["insert",TARGET,INDEX,TEXT]`: the text comes in at the index.
     Insert {
-        root: Text,
         index: u64,
         text: Text,
     },
-    /// `["embed",ROOT,INDEX,VALUE]`: the value comes in at the index, as one unit.
+    /// `["embed",TARGET,INDEX,VALUE]`: the value comes in at the index, as one unit.
     Embed {
-        root: Text,
         index: u64,
         value: Json,
     },
-    /// `["delete",ROOT,INDEX,LEN]`: so many units from the index on go.
+    /// `["delete",TARGET,INDEX,LEN]`: so many units from the index on go.
     Delete {
-        root: Text,
         index: u64,
         len: u64,
     },
-    /// `["format",ROOT,INDEX,LEN,KEY,VALUE]`: so many units from the index on get the value under
+    /// `["format",TARGET,INDEX,LEN,KEY,VALUE]`: so many units from the index on get the value under
     /// the key.
     Format {
-        root: Text,
         index: u64,
         len: u64,
         key: Text,
         value: Json,
+    },
+    /// `["push",TARGET,INDEX,[VALUE,..]]`: the values come in at the index, each as one unit.
+    Push {
+        index: u64,
+        values: AnyList,
+    },
+    /// `["child",TARGET,INDEX,KIND]`: a type comes in at the index.
+    Child {
+        index: u64,
+        kind: Kind,
+    },
+    /// `["set",TARGET,KEY,VALUE]`: the value stands under the key.
+    Set {
+        key: Text,
+        value: Any,
+    },
+    /// `["settype",TARGET,KEY,KIND]`: a type stands under the key.
+    SetType {
+        key: Text,
+        kind: Kind,
+    },
+    /// `["unset",TARGET,KEY]`: nothing stands under the key.
+    Unset {
+        key: Text,
     },
 }

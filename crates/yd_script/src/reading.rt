@@ -1,22 +1,26 @@
 //! A line, read.
 
-ghost use Rattle.std.specs.Prelude.{◌≡◌, ◌⊎◌, Err, IfOk, map};
+ghost use Rattle.std.specs.Prelude.{◌≡◌, IfOk, map};
 ghost use Rattle.serde_json.specs.Errors.{IsMemory};
 ghost use Rattle.serde_json.specs.View.{view};
-ghost use Rattle.yd_script.specs.Line.{IsValidLine, line_of};
-ghost use Rattle.yd_script.specs.Reading.{Reads, call_in, line_in, line_in_data, line_in_list};
+ghost use Rattle.yd_script.specs.Given.{Answers};
+ghost use Rattle.yd_script.specs.Line.{IsValidChange, IsValidLine, change_of as change_seen, line_of};
+ghost use Rattle.yd_script.specs.Reading.{change_in, line_in, line_in_data, line_in_list, text_change_in};
 ghost use Rattle.yd_script.specs.declared.fault.LineFault.TheVariants.{NoMemory, BadLine};
 
-use crate::arguments::{delete_of, embed_of, format_of, insert_of};
+use crate::arguments::{
+    child_of, delete_of, embed_of, format_of, insert_of, push_of, set_of, settype_of, unset_of,
+};
 use crate::fault::LineFault;
-use crate::line::Line;
+use crate::line::{Change, Line};
+use crate::targets::target_of;
 use serde_json::Value;
 use std::alloc::Global;
 
 /// The line that a text is (own; the text is JSON as `serde_json` reads it). Where a growth finds no
 /// memory that is answered, and else `BadLine` just where the text is no line.
 pub fn read_line(alloc: Global, text: &str) -> Result<Line, LineFault>
-    ensures line { (result ≡ Err NoMemory) ⊎ Reads (line_in text.now) result }
+    ensures line { Answers line_of (line_in text.now) result }
     ensures valid { IfOk result (λ line. IsValidLine (line_of line)) }
 {
     match Value::from_str(alloc, text) {
@@ -38,7 +42,7 @@ fn text_fault(error: &serde_json::Error) -> LineFault
 }
 
 fn line_of_value(alloc: Global, value: &Value) -> Result<Line, LineFault>
-    ensures line { Reads (line_in_data (view value.now)) result }
+    ensures line { Answers line_of (line_in_data (view value.now)) result }
     ensures valid { IfOk result (λ line. IsValidLine (line_of line)) }
 {
     match value {
@@ -48,21 +52,47 @@ fn line_of_value(alloc: Global, value: &Value) -> Result<Line, LineFault>
 }
 
 fn line_of_list(alloc: Global, items: &[Value]) -> Result<Line, LineFault>
-    ensures line { Reads (line_in_list (map view items.now)) result }
+    ensures line { Answers line_of (line_in_list (map view items.now)) result }
     ensures valid { IfOk result (λ line. IsValidLine (line_of line)) }
 {
     match items {
-        [first, rest @ ..] => match first.as_str() {
-            Some(word) => line_of_call(alloc, word, rest),
+        [word, target, rest @ ..] => match word.as_str() {
+            Some(word) => {
+                let change = change_of(alloc, word, rest)?;
+                let target = target_of(alloc, target)?;
+                Ok(Line { target, change })
+            }
             None => Err(LineFault::BadLine),
         },
         _ => Err(LineFault::BadLine),
     }
 }
 
-fn line_of_call(alloc: Global, word: &str, rest: &[Value]) -> Result<Line, LineFault>
-    ensures line { Reads (call_in word.now (map view rest.now)) result }
-    ensures valid { IfOk result (λ line. IsValidLine (line_of line)) }
+fn change_of(alloc: Global, word: &str, rest: &[Value]) -> Result<Change, LineFault>
+    ensures change { Answers change_seen (change_in word.now (map view rest.now)) result }
+    ensures valid { IfOk result (λ change. IsValidChange (change_seen change)) }
+{
+    if word == "push" {
+        return push_of(alloc, rest);
+    }
+    if word == "child" {
+        return child_of(alloc, rest);
+    }
+    if word == "set" {
+        return set_of(alloc, rest);
+    }
+    if word == "settype" {
+        return settype_of(alloc, rest);
+    }
+    if word == "unset" {
+        return unset_of(alloc, rest);
+    }
+    text_change_of(alloc, word, rest)
+}
+
+fn text_change_of(alloc: Global, word: &str, rest: &[Value]) -> Result<Change, LineFault>
+    ensures change { Answers change_seen (text_change_in word.now (map view rest.now)) result }
+    ensures valid { IfOk result (λ change. IsValidChange (change_seen change)) }
 {
     if word == "insert" {
         return insert_of(alloc, rest);
@@ -71,7 +101,7 @@ fn line_of_call(alloc: Global, word: &str, rest: &[Value]) -> Result<Line, LineF
         return embed_of(alloc, rest);
     }
     if word == "delete" {
-        return delete_of(alloc, rest);
+        return delete_of(rest);
     }
     if word == "format" {
         return format_of(alloc, rest);

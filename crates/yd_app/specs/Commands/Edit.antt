@@ -8,7 +8,7 @@ use Rattle.yd_ops.specs.Value.{UpdateValue}
 use Rattle.yd_playing.specs.Played.{ArePlayed}
 use Rattle.yd_playing.specs.Stopped.{StopsAt}
 use Rattle.yd_playing.specs.declared.fault.LineCause.{LineCause}
-use Rattle.yd_playing.specs.declared.fault.LineCause.TheVariants.{BadLine, Edit}
+use Rattle.yd_playing.specs.declared.fault.LineCause.TheVariants.{BadLine, NoTarget, Edit}
 use Rattle.yd_script.specs.Lines.{Numbered, script_lines}
 use Rattle.yd_updates.specs.Received.{received_set}
 use Rattle.yd_files.specs.Verdict.{Inputs}
@@ -53,6 +53,7 @@ edit_text Nothing = codes "Nothing"
 -- why a line is refused
 abbrev pub cause_text : LineCause → List ℕ
 cause_text BadLine = codes "BadLine"
+cause_text (NoTarget step) = with_number (codes "NoTarget") step
 cause_text (Edit fault) = edit_text fault
 
 -- the line with the number is refused, in the script under the name
