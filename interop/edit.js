@@ -4,6 +4,7 @@
 // own calls, and ydoc shows the same of it.
 
 const { difference, updateIn } = require('./convert.js');
+const { playedLine } = require('./edit_trees.js');
 const { mixedFiles, stateOf } = require('./files.js');
 const { documentOf } = require('./reading.js');
 const { showCase } = require('./show.js');
@@ -20,7 +21,10 @@ const KEYS = ['bold', 'link', 'size'];
 const VALUES = [true, null, 7, { to: 'x', at: [1, null] }, 'wide'];
 const EMBEDS = [{ image: 'x.png' }, { formula: 'a', size: 2 }];
 
-/** What each line of a script is in Yjs. */
+/** The mode in which a root of each kind is compared. */
+const MODE_OF = { text: '--delta', array: '--array', map: '--map', fragment: '--tree' };
+
+/** What each line of a script on a text is in Yjs. */
 const PLAYED = {
   insert: (text, index, words) => text.insert(index, words),
   embed: (text, index, value) => text.insertEmbed(index, value, attributesBehind(text, index)),
@@ -69,22 +73,31 @@ function lineFor(chance, root, text) {
   }
 }
 
+/** Carries out a line by chance on a root that is a text, and gives the line. */
+function playedTextLine(chance, doc, root) {
+  const text = doc.getText(root);
+  const line = lineFor(chance, root, text);
+  const [kind, , ...rest] = line;
+  PLAYED[kind](text, ...rest);
+  return line;
+}
+
 /** A script by chance, and what Yjs shows once its own calls did the same as this client. */
 function played(session, root, files, client) {
   const doc = documentOf(session.roots, files);
   doc.clientID = client;
-  const text = doc.getText(root);
-  const script = Array.from({ length: LINES }, () => {
-    const line = lineFor(session.chance, root, text);
-    const [kind, , ...rest] = line;
-    PLAYED[kind](text, ...rest);
-    return `${JSON.stringify(line)}\n`;
-  });
-  return { script: Buffer.from(script.join('')), shown: MODES['--delta'](doc, root) };
+  const play = session.roots[root] === 'text' ? playedTextLine : playedLine;
+  const script = Array.from(
+    { length: LINES },
+    () => `${JSON.stringify(play(session.chance, doc, root))}\n`,
+  );
+  const shown = MODES[MODE_OF[session.roots[root]]](doc, root);
+  return { script: Buffer.from(script.join('')), shown };
 }
 
 /** The case that ydoc makes an update by a script, as this client, on what the files hold. */
 function editCase(session, name, root, files, client) {
+  const mode = MODE_OF[session.roots[root]];
   const { script, shown } = played(session, root, files, client);
   const full = `${session.name}.edit.${name}`;
   const made = (output) => ({ name: `${full}.v1`, form: 'v1', bytes: updateIn(output, 'v1') });
@@ -101,9 +114,9 @@ function editCase(session, name, root, files, client) {
         return { expected: 'an update in v1', came: output.toString('hex') };
       }
       const taken = documentOf(session.roots, [...files, made(output)]);
-      return difference('delta', shown, MODES['--delta'](taken, root));
+      return difference(mode, shown, MODES[mode](taken, root));
     },
-    next: ({ output }) => showCase(session, name, ['--delta', root], [...files, made(output)]),
+    next: ({ output }) => showCase(session, name, [mode, root], [...files, made(output)]),
   };
 }
 
@@ -111,7 +124,7 @@ function editCase(session, name, root, files, client) {
 function editCases(session) {
   const { chance, documents, updates } = session;
   const states = mixedFiles(session, documents.map((doc, at) => stateOf(`state-${at + 1}`, doc)));
-  return session.texts().flatMap((root, at) => [
+  return Object.keys(session.roots).flatMap((root, at) => [
     editCase(session, `new-${at}`, root, mixedFiles(session, chance.shuffled(updates)), NEW_CLIENT),
     editCase(session, `known-${at}`, root, states, documents[0].clientID),
   ]);
