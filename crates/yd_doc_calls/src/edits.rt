@@ -9,7 +9,7 @@ use std::alloc::Global;
 use std::test::Fail;
 use yd_any::Text;
 use yd_doc::{Replica, Step, StepList};
-use yd_ids::{Client, Id, IdSet, Span};
+use yd_ids::{Client, Id};
 use yd_ops::{Content, Kind, List, Parent, Update};
 use yd_v1::write_v1;
 
@@ -17,8 +17,6 @@ use yd_v1::write_v1;
 const ARRAY_MADE: [u8; 10] = [1, 1, 3, 0, 7, 1, 1, 0x74, 0, 0];
 /// A map behind it, and then an array behind the same unit, so before the map.
 const TWO_MADE: [u8; 15] = [1, 2, 3, 1, 0x87, 3, 0, 1, 0xc7, 3, 0, 3, 1, 0, 0];
-/// The first unit is deleted.
-const FIRST_REMOVED: [u8; 6] = [0, 1, 3, 1, 0, 1];
 
 /// The first unit that client 3 makes, and the two behind it.
 const FIRST: Id = Id {
@@ -83,18 +81,6 @@ fn make_two(alloc: Global, replica: &mut Replica) -> Result<Vec<u8>, Fail> {
     bytes_of(alloc, &update)
 }
 
-/// Removes the first unit.
-fn remove_first(alloc: Global, replica: &mut Replica) -> Result<Vec<u8>, Fail> {
-    let mut ids = IdSet::new(alloc);
-    ids.insert(Span {
-        client: Client(3),
-        clock: 0,
-        len: 1,
-    })?;
-    let update = replica.remove(&ids)?;
-    bytes_of(alloc, &update)
-}
-
 /// How many units the root has, and the first two of them.
 fn units(alloc: Global, replica: &Replica) -> Result<(u64, Option<Id>, Option<Id>), Fail> {
     let list = root(alloc)?;
@@ -115,19 +101,5 @@ fn of_two_steps_at_one_place_the_later_run_stands_in_front(rt: HostRuntime) -> R
     let bytes = make_two(rt.alloc(), &mut replica)?;
     assert_eq!(rt; bytes.as_slice(), TWO_MADE.as_slice());
     assert_eq!(rt; units(rt.alloc(), &replica)?, (3, Some(FIRST), Some(THIRD)));
-    Ok(())
-}
-
-#[test]
-fn a_removed_unit_is_not_counted(rt: HostRuntime) -> Result<(), Fail> {
-    let mut replica = Replica::new(rt.alloc(), Client(3))?;
-    make_array(rt.alloc(), &mut replica)?;
-    make_two(rt.alloc(), &mut replica)?;
-    let bytes = remove_first(rt.alloc(), &mut replica)?;
-    assert_eq!(rt; bytes.as_slice(), FIRST_REMOVED.as_slice());
-    assert_eq!(rt;
-        units(rt.alloc(), &replica)?,
-        (2, Some(THIRD), Some(SECOND))
-    );
     Ok(())
 }

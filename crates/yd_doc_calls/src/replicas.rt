@@ -1,6 +1,6 @@
 //! Calls of `yd_doc` and of `yd_view`.
 
-use crate::samples::{A, B, DELETION, LATER};
+use crate::samples::{A, DELETION, LATER};
 use std::alloc::Global;
 use std::test::Fail;
 use yd_any::Text;
@@ -36,16 +36,6 @@ const FIRST: Id = Id {
 fn next_of(view: &mut ListView<'_>) -> Option<(Id, u64, bool)> {
     let piece = view.next()?;
     Some((piece.id, piece.len, piece.deleted))
-}
-
-/// The units of the root `t` after two updates.
-fn shown(alloc: Global, one: &[u8], other: &[u8]) -> Result<(Option<u16>, Option<u16>), Fail> {
-    let mut replica = Replica::new(alloc, Client(9))?;
-    receive(alloc, &mut replica, one)?;
-    receive(alloc, &mut replica, other)?;
-    let list = root(alloc)?;
-    let units = text(alloc, &replica, &list)?;
-    Ok((units.unit(0), units.unit(1)))
 }
 
 #[test]
@@ -89,13 +79,6 @@ fn a_list_has_a_last_unit_and_a_text(rt: HostRuntime) -> Result<(), Fail> {
 }
 
 #[test]
-fn two_clients_are_shown_alike_in_either_order(rt: HostRuntime) -> Result<(), Fail> {
-    assert_eq!(rt; shown(rt.alloc(), &A, &B)?, (Some(0x61), Some(0x62)));
-    assert_eq!(rt; shown(rt.alloc(), &B, &A)?, (Some(0x61), Some(0x62)));
-    Ok(())
-}
-
-#[test]
 fn a_deletion_waits_until_its_unit_is_held(rt: HostRuntime) -> Result<(), Fail> {
     let mut replica = Replica::new(rt.alloc(), Client(9))?;
     assert_eq!(rt; receive(rt.alloc(), &mut replica, &DELETION)?, true);
@@ -111,12 +94,5 @@ fn a_deletion_waits_until_its_unit_is_held(rt: HostRuntime) -> Result<(), Fail> 
     receive(rt.alloc(), &mut replica, &A)?;
     assert!(rt; replica.deletes().has(FIRST));
     assert_eq!(rt; replica.waiting().deletes, 0);
-    Ok(())
-}
-
-#[test]
-fn nothing_is_deleted_at_first(rt: HostRuntime) -> Result<(), Fail> {
-    let replica = Replica::new(rt.alloc(), Client(9))?;
-    assert!(rt; replica.deletes().spans().next().is_none());
     Ok(())
 }
