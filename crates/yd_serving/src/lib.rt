@@ -1,0 +1,18 @@
+//! What a server orders, carried out over a network.
+//!
+//! [`carry`] sends and closes what a hub orders, in its order. A session whose send fails is closed
+//! at once, and nothing more is done for it. What is told so is defined in `yd_hub`
+//! (`specs/Carrying.antt`), for whatever sends fail.
+//!
+//! ```rust
+//! carry(alloc, &mut board, actions.as_slice(), &mut failed)?;
+//! ```
+#![tactic(auto)]
+
+mod carrying;
+mod fault;
+mod naming;
+
+pub use carrying::carry;
+pub use fault::NoMemory;
+pub use naming::{name_of_cause, name_of_fault};
