@@ -22,10 +22,11 @@ use yd_ops::Update;
 use yd_script::{Line, LineFault, Lines, NumberedLine, read_line};
 use yd_v1::UpdateList;
 
-/// Carries out the lines of a script in their order, each as one edit of the replica, and answers the
-/// updates that they made. The first line that is no line, or whose target leads to no live type, or
-/// whose edit is refused, ends it: its number and why are answered. The replica has then taken the updates of the lines before, and so it has
-/// where a growth found no memory. It takes the time of the edits.
+/// Carries out the lines of a script in their order, each as one edit of the replica, and answers
+/// the updates that they made. The first line that is no line, or whose target leads to no live type,
+/// or whose edit is refused, ends it: its number and why are answered. The replica has then taken the
+/// updates of the lines before, and so it has where a growth found no memory. It takes the time of the
+/// edits.
 pub fn play(alloc: Global, replica: &mut Replica, script: &str) -> Result<UpdateList, PlayFault>
     ensures played { IfOk result (λ updates. ArePlayed replica.old.client
         (received_of replica.old) (script_lines script.now) (map update_value updates)) }
