@@ -10,7 +10,7 @@ use yd_store::Store;
 use yd_units::Units;
 
 /// The id of a client's unit.
-pub fn id_of(client: u64, clock: u64) -> Id {
+pub(crate) fn id_of(client: u64, clock: u64) -> Id {
     Id {
         client: Client(client),
         clock,
@@ -18,7 +18,7 @@ pub fn id_of(client: u64, clock: u64) -> Id {
 }
 
 /// A run of a text.
-pub fn run_of(alloc: Global, id: Id, left: Option<Id>, text: &str) -> Result<Run, NoMemory> {
+pub(crate) fn run_of(alloc: Global, id: Id, left: Option<Id>, text: &str) -> Result<Run, NoMemory> {
     let content = Content::Str(Units::from_text(alloc, text)?);
     Ok(Run {
         id,
@@ -30,7 +30,7 @@ pub fn run_of(alloc: Global, id: Id, left: Option<Id>, text: &str) -> Result<Run
 }
 
 /// The run of client 1 from this clock on, behind the unit before it.
-pub fn next_run(alloc: Global, clock: u64, text: &str) -> Result<Run, NoMemory> {
+pub(crate) fn next_run(alloc: Global, clock: u64, text: &str) -> Result<Run, NoMemory> {
     let left = if clock == 0 {
         None
     } else {

@@ -12,7 +12,7 @@ use yd_store::Store;
 
 /// How many runs there are, where so many clients put one at the front, the smallest client first, so
 /// that each scan goes over all of them.
-pub fn crowd(rt: &(impl Clock + AllocGlobal), count: u64) -> Option<(usize, Duration)> {
+pub(crate) fn crowd(rt: &(impl Clock + AllocGlobal), count: u64) -> Option<(usize, Duration)> {
     let mut store = Store::new(rt.alloc());
     store.add_list().ok()?;
     let start = Instant::now(rt).ok()?;
@@ -41,7 +41,7 @@ struct Row {
 }
 
 /// How many rows are smaller where each row is compared with all before it, in a vector of rows.
-pub fn rows(rt: &(impl Clock + AllocGlobal), count: u64) -> Option<(usize, Duration)> {
+pub(crate) fn rows(rt: &(impl Clock + AllocGlobal), count: u64) -> Option<(usize, Duration)> {
     let mut rows = Vec::new(rt.alloc());
     for client in 0..count {
         let row = Row {

@@ -19,7 +19,7 @@ fn next_random(seed: u64) -> u64 {
 }
 
 /// How many runs there are, where so many of ten units each are split at as many random places.
-pub fn splits(rt: &(impl Clock + AllocGlobal), count: u64) -> Option<(usize, Duration)> {
+pub(crate) fn splits(rt: &(impl Clock + AllocGlobal), count: u64) -> Option<(usize, Duration)> {
     let mut store = Store::new(rt.alloc());
     store.add_list().ok()?;
     type_runs(rt.alloc(), &mut store, count, TEXT, 10).ok()?;
@@ -50,7 +50,7 @@ fn split_one(store: &mut Store, clock: u64) -> Result<(), NoMemory> {
 }
 
 /// The same of a sorted vector of first clocks and places: each split adds an entry.
-pub fn inserts(rt: &(impl Clock + AllocGlobal), count: u64) -> Option<(usize, Duration)> {
+pub(crate) fn inserts(rt: &(impl Clock + AllocGlobal), count: u64) -> Option<(usize, Duration)> {
     let mut entries = Vec::new(rt.alloc());
     for place in 0..count {
         entries.push((place.wrapping_mul(10), place)).ok()?;

@@ -10,7 +10,7 @@ use yd_ops::{NoMemory, Run};
 use yd_store::Store;
 
 /// How many runs there are, where so many of one unit each are typed.
-pub fn typed(rt: &(impl Clock + AllocGlobal), count: u64) -> Option<(usize, Duration)> {
+pub(crate) fn typed(rt: &(impl Clock + AllocGlobal), count: u64) -> Option<(usize, Duration)> {
     let mut store = Store::new(rt.alloc());
     store.add_list().ok()?;
     let start = Instant::now(rt).ok()?;
@@ -20,7 +20,7 @@ pub fn typed(rt: &(impl Clock + AllocGlobal), count: u64) -> Option<(usize, Dura
 }
 
 /// The same runs, pushed to a vector.
-pub fn pushed(rt: &(impl Clock + AllocGlobal), count: u64) -> Option<(usize, Duration)> {
+pub(crate) fn pushed(rt: &(impl Clock + AllocGlobal), count: u64) -> Option<(usize, Duration)> {
     let mut runs = Vec::new(rt.alloc());
     let start = Instant::now(rt).ok()?;
     push_runs(rt.alloc(), &mut runs, count).ok()?;
@@ -37,7 +37,7 @@ fn push_runs(alloc: Global, runs: &mut Vec<Run>, count: u64) -> Result<(), NoMem
 }
 
 /// How many units there are in a list of so many runs, by a walk over them.
-pub fn walk(rt: &(impl Clock + AllocGlobal), count: u64) -> Option<(usize, Duration)> {
+pub(crate) fn walk(rt: &(impl Clock + AllocGlobal), count: u64) -> Option<(usize, Duration)> {
     let mut store = Store::new(rt.alloc());
     store.add_list().ok()?;
     type_runs(rt.alloc(), &mut store, count, "a", 1).ok()?;
@@ -69,7 +69,7 @@ fn units_of(store: &Store) -> usize
 }
 
 /// The same of a vector of these runs.
-pub fn pass(rt: &(impl Clock + AllocGlobal), count: u64) -> Option<(usize, Duration)> {
+pub(crate) fn pass(rt: &(impl Clock + AllocGlobal), count: u64) -> Option<(usize, Duration)> {
     let mut runs = Vec::new(rt.alloc());
     push_runs(rt.alloc(), &mut runs, count).ok()?;
     let start = Instant::now(rt).ok()?;
