@@ -7,7 +7,8 @@ use crate::report::{Report, Wanted};
 use crate::slip::Slip;
 use crate::stored::{Stored, file_of};
 use std::alloc::Global;
-use yd_app::{Word, run};
+use yd_app::Word;
+use yd_app::law::run_in_memory;
 use yd_world::{MemoryLibrary, MemorySink, ScriptBoard};
 
 /// Plays each run of a case in each of its orders, and reports what is not as it is wanted.
@@ -69,7 +70,8 @@ fn play_words(
     let mut out = sink_of(alloc, &case.out)?;
     let mut err = sink_of(alloc, &case.err)?;
     let mut board = ScriptBoard::new(alloc);
-    let status = run(alloc, words, &mut library, &mut out, &mut err, &mut board);
+    // It is `run` over these things, so each case makes both calls.
+    let status = run_in_memory(alloc, words, &mut library, &mut out, &mut err, &mut board);
     let wanted_err = err_of(alloc, case, front)?;
     let wanted = Wanted { case, words, front };
     report.expect_status(wanted, status)?;
