@@ -1,0 +1,9 @@
+//! Calls of `yd_position` and `yd_places`: positions read, made at an index, written and found again.
+//!
+//! What is judged are bytes, worked by hand.
+#![tactic(auto)]
+
+#[cfg(test)]
+mod bytes;
+#[cfg(test)]
+mod places;
