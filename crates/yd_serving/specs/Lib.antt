@@ -1,3 +1,4 @@
 pub mod Board
 pub mod Carried
 pub mod Reason
+pub mod Settled

@@ -45,3 +45,13 @@ impl<T: Drop> From<AllocFailed<T>> for NoMemory {
         NoMemory
     }
 }
+
+impl From<yd_machines::NoMemory> for NoMemory {
+    ghost use Rattle.std.specs.Prelude.{⊤};
+
+    ghost from_gives = { λ _ _. ⊤ };
+
+    fn from(_refused: yd_machines::NoMemory) -> NoMemory {
+        NoMemory
+    }
+}

@@ -1,7 +1,8 @@
 //! What a server orders, carried out over a network.
 //!
 //! [`carry`] sends and closes what a hub orders, in its order. A session whose send fails is closed
-//! at once, and nothing more is done for it. What is told so is defined in `yd_hub`
+//! at once, and nothing more is done for it. Then [`settle`] tells the hub that it closed, and
+//! carries out what that orders in the same way. What is told so is defined in `yd_hub`
 //! (`specs/Carrying.antt`), for whatever sends fail.
 //!
 //! ```rust
@@ -12,7 +13,9 @@
 mod carrying;
 mod fault;
 mod naming;
+mod settling;
 
 pub use carrying::carry;
 pub use fault::NoMemory;
 pub use naming::{name_of_cause, name_of_fault};
+pub use settling::settle;
