@@ -34,8 +34,14 @@ fn a_unit_is_pointed_at(rt: HostRuntime) -> Result<(), Fail> {
 #[test]
 fn the_first_deviation_is_named(rt: HostRuntime) -> Result<(), Fail> {
     let alloc = rt.alloc();
-    assert_eq!(rt; fault_of(alloc, &[3, 1, 1, 0]), Some(PositionFault::BadForm(0)));
-    assert_eq!(rt; fault_of(alloc, &[0, 1, 1, 0, 0]), Some(PositionFault::Trailing(4)));
+    assert_eq!(rt;
+        fault_of(alloc, &[3, 1, 1, 0]),
+        Some(PositionFault::BadForm(0))
+    );
+    assert_eq!(rt;
+        fault_of(alloc, &[0, 1, 1, 0, 0]),
+        Some(PositionFault::Trailing(4))
+    );
     let short = PositionFault::Number(NumFault::ShortInput(2));
     assert_eq!(rt; fault_of(alloc, &[0, 1]), Some(short));
     let text = PositionFault::Number(NumFault::BadUtf8(1));
