@@ -168,7 +168,8 @@ impl Arena {
     pub fn cut_at(&mut self, id: Id) -> Result<Option<usize>, AllocError>
         ensures begins { IfOk result (λ at.
             IfSome at (λ place. HasUnit (runs_of self.new) place 0 id)) }
-        ensures missing { IfOk result (λ at. IfNone at (next_clock self.old id.client.0 ≤ id.clock)) }
+        ensures missing { IfOk result (λ at.
+            IfNone at (next_clock self.old id.client.0 ≤ id.clock)) }
         ensures done { IsSame self.old self.new ⊎ CutsAt self.old self.new id }
         ensures unchanged { OnErr result (IsSame self.old self.new) }
     {

@@ -33,7 +33,8 @@ pub fn cut_both<B: Beside>(
     place: usize,
     n: u64,
 ) -> Result<(), AllocError>
-    requires inside { IsInside (entries_of index.old id.client.0) (next_of index.old id.client.0) id.clock }
+    requires inside { IsInside (entries_of index.old id.client.0)
+        (next_of index.old id.client.0) id.clock }
     requires fills { Fills 0 (entries_of index.old id.client.0) (next_of index.old id.client.0) }
     requires can { B.can_cut beside.old place n }
     requires same { B.keeps beside.old beside.old }

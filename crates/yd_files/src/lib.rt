@@ -1,10 +1,10 @@
 //! Files: what the words name, what each file stands for, and several files read in their order.
 //!
 //! A [`File`] is a name and a [`Kind`], which says how the bytes under the name are spelled: one
-//! update in V1 or V2, a log of updates, or a state vector. Each file stands for a list of updates
-//! or for a vector, or is refused by what is wrong first, too large, or missing. [`read_files`]
-//! answers what several files stand for, in order, or the first file that is not accepted, and why
-//! ([`law`]). [`take_files`] does the same, and hands the updates on while it reads.
+//! update in V1 or V2, a log of updates, a state vector, or a script. Each file stands for a list of
+//! updates, for a vector or for a text, or is refused by what is wrong first, too large, or missing.
+//! [`read_files`] answers what several files stand for, in order, or the first file that is not
+//! accepted, and why ([`law`]). [`take_files`] does the same, and hands the updates on while it reads.
 //!
 //! ```rust
 //! let inputs = read_files(alloc, &mut library, &[File { kind: Kind::Log, name: "typed" }])?;
