@@ -11,8 +11,8 @@ ghost use Rattle.yd_agreement.specs.First.{IsFirst};
 ghost use Rattle.yd_agreement.specs.Runs.{ComesBy};
 
 use crate::same_unit::is_same_unit;
-use yd_held::is_same_list;
 use yd_ids::Id;
+use yd_names::is_same_list;
 use yd_ops::{Content, List, Run};
 
 /// The first id on which a run and the next one differ in content, in time of the ids that both have.

@@ -26,7 +26,7 @@ received_before (All entries lists) runs vector r = put_back_entries runs entrie
 -- the names that there were: the first ones, or those that were kept
 abbrev pub names_before : Kept → List DocList → List DocList
 names_before (Count lists) names = take lists names
-names_before (All entries lists) names = lists.items
+names_before (All entries lists) names = lists
 
 -- what it was before a change
 abbrev pub back_to : Before → HeldValue → HeldValue

@@ -19,7 +19,7 @@ pub record HeldValue : Type 0 where
 
 -- how it is seen of its parts
 abbrev pub held_value : HeldParts → HeldValue
-held_value h = record { received = h.received; vector = h.vector; names = h.names.items; lacks = h.lacks.items }
+held_value h = record { received = h.received; vector = h.vector; names = h.names; lacks = h.lacks.items }
 
 -- all is held that can be, and what is in lists are the held operations that are not lost; the vector counts what is held,
 -- each place is as the origins ask, with the numbers of the lists; and what waits is noted by what it lacks, which is not held

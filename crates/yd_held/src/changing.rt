@@ -20,6 +20,7 @@ use crate::parts::{Before, HeldParts, Kept};
 use crate::trying::{clients_from, clients_of};
 use std::mem;
 use yd_ids::Vector;
+use yd_names::Names;
 use yd_ops::Update;
 use yd_received::{Brought, Entry};
 
@@ -117,7 +118,7 @@ fn set_aside(held: &mut HeldParts, before: &mut Before, entries: Vec<Entry>)
     } }
 {
     let alloc = held.received.allocator();
-    let lists = mem::replace(&mut held.names, Vec::new(alloc));
+    let lists = mem::replace(&mut held.names, Names::new(alloc));
     before.kept = Kept::All(entries, lists);
     held.vector = Vector::new(alloc);
     held.lacks = Vec::new(alloc);

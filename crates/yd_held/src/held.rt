@@ -15,7 +15,8 @@ use crate::parts::{Before, HeldParts};
 use std::alloc::Global;
 use std::marker::Model;
 use yd_ids::Vector;
-use yd_ops::{List, Update};
+use yd_names::Names;
+use yd_ops::Update;
 use yd_received::Received;
 
 /// What was received, and what is held of it: each unit that has all that it needs.
@@ -61,7 +62,7 @@ impl Held {
             parts: HeldParts {
                 received: Received::new(alloc),
                 vector: Vector::new(alloc),
-                names: Vec::new(alloc),
+                names: Names::new(alloc),
                 lacks: Vec::new(alloc),
             },
         }
@@ -83,8 +84,8 @@ impl Held {
         &self.parts.vector
     }
 
-    /// The lists with units that stand, by number.
-    pub fn names(&self) -> &[List]
+    /// The names of the lists with units that stand, by number.
+    pub fn names(&self) -> &Names
         ensures names { result.now ≡ self.now.names }
         ensures holds { HoldsAll self.now }
     {

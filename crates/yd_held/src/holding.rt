@@ -51,13 +51,13 @@ fn unmarked(alloc: Global, count: usize) -> Result<Vec<bool>, NoMemory>
 /// Holds an entry that is ready.
 fn hold_at(held: &mut HeldParts, stale: &mut Vec<bool>, at: usize) -> Result<(), NoMemory>
     requires holding { IsHolding (held_value held.old) }
-    requires marks { length stale.old.items ≡ length held.old.names.items }
+    requires marks { length stale.old.items ≡ length held.old.names }
     requires inside { at < length held.old.received.entries }
     requires ready { HoldsAt (λ t. is_ready held.old.vector held.old.received.runs t ≡ true)
         held.old.received.entries at }
     ensures holding { OnOk result (IsHolding (held_value held.new)) }
     ensures more { OnOk result (HoldsMore held.old.received held.new.received
-        stale.old.items stale.new.items (length held.new.names.items)) }
+        stale.old.items stale.new.items (length held.new.names)) }
     ensures fewer { OnOk result (count_waiting held.new.received.entries
         < count_waiting held.old.received.entries) }
     ensures held { OnOk result (HoldsEntry at held.old.received.entries
@@ -66,7 +66,7 @@ fn hold_at(held: &mut HeldParts, stale: &mut Vec<bool>, at: usize) -> Result<(),
     ensures lacks { held.new.lacks ≡ held.old.lacks }
     ensures unchanged { OnErr result ((held.new.received ≡ held.old.received)
         × (held.new.vector ≡ held.old.vector)) }
-    ensures grows { GrowBy held.old.names.items held.new.names.items }
+    ensures grows { GrowBy held.old.names held.new.names }
 {
     let entry = held.received.entries()[at];
     let place = place_for(&held.received, &mut held.names, entry)?;

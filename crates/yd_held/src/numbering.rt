@@ -1,16 +1,14 @@
 //! The number of the list that units are of.
 
-ghost use Rattle.std.specs.Prelude.{◌≡◌, true, false, None, Some, is_some, IfSome, IfOk, position};
-ghost use Rattle.yd_meaning.specs.Names.{same_list};
+ghost use Rattle.std.specs.Prelude.{◌≡◌, true, false, None, Some, is_some, IfSome, IfOk};
 ghost use Rattle.yd_meaning.specs.Order.{list_or_root};
 ghost use Rattle.yd_received.specs.Entries.{IsTakenOf, GrowBy, carried_of};
 ghost use Rattle.yd_held.specs.Numbered.{number_of};
 ghost use Rattle.yd_held.specs.Numbering.{NumbersName, NumbersEntry};
-ghost use Rattle.yd_ops.specs.declared.lists.List.{List as DocList};
 
 use crate::fault::NoMemory;
-use crate::names::is_same_list;
 use yd_ids::Id;
+use yd_names::Names;
 use yd_ops::{List, Run};
 use yd_received::{Entry, Place, Received};
 
@@ -18,7 +16,7 @@ use yd_received::{Entry, Place, Received};
 /// right origin, else the one that they carry. A list whose name is new is added at the end.
 pub(crate) fn number_for(
     received: &Received,
-    names: &mut Vec<List>,
+    names: &mut Names,
     entry: Entry,
 ) -> Result<usize, NoMemory>
     requires entry { IsTakenOf received.now.runs entry }
@@ -28,8 +26,8 @@ pub(crate) fn number_for(
     requires right { IfSome entry.right
         (λ y. is_some (number_of received.now.entries y) ≡ true) }
     ensures number { IfOk result (λ n. NumbersEntry received.now
-        names.old.items names.new.items entry n) }
-    ensures grows { GrowBy names.old.items names.new.items }
+        names.old names.new entry n) }
+    ensures grows { GrowBy names.old names.new }
 {
     if let Some(left) = entry.left {
         return Ok(number_at(received, left));
@@ -53,14 +51,14 @@ fn number_at(received: &Received, id: Id) -> usize
 }
 
 /// The number of the list that units without origins carry.
-fn number_carried(runs: &[Run], names: &mut Vec<List>, entry: Entry) -> Result<usize, NoMemory>
+fn number_carried(runs: &[Run], names: &mut Names, entry: Entry) -> Result<usize, NoMemory>
     requires entry { IsTakenOf runs.now entry }
     requires told { entry.is_gone ≡ false }
     requires left { entry.left ≡ None }
     requires right { entry.right ≡ None }
     ensures number { IfOk result (λ n. NumbersName (list_or_root (carried_of runs.now entry))
-        names.old.items names.new.items n) }
-    ensures grows { GrowBy names.old.items names.new.items }
+        names.old names.new n) }
+    ensures grows { GrowBy names.old names.new }
 {
     match &runs[entry.run].list {
         Some(name) => {
@@ -72,22 +70,15 @@ fn number_carried(runs: &[Run], names: &mut Vec<List>, entry: Entry) -> Result<u
 }
 
 /// The number of the list with a name, which is added at the end where it is new.
-fn number_named(names: &mut Vec<List>, name: &List) -> Result<usize, NoMemory>
+fn number_named(names: &mut Names, name: &List) -> Result<usize, NoMemory>
     ensures number { IfOk result (λ n. NumbersName name.now
-        names.old.items names.new.items n) }
-    ensures grows { GrowBy names.old.items names.new.items }
+        names.old names.new n) }
+    ensures grows { GrowBy names.old names.new }
 {
-    if let Some(number) = number_in(names, name) {
+    if let Some(number) = names.number_of(name) {
         return Ok(number);
     }
     let number = names.len();
     names.push(name.copy()?)?;
     Ok(number)
-}
-
-/// The number of the first list with a name.
-fn number_in(names: &[List], name: &List) -> Option<usize>
-    ensures { result ≡ position (λ (other : DocList). same_list other name.now) names.now }
-{
-    names.iter().position(|other| is_same_list(other, name))
 }

@@ -8,7 +8,7 @@ ghost use Rattle.yd_received.specs.Received.{IsReceived};
 use crate::fault::NoMemory;
 use crate::noting::Lack;
 use yd_ids::Vector;
-use yd_ops::List;
+use yd_names::Names;
 use yd_received::{Entry, Received};
 
 /// What was received, and what is held of it, while it changes.
@@ -19,7 +19,7 @@ pub struct HeldParts {
     /// The clock up to which each client's units are held.
     pub vector: Vector,
     /// The lists with units that stand, by number.
-    pub names: Vec<List>,
+    pub names: Names,
     /// What the next units of clients lack, by the ids that they lack.
     pub lacks: Vec<Lack>,
 }
@@ -43,7 +43,7 @@ pub enum Kept {
     /// Others are only added, so it is enough how many lists there were.
     Count(usize),
     /// All is held anew, so the entries are kept, and the lists.
-    All(Vec<Entry>, Vec<List>),
+    All(Vec<Entry>, Names),
 }
 
 impl HeldParts {

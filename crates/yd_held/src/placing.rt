@@ -11,7 +11,7 @@ use crate::fault::NoMemory;
 use crate::numbering::number_for;
 use crate::readiness::first_item;
 use yd_ids::Id;
-use yd_ops::List;
+use yd_names::Names;
 use yd_received::{Entry, Place, Received};
 
 /// The place of units that become held, whose origins are held. They are lost where they are gone,
@@ -20,13 +20,13 @@ use yd_received::{Entry, Place, Received};
 /// the first.
 pub(crate) fn place_for(
     received: &Received,
-    names: &mut Vec<List>,
+    names: &mut Names,
     entry: Entry,
 ) -> Result<Place, NoMemory>
     requires entry { IsTakenOf received.now.runs entry }
     requires held { AreOriginsCovered received.now entry }
-    ensures place { IfOk result (PlacesEntry received.now names.old.items names.new.items entry) }
-    ensures grows { GrowBy names.old.items names.new.items }
+    ensures place { IfOk result (PlacesEntry received.now names.old names.new entry) }
+    ensures grows { GrowBy names.old names.new }
 {
     if !can_stand(received, entry) {
         return Ok(Place::Lost);

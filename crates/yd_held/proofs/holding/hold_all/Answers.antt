@@ -1,4 +1,4 @@
-use Rattle.std.proofs.Common.{◌∙◌, get_or, subst}
+use Rattle.std.proofs.Common.{get_or, subst}
 use Rattle.std.specs.Global.{Vec}
 use Rattle.yd_received.proofs.EntryLemmas.{no_entry}
 use Rattle.yd_held.specs.declared.noting.Lack.{Lack}
@@ -10,7 +10,7 @@ use Rattle.yd_held.proofs.holding.hold_all.Goals as goal
 
 pub loop-stale-init : goal.loop-stale-init
 loop-stale-init c =
-    round_first (held_value c.args.held.now) c.len.result c.in_ok-stale.stale.items c.args.tries.items c.in_ok-stale.ensures (c.len.ensures ∙ c.args.held.now.names.ok.0)
+    round_first (held_value c.args.held.now) c.len.result c.in_ok-stale.stale.items c.args.tries.items c.in_ok-stale.ensures c.len.ensures
     c.requires.holding c.requires.noted c.requires.missing
 
 pub next_ready-requires-clause-waiting : goal.next_ready-requires-clause-waiting
@@ -43,6 +43,6 @@ pub returns-clause-held : goal.returns-clause-held
 returns-clause-held c =
     let held = c.loop-stale.held in
     round_last _ (held_value held) c.len.result _ c.loop-stale.stale.items _ c.next_ready.new.lacks.items c.loop-stale.invariant c.in_ok-stale.ensures
-    (c.len.ensures ∙ c.args.held.now.names.ok.0)
+    c.len.ensures
     (subst (Finds held.vector held.received.runs held.received.entries c.next_ready.new.lacks.items c.next_ready.new.tries.items) c.in_default.is c.in_ok-at.ensures.finds)
     c.in_ok-at.ensures.missing

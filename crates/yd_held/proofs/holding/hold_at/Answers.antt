@@ -15,27 +15,27 @@ place_for-requires-clause-held c =
 pub mark_place-requires : goal.mark_place-requires
 mark_place-requires c = subst (λ n. IsWithin n c.in_ok-place.place) (sym c.requires.marks)
     (within (held_value c.args.held.now) c.entries.result.now c.args.at no_entry c.entries.ensures.entries c.requires.holding c.requires.inside c.requires.ready
-    c.place_for.new.names.items c.in_ok-place.place c.in_ok-place.ensures.place)
+    c.place_for.new.names c.in_ok-place.place c.in_ok-place.ensures.place)
 
 pub returns-clause-holding : goal.returns-clause-holding
 returns-clause-holding c =
     holding_then (held_value c.args.held.now) c.entries.result.now c.args.at no_entry c.entries.ensures.entries c.requires.holding c.requires.inside c.requires.ready
-    c.in_ok-place.place c.hold.new.self c.hold.ensures c.place_for.new.names.items c.in_ok-place.ensures.place
-    (record { received = c.hold.new.self; vector = c.raise.new.self; names = c.place_for.new.names.items; lacks = c.args.held.now.lacks.items })
+    c.in_ok-place.place c.hold.new.self c.hold.ensures c.place_for.new.names c.in_ok-place.ensures.place
+    (record { received = c.hold.new.self; vector = c.raise.new.self; names = c.place_for.new.names; lacks = c.args.held.now.lacks.items })
     refl c.in_ok-raise.ensures.raised refl
 
 pub returns-clause-more : goal.returns-clause-more
 returns-clause-more c =
     holds_more (held_value c.args.held.now) c.entries.result.now c.args.at no_entry c.entries.ensures.entries c.requires.holding c.requires.inside c.requires.ready
-    c.in_ok-place.place c.hold.new.self c.hold.ensures c.place_for.new.names.items c.in_ok-place.ensures.place
+    c.in_ok-place.place c.hold.new.self c.hold.ensures c.place_for.new.names c.in_ok-place.ensures.place
     c.args.stale.now.items c.mark_place.new.stale.items c.requires.marks c.in_ok-mark_place.ensures
 
 pub returns-clause-fewer : goal.returns-clause-fewer
 returns-clause-fewer c =
     fewer_waiting (held_value c.args.held.now) c.entries.result.now c.args.at no_entry c.entries.ensures.entries c.requires.holding c.requires.inside c.requires.ready
-    c.in_ok-place.place c.hold.new.self c.hold.ensures c.place_for.new.names.items c.in_ok-place.ensures.place
+    c.in_ok-place.place c.hold.new.self c.hold.ensures c.place_for.new.names c.in_ok-place.ensures.place
 
 pub returns-clause-held : goal.returns-clause-held
 returns-clause-held c =
     holds_entry (held_value c.args.held.now) c.entries.result.now c.args.at no_entry c.entries.ensures.entries c.requires.holding c.requires.inside c.requires.ready
-    c.in_ok-place.place c.hold.new.self c.hold.ensures c.place_for.new.names.items c.in_ok-place.ensures.place c.raise.new.self c.in_ok-raise.ensures.raised
+    c.in_ok-place.place c.hold.new.self c.hold.ensures c.place_for.new.names c.in_ok-place.ensures.place c.raise.new.self c.in_ok-raise.ensures.raised

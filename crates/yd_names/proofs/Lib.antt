@@ -1,0 +1,3 @@
+mod CodesLemmas
+mod NamesLemmas
+mod FindingLemmas

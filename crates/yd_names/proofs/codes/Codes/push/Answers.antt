@@ -1,0 +1,26 @@
+use Rattle.std.proofs.Common.{◌≡◌, ◌∙◌, ℕ, Some, ◌++◌, ◌∷◌, [], cond, length, sym, ap, subst}
+use Rattle.std.specs.Ordering.{nat_cmp}
+use Rattle.std.specs.BTreeMap.{get, is_at}
+use Rattle.yd_names.specs.Codes.{last_place, AreFound}
+use Rattle.yd_names.proofs.CodesLemmas.{pushed_found}
+use Rattle.yd_names.proofs.codes.Codes.push.Goals as goal
+
+pub invariant_of-self-2 : goal.invariant_of-self-2
+invariant_of-self-2 c =
+    subst (λ bs. AreFound c.push.new.self.items c.insert.new.self bs) (sym c.in_ok-push-2.ensures.items)
+    (subst (λ cs. AreFound cs c.insert.new.self (c.reserve-2.new.self.items ++ c.last_of-was.result ∷ [])) (sym c.in_ok-push.ensures.items)
+    (pushed_found c.reserve.new.self.items c.args.code c.self.inside.last c.insert.new.self c.reserve-2.new.self.items c.last_of-was.result
+    found known placed))
+  where
+    found : AreFound c.reserve.new.self.items c.self.inside.last c.reserve-2.new.self.items
+    found = subst (λ cs. AreFound cs c.self.inside.last c.reserve-2.new.self.items) (sym c.reserve.ensures.items)
+        (subst (λ bs. AreFound c.self.inside.codes.items c.self.inside.last bs) (sym c.reserve-2.ensures.items) c.self.invariant)
+
+    known : c.last_of-was.result ≡ last_place c.args.code c.reserve.new.self.items
+    known = cc
+
+    placed : (q : ℕ) → get nat_cmp c.insert.new.self q ≡ cond (is_at (nat_cmp c.args.code) q) (Some (length c.reserve.new.self.items)) (get nat_cmp c.self.inside.last q)
+    placed q = c.in_ok-insert.ensures.updates.0 q ∙ ap (λ n. cond (is_at (nat_cmp c.args.code) q) (Some n) (get nat_cmp c.self.inside.last q)) same
+      where
+        same : c.len-place.result ≡ length c.reserve.new.self.items
+        same = c.len-place.ensures ∙ ap (λ l. length l) (sym c.self.view_is ∙ sym c.reserve.ensures.items)

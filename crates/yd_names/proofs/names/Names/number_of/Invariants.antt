@@ -1,0 +1,9 @@
+use Rattle.yd_names.proofs.NamesLemmas.{bound_of}
+use Rattle.yd_names.proofs.FindingLemmas.{NameLookedFor}
+use Rattle.yd_names.proofs.names.Names.number_of.Given as goal
+
+abbrev pub invariant-loop-next : goal.invariant-loop-next
+invariant-loop-next l = NameLookedFor l.self-inside.names.items l.name l.next
+
+abbrev pub decreases-loop-next : goal.decreases-loop-next
+decreases-loop-next l = bound_of l.next

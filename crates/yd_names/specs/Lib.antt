@@ -1,0 +1,3 @@
+pub mod Codes
+pub mod Coding
+pub mod Names

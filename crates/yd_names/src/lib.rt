@@ -1,0 +1,22 @@
+//! The names of the lists of a document, each with a number, and found in the time of a look-up.
+//!
+//! [`Names`] are seen as their list: the number of a name is its place. A name is found by its code,
+//! and so are all names of one parent, in time with the logarithm of how many there are.
+//! [`is_same_list`] and [`is_same_parent`] say
+//! when two names are one, and when two parents are. A call that finds no memory changes nothing.
+//!
+//! ```rust
+//! let mut names = Names::new(alloc);
+//! names.push(list)?;
+//! let number = names.number_of(&other);
+//! ```
+#![tactic(auto)]
+
+mod codes;
+mod coding;
+mod names;
+mod same;
+
+pub use names::Names;
+pub use same::{is_same_list, is_same_parent};
+pub use yd_ops::NoMemory;
