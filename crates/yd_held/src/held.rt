@@ -1,9 +1,10 @@
 //! What is held, as one value.
 
-ghost use Rattle.std.specs.Prelude.{◌≡◌, ◌↔◌, [], IsTrue, OnOk, OnErr, IfOk};
+ghost use Rattle.std.specs.Prelude.{◌≡◌, ◌≢◌, ◌↔◌, [], ℕ, Some, IsTrue, IfSome, IfNone, OnOk, OnErr, IfOk, slice_get};
 ghost use Rattle.yd_ops.specs.Valid.{IsValidUpdate};
 ghost use Rattle.yd_ops.specs.View.{update_value};
 ghost use Rattle.yd_updates.specs.Received.{with_groups, groups_of};
+ghost use Rattle.yd_names.specs.Names.{IsOf, IsLastOf, top_of};
 ghost use Rattle.yd_received.specs.Received.{taken_of};
 ghost use Rattle.yd_received.specs.Taking.{BringsOperation};
 ghost use Rattle.yd_held.specs.Changing.{TellsChanges, back_to};
@@ -16,7 +17,7 @@ use std::alloc::Global;
 use std::marker::Model;
 use yd_ids::Vector;
 use yd_names::Names;
-use yd_ops::Update;
+use yd_ops::{List, Parent, Update};
 use yd_received::Received;
 
 /// What was received, and what is held of it: each unit that has all that it needs.
@@ -85,11 +86,30 @@ impl Held {
     }
 
     /// The names of the lists with units that stand, by number.
-    pub fn names(&self) -> &Names
+    pub fn names(&self) -> &[List]
         ensures names { result.now ≡ self.now.names }
         ensures holds { HoldsAll self.now }
     {
-        &self.parts.names
+        self.parts.names.as_slice()
+    }
+
+    /// The number of the list with a name, and none where no unit stood in it. It takes time with the
+    /// logarithm of how many lists there are.
+    pub fn number_of(&self, list: &List) -> Option<usize>
+        ensures there { IfSome result (λ n. slice_get self.now.names n ≡ Some list.now) }
+        ensures none { IfNone result ((n : ℕ) → slice_get self.now.names n ≢ Some list.now) }
+        ensures holds { HoldsAll self.now }
+    {
+        self.parts.names.number_of(list)
+    }
+
+    /// The number of the last of a parent's lists, or of the last one before another of them, in the
+    /// time of such a look-up.
+    pub fn last_of(&self, parent: &Parent, before: Option<usize>) -> Option<usize>
+        requires { IfSome before (λ n. IsOf self.now.names parent.now n) }
+        ensures { IsLastOf self.now.names parent.now (top_of self.now.names before) result }
+    {
+        self.parts.names.last_of(parent, before)
     }
 
     /// Takes in the operations of an update, and holds what can be held then. What lacks something

@@ -2,7 +2,7 @@
 //!
 //! Taking an update in gives exactly the held set that `yd_meaning` defines, and tells what of it is
 //! lost, however the operations came ([`Held::take`]). It keeps the clock that each client has
-//! reached, and numbers the lists by their names ([`Names`]). What waits is noted by what it
+//! reached, and numbers the lists by their names ([`Held::number_of`]). What waits is noted by what it
 //! lacks, and tried again when that is held. A call that finds no memory has changed nothing.
 //!
 //! ```rust
@@ -27,4 +27,3 @@ pub use fault::NoMemory;
 pub use held::{Held, Taken};
 pub use noting::Lack;
 pub use parts::{Before, Kept};
-pub use yd_names::Names;

@@ -14,8 +14,8 @@ use crate::fault::NoMemory;
 use crate::finding::{find, first_of};
 use crate::step::Step;
 use std::alloc::Global;
-use yd_held::is_same_list;
 use yd_ids::{Client, Id, is_same};
+use yd_names::is_same_list;
 use yd_ops::List;
 
 impl<'a> Basis<'a> {

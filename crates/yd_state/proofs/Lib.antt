@@ -3,7 +3,6 @@ pub mod AmongLemmas
 pub mod BringsLemmas
 pub mod CountLemmas
 pub mod FateLemmas
-pub mod FoundLemmas
 pub mod GatheringLemmas
 pub mod LastLemmas
 pub mod LastViewLemmas

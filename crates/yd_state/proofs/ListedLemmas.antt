@@ -22,7 +22,7 @@ orders_each stands [] (order ∷ orders) are = absurd are
 orders_each stands (name ∷ names) [] are = absurd are
 orders_each stands (name ∷ names) (order ∷ orders) are = ap suc (orders_each stands names orders are.1)
 
-no_id : (xs : List Id) → ((x : Id) → IsIn x xs → ⊥) → [] ≡ xs
+pub no_id : (xs : List Id) → ((x : Id) → IsIn x xs → ⊥) → [] ≡ xs
 no_id [] none = refl
 no_id (x ∷ xs) none = absurd (none x (inl refl))
 

@@ -14,7 +14,7 @@ use Rattle.yd_state.specs.State.{StateValue, listed_of, document_in, IsSound}
 use Rattle.std.specs.Global.{Vec}
 use Rattle.std.proofs.lemmas.List.{length-map}
 use Rattle.yd_state.specs.Ordered.{order_lists}
-use Rattle.yd_state.proofs.ListedLemmas.{each_ordered, in_list, order_found}
+use Rattle.yd_state.proofs.ListedLemmas.{no_id, each_ordered, in_list, order_found}
 use Rattle.yd_state.proofs.MadeOrderLemmas.{ordered_at}
 use Rattle.yd_state.proofs.NumberLemmas.{stands_table, stands_written, id_listed}
 
@@ -56,3 +56,10 @@ order_there s sound vecs e n d less name named =
 -- as many orders as names
 pub orders_many : (s : StateValue) → IsSound s → (vecs : List (Vec Id)) → order_lists vecs ≡ s.orders → length vecs ≡ length s.held.names
 orders_many s sound vecs e = sym (length-map vecs (λ (order : Vec Id). order.items)) ∙ ap length e ∙ each_ordered s sound no_name
+
+-- a list of no name among these has no unit
+pub order_nowhere : (s : StateValue) → IsSound s → (name : DocList) → ((n : ℕ) → slice_get s.held.names n ≡ Some name → ⊥) → [] ≡ order_of (listed_of s) name
+order_nowhere s sound name none = no_id (order_of (listed_of s) name) (λ x i.
+    let (has, is) = (in_order_of (listed_of s) (stands_table s.held sound.holds) name x).0 i in
+    let (n, there, span) = id_listed s.held sound.holds x has in
+    none n (there ∙ ap (λ l. Some l) is))

@@ -12,7 +12,6 @@
 
 mod deleting;
 mod fault;
-mod finding;
 mod last;
 mod listing;
 mod lost;

@@ -16,7 +16,6 @@ ghost use Rattle.yd_state.specs.Brings.{BringsSomething};
 ghost use Rattle.yd_state.specs.Lent.{lent_units, units_left, last_unit};
 
 use crate::fault::NoMemory;
-use crate::finding::order_in;
 use crate::listing::ListView;
 use crate::naming::named_by;
 use crate::novelty::brings_deletion;
@@ -140,7 +139,7 @@ impl State {
     }
 
     /// The units of a list in order, deleted ones too; lost ones are in no list. It takes time with the
-    /// number of lists, since it looks for the name from the front, and copies no unit.
+    /// logarithm of how many lists there are, and copies no unit.
     pub fn list(&self, list: &List) -> ListView<'_>
         ensures units { units_left result ≡ lent_units (document_in self.now) list.now }
         ensures received { (o : Operation) → IsIn o ((document_in self.now).units list.now)
@@ -155,7 +154,7 @@ impl State {
     }
 
     /// The id of the unit that stands last in a list, deleted or not, and none where the list has no
-    /// unit. It takes time with the number of lists.
+    /// unit. It takes time with the logarithm of how many lists there are.
     pub fn last_of(&self, list: &List) -> Option<Id>
         ensures { result ≡ last_unit (document_in self.now) list.now }
     {
@@ -181,6 +180,9 @@ impl State {
         ensures order { result.now ≡ order_of (listed_of self.now) list.now }
         ensures sound { IsSound self.now }
     {
-        order_in(self.held.names(), &self.orders, list)
+        match self.held.number_of(list) {
+            Some(number) => &self.orders[number],
+            None => &[],
+        }
     }
 }

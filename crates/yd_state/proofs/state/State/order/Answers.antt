@@ -1,34 +1,31 @@
-use Rattle.std.proofs.Common.{length, sym, ap, ◌∙◌}
-use Rattle.std.specs.Global.{Vec}
-use Rattle.std.proofs.lemmas.List.{length-map}
-use Rattle.yd_ids.specs.declared.id.Id.{Id}
-use Rattle.yd_meaning.specs.Order.{order_of}
-use Rattle.yd_state.specs.Ordered.{order_lists, order_named}
-use Rattle.yd_state.specs.State.{StateValue, listed_of}
-use Rattle.yd_state.proofs.ListedLemmas.{each_ordered, order_found}
+use Rattle.std.proofs.Common.{◌≡◌, ◌∙◌, Some, sym, ap, subst, arith}
+use Rattle.std.specs.Prelude.{slice_get}
+use Rattle.std.proofs.lemmas.Option.{slice_get_within}
+use Rattle.yd_state.specs.State.{StateValue, IsSound}
+use Rattle.yd_state.proofs.NamesLemmas.{order_there, orders_many, order_nowhere}
 use Rattle.yd_state.proofs.state.State.order.Goals as goal
 
-pub order_in-requires : goal.order_in-requires
-order_in-requires c =
-    ap length c.deref.ensures.value ∙ sym (length-map c.self.inside.orders.items (λ (order : Vec Id). order.items))
-    ∙ each_ordered (record {
-      held = c.self.inside.held;
-      named = c.self.inside.named;
-      orders = order_lists c.self.inside.orders.items;
-      deletes =
-          c.self.inside.deletes;
-    }) c.self.invariant c.args.list.now
-    ∙ sym (ap length c.names.ensures.names)
+pub index-requires : goal.index-requires
+index-requires c =
+    let sound : IsSound c.args.self.now = subst IsSound c.self.view_is c.self.invariant in
+    let many = orders_many c.args.self.now sound c.self.inside.orders.items (ap (λ (s : StateValue). s.orders) c.self.view_is) in
+    let there : slice_get c.args.self.now.held.names c.in-Some.number ≡ Some c.args.list.now =
+    ap (λ (s : StateValue). slice_get s.held.names c.in-Some.number) (sym c.self.view_is) ∙ c.in-Some.ensures.there in
+    let less = slice_get_within c.args.self.now.held.names c.in-Some.number c.args.list.now there in
+    omega (arith, many, less)
 
-pub returns-clause-order : goal.returns-clause-order
-returns-clause-order c =
-    c.order_in.ensures ∙ ap (λ ns. order_named ns (order_lists c.deref.result.now) c.args.list.now) c.names.ensures.names
-    ∙ ap (λ os. order_named c.self.inside.held.names (order_lists os) c.args.list.now) c.deref.ensures.value
-    ∙ order_found (record {
-      held = c.self.inside.held;
-      named = c.self.inside.named;
-      orders = order_lists c.self.inside.orders.items;
-      deletes =
-          c.self.inside.deletes;
-    }) c.self.invariant c.args.list.now
-    ∙ ap (λ (s : StateValue). order_of (listed_of s) c.args.list.now) c.self.view_is
+pub returns-in-Some-clause-order : goal.returns-in-Some-clause-order
+returns-in-Some-clause-order c =
+    let sound : IsSound c.args.self.now = subst IsSound c.self.view_is c.self.invariant in
+    let orders = ap (λ (s : StateValue). s.orders) c.self.view_is in
+    let many = orders_many c.args.self.now sound c.self.inside.orders.items orders in
+    let there : slice_get c.args.self.now.held.names c.in-Some.number ≡ Some c.args.list.now =
+    ap (λ (s : StateValue). slice_get s.held.names c.in-Some.number) (sym c.self.view_is) ∙ c.in-Some.ensures.there in
+    let less = slice_get_within c.args.self.now.held.names c.in-Some.number c.args.list.now there in
+    c.deref.ensures.value ∙ ap (λ v. v.items) c.index.ensures
+    ∙ order_there c.args.self.now sound c.self.inside.orders.items orders c.in-Some.number c.index.result.now (omega (arith, many, less)) c.args.list.now there
+
+pub returns-in-None-clause-order : goal.returns-in-None-clause-order
+returns-in-None-clause-order c =
+    let sound : IsSound c.args.self.now = subst IsSound c.self.view_is c.self.invariant in
+    order_nowhere c.args.self.now sound c.args.list.now (λ n e. c.in-None.ensures.none n (ap (λ (s : StateValue). slice_get s.held.names n) c.self.view_is ∙ e))
