@@ -46,12 +46,12 @@ key_ascends k (l ∷ ls) a = go (slice_cmp nat_cmp k l) refl (key_ascends k ls a
 
 names_ascend : (d : Document) (p : Parent) (names : List DocList) (ks : List (List ℕ)) → KeysAscend ks → KeysAscend (with_names d p names ks)
 names_ascend d p [] ks a = a
-names_ascend d p (name ∷ names) ks a = names_ascend d p names (with_name d p name ks) (go (is_used d p name) name.key)
+names_ascend d p (name ∷ names) ks a = go (is_used d p name) name.key (with_names d p names ks) (names_ascend d p names ks a)
   where
-    go : (t : Bool) (key : Option (List ℕ)) → KeysAscend (if t then with_key_of key ks else ks)
-    go false key = a
-    go true None = a
-    go true (Some k) = key_ascends k ks a
+    go : (t : Bool) (key : Option (List ℕ)) (ls : List (List ℕ)) → KeysAscend ls → KeysAscend (if t then with_key_of key ls else ls)
+    go false key ls b = b
+    go true None ls b = b
+    go true (Some k) ls b = key_ascends k ls b
 
 -- a key is not among keys above it
 not_above : (k : List ℕ) (ls : List (List ℕ)) → KeysAbove k ls → is_among k ls ≡ false
@@ -170,9 +170,8 @@ key_from m k (l ∷ ls) e = go (slice_cmp nat_cmp k l) (λ f. key_from m k ls f)
     ]
 
 -- the keys so far stay
-names_stay : (d : Document) (p : Parent) (m : List ℕ) (names : List DocList) (ks : List (List ℕ)) → is_among m ks ≡ true → is_among m (with_names d p names ks) ≡ true
-names_stay d p m [] ks e = e
-names_stay d p m (name ∷ names) ks e = names_stay d p m names (with_name d p name ks) (go (is_used d p name) name.key)
+name_stays : (d : Document) (p : Parent) (m : List ℕ) (name : DocList) (ks : List (List ℕ)) → is_among m ks ≡ true → is_among m (with_name d p name ks) ≡ true
+name_stays d p m name ks e = go (is_used d p name) name.key
   where
     go : (t : Bool) (key : Option (List ℕ)) → is_among m (if t then with_key_of key ks else ks) ≡ true
     go false key = e
@@ -183,7 +182,8 @@ names_stay d p m (name ∷ names) ks e = names_stay d p m names (with_name d p n
 names_there : (d : Document) (p : Parent) (k : List ℕ) (o : Operation) → IsIn o (d.units (key_list p k)) → (names : List DocList) (n : ℕ) → slice_get names n ≡ Some (key_list p k) → (ks : List (List ℕ)) →
     is_among k (with_names d p names ks) ≡ true
 names_there d p k o i [] n e ks = absurd cc
-names_there d p k o i (name ∷ names) zero e ks = names_stay d p k names (with_name d p name ks) (subst (λ l. is_among k (with_name d p l ks) ≡ true) (sym same) (used (d.units (key_list p k)) i (same_parent p p) (same_parent_itself p)))
+names_there d p k o i (name ∷ names) zero e ks = subst (λ l. is_among k (with_name d p l (with_names d p names ks)) ≡ true) (sym same)
+    (used (d.units (key_list p k)) i (same_parent p p) (same_parent_itself p) (with_names d p names ks))
   where
     one : Some name ≡ Some (key_list p k) → name ≡ key_list p k
     one f = cc
@@ -191,27 +191,27 @@ names_there d p k o i (name ∷ names) zero e ks = names_stay d p k names (with_
     same : name ≡ key_list p k
     same = one e
 
-    used : (os : List Operation) → IsIn o os → (t : Bool) → t ≡ true → is_among k (if t && has_some os then with_key k ks else ks) ≡ true
-    used [] i t e = absurd i
-    used (q ∷ os) i true e = key_there k ks
-    used (q ∷ os) i false e = absurd (true≢false (sym e))
-names_there d p k o i (name ∷ names) (suc n) e ks = names_there d p k o i names n e (with_name d p name ks)
+    used : (os : List Operation) → IsIn o os → (t : Bool) → t ≡ true → (ls : List (List ℕ)) → is_among k (if t && has_some os then with_key k ls else ls) ≡ true
+    used [] i t e ls = absurd i
+    used (q ∷ os) i true e ls = key_there k ls
+    used (q ∷ os) i false e ls = absurd (true≢false (sym e))
+names_there d p k o i (name ∷ names) (suc n) e ks = name_stays d p k name (with_names d p names ks) (names_there d p k o i names n e ks)
 
 -- a key that is there was there, or is that of a list that has a unit
 names_from : (d : Document) (p : Parent) (k : List ℕ) (names : List DocList) (ks : List (List ℕ)) → is_among k (with_names d p names ks) ≡ true →
     (is_among k ks ≡ true) ⊎ ((o : Operation) × IsIn o (d.units (key_list p k)))
 names_from d p k [] ks e = inl e
-names_from d p k (name ∷ names) ks e = elim (names_from d p k names (with_name d p name ks) e) [
-  | inl f ↦ go (same_parent name.parent p) refl (d.units name) refl name.key refl f
+names_from d p k (name ∷ names) ks e = elim (go (with_names d p names ks) (same_parent name.parent p) refl (d.units name) refl name.key refl e) [
+  | inl f ↦ names_from d p k names ks f
   | inr unit ↦ inr unit
 ]
   where
-    go : (t : Bool) → same_parent name.parent p ≡ t → (os : List Operation) → d.units name ≡ os → (key : Option (List ℕ)) → name.key ≡ key →
-        is_among k (if t && has_some os then with_key_of key ks else ks) ≡ true → (is_among k ks ≡ true) ⊎ ((o : Operation) × IsIn o (d.units (key_list p k)))
-    go false e os f key g h = inl h
-    go true e [] f key g h = inl h
-    go true e (q ∷ os) f None g h = inl h
-    go true e (q ∷ os) f (Some l) g h = elim (key_from k l ks h) [
+    go : (ls : List (List ℕ)) (t : Bool) → same_parent name.parent p ≡ t → (os : List Operation) → d.units name ≡ os → (key : Option (List ℕ)) → name.key ≡ key →
+        is_among k (if t && has_some os then with_key_of key ls else ls) ≡ true → (is_among k ls ≡ true) ⊎ ((o : Operation) × IsIn o (d.units (key_list p k)))
+    go ls false e os f key g h = inl h
+    go ls true e [] f key g h = inl h
+    go ls true e (q ∷ os) f None g h = inl h
+    go ls true e (q ∷ os) f (Some l) g h = elim (key_from k l ls h) [
       | inl same ↦ inr (q, subst (λ n. IsIn q (d.units n)) (one_list name (key_list p k) (same_parent_is name.parent p e) (g ∙ ap (λ m. Some m) (sym same))) (subst (IsIn q) (sym f) (inl refl)))
       | inr there ↦ inl there
     ]

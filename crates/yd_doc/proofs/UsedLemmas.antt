@@ -1,7 +1,7 @@
 -- Whether a list is one of a parent's and has a unit.
-use Rattle.std.proofs.Common.{◌≡◌, ℕ, suc, ◌+◌, ◌<◌, Bool, true, false, ◌&&◌, List, [], ◌∷◌, ◌++◌, Option, Some, None, map, length, take, drop, refl, sym, ap, ◌∙◌, arith, length-append, length-drop, get_or}
-use Rattle.std.specs.Prelude.{IfSome, IfNone, is_some, if◌then◌else◌}
-use Rattle.std.proofs.lemmas.List.{length-take-le, length-map, drop_more}
+use Rattle.std.proofs.Common.{◌≡◌, ◌≢◌, ℕ, zero, suc, ◌+◌, ◌-◌, ◌<◌, ◌≤◌, ◌⊎◌, inl, inr, Bool, true, false, ◌&&◌, List, [], ◌∷◌, ◌++◌, Option, Some, None, map, length, take, drop, refl, sym, ap, ◌∙◌, arith, length-append, length-drop}
+use Rattle.std.specs.Prelude.{slice_get, IfSome, IfNone, is_some, if◌then◌else◌}
+use Rattle.std.proofs.lemmas.List.{length-take-le, length-map}
 use Rattle.yd_ids.specs.declared.id.Id.{Id}
 use Rattle.yd_ops.specs.declared.lists.List.{List as DocList}
 use Rattle.yd_ops.specs.declared.lists.Parent.{Parent}
@@ -12,7 +12,11 @@ use Rattle.yd_meaning.specs.Names.{same_parent}
 use Rattle.yd_meaning.specs.Document.{Document, with_key_of}
 use Rattle.yd_state.specs.declared.listing.RunView.{RunView}
 use Rattle.yd_state.specs.Lent.{Lent, lent, lent_from, lent_units, units_of_view, IsWithin}
-use Rattle.yd_doc.specs.Keys.{has_some, is_used, with_names}
+use Rattle.yd_words.proofs.OptionLemmas.{some_is}
+use Rattle.yd_meaning.specs.ListNames.{same_parent_is}
+use Rattle.yd_names.specs.Names.{IsOf, IsLastOf}
+use Rattle.std.proofs.lemmas.Option.{slice_get_within}
+use Rattle.yd_doc.specs.Keys.{has_some, is_used, with_name, with_names}
 
 -- a piece of one unit lends one
 one_lent : (view : RunView) → IsWithin view → view.len ≡ 1 → length (units_of_view view) ≡ 1
@@ -48,10 +52,80 @@ used_then d p name (Some view) left same lends none (front, e) one within = sym 
 pub used_else : (d : Document) (p : Parent) (name : DocList) (same : Bool) → same ≡ same_parent name.parent p → same ≡ false → same ≡ is_used d p name
 used_else d p name same e none = none ∙ sym (ap (λ t. t && has_some (d.units name)) (sym e ∙ none))
 
--- one name more
-pub found_next : (d : Document) (p : Parent) (names : List DocList) (n : ℕ) (e : DocList) (used : Bool) (old new : List (List ℕ)) → n < length names →
-    used ≡ is_used d p (get_or names n e) → new ≡ (if used then with_key_of (get_or names n e).key old else old) →
-    with_names d p (drop (n + 1) names) new ≡ with_names d p (drop n names) old
-found_next d p names n e used old new less same made =
-    ap (with_names d p (drop (n + 1) names)) (made ∙ ap (λ t. if t then with_key_of (get_or names n e).key old else old) same)
-    ∙ sym (ap (λ ns. with_names d p ns old) (drop_more names n e less))
+-- ---- the lists of a parent, from the last one on
+
+-- how many of the names are not looked at yet
+abbrev pub left_of : Option ℕ → ℕ
+left_of None = 0
+left_of (Some n) = suc n
+
+-- the names are as before where none of them is of the parent
+no_more : (d : Document) (p : Parent) (names : List DocList) (more n : ℕ) →
+    ((m : ℕ) (list : DocList) → n ≤ m → m < n + more → slice_get names m ≡ Some list → list.parent ≢ p) →
+    with_names d p (drop n names) [] ≡ with_names d p (drop (n + more) names) []
+no_more d p names zero n none = ap (λ k. with_names d p (drop k names) []) (omega arith)
+no_more d p names (suc more) n none = one_less names n (λ list e. none n list (omega arith) (omega arith) e)
+    ∙ no_more d p names more (suc n) (λ m list from below e. none m list (omega arith) (omega arith) e)
+    ∙ ap (λ k. with_names d p (drop k names) []) (omega arith)
+  where
+    one_less : (names : List DocList) (n : ℕ) → ((list : DocList) → slice_get names n ≡ Some list → list.parent ≢ p) →
+        with_names d p (drop n names) [] ≡ with_names d p (drop (suc n) names) []
+    one_less [] zero none = refl
+    one_less [] (suc n) none = refl
+    one_less (name ∷ names) zero none = ap (λ t. if t && has_some (d.units name) then with_key_of name.key (with_names d p names []) else with_names d p names []) other
+      where
+        other : same_parent name.parent p ≡ false
+        other = elim (tested (same_parent name.parent p)) [ inl e ↦ absurd (none name refl (same_parent_is name.parent p e)) | inr e ↦ e ]
+          where
+            tested : (b : Bool) → (b ≡ true) ⊎ (b ≡ false)
+            tested true = inl refl
+            tested false = inr refl
+    one_less (name ∷ names) (suc n) none = one_less names n none
+
+-- the next one is the last of the parent's below a number, so those between add no key
+pub goes_down : (d : Document) (p : Parent) (names : List DocList) (top : ℕ) (next : Option ℕ) → top ≤ length names → IsLastOf names p top next →
+    with_names d p (drop (left_of next) names) [] ≡ with_names d p (drop top names) []
+goes_down d p names top None le last = no_more d p names top 0 (λ m list from below e. last m list (omega arith) e)
+    ∙ ap (λ k. with_names d p (drop k names) []) (omega arith)
+goes_down d p names top (Some n) le last = let lt : n < top = last.1 in
+    no_more d p names (top - suc n) (suc n) (λ m list from below e. last.2 m list (omega arith) (omega arith) e)
+    ∙ ap (λ k. with_names d p (drop k names) []) (omega arith)
+
+-- with the key of the list with a number, it is one name more
+pub found_next : (d : Document) (p : Parent) (names : List DocList) (n : ℕ) (name : DocList) (old new : List (List ℕ)) → slice_get names n ≡ Some name →
+    new ≡ with_name d p name old → old ≡ with_names d p (drop (suc n) names) [] → new ≡ with_names d p (drop n names) []
+found_next d p names n name old new there made was = made ∙ ap (with_name d p name) was ∙ go names n there
+  where
+    go : (names : List DocList) (n : ℕ) → slice_get names n ≡ Some name → with_name d p name (with_names d p (drop (suc n) names) []) ≡ with_names d p (drop n names) []
+    go [] n e = absurd cc
+    go (other ∷ names) zero e = ap (λ l. with_name d p l (with_names d p names [])) (sym (some_is other name e))
+    go (other ∷ names) (suc n) e = go names n e
+
+is_own : (p : Parent) (names : List DocList) (top : ℕ) (next : Option ℕ) → IsLastOf names p top next → IfSome next (IsOf names p)
+is_own p names top None last = tt
+is_own p names top (Some n) last = last.0
+
+drop_all : (names : List DocList) → drop (length names) names ≡ []
+drop_all [] = refl
+drop_all (name ∷ names) = drop_all names
+
+-- before any is looked at there is no key
+pub walk_begins : (d : Document) (p : Parent) (names : List DocList) (next : Option ℕ) → IsLastOf names p (length names) next →
+    IfSome next (IsOf names p) × ([] ≡ with_names d p (drop (left_of next) names) [])
+walk_begins d p names next last = (
+  is_own p names (length names) next last,
+  sym (goes_down d p names (length names) next (omega arith) last ∙ ap (λ ns. with_names d p ns []) (drop_all names)),
+)
+
+-- with the keys from a number on, the next one is the last before it
+pub walk_goes_on : (d : Document) (p : Parent) (names : List DocList) (n : ℕ) (next : Option ℕ) (keys : List (List ℕ)) → IsOf names p n → IsLastOf names p n next →
+    keys ≡ with_names d p (drop n names) [] → IfSome next (IsOf names p) × (keys ≡ with_names d p (drop (left_of next) names) [])
+walk_goes_on d p names n next keys own last e = let less = slice_get_within names n own.list own.there in (
+  is_own p names n next last,
+  e ∙ sym (goes_down d p names n next (omega (arith, less)) last),
+)
+
+-- the next one has a smaller number
+pub walk_descends : (p : Parent) (names : List DocList) (n : ℕ) (next : Option ℕ) → IsLastOf names p n next → left_of next < suc n
+walk_descends p names n None last = omega arith
+walk_descends p names n (Some m) last = let lt : m < n = last.1 in omega arith

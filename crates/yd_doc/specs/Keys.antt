@@ -18,7 +18,7 @@ is_used document parent name = same_parent name.parent parent && has_some (docum
 abbrev pub with_name : Document → Parent → DocList → List (List ℕ) → List (List ℕ)
 with_name document parent name keys = if is_used document parent name then with_key_of name.key keys else keys
 
--- the keys, with those of lists, one after another
+-- the keys, with those of lists, from the last one on
 abbrev pub with_names : Document → Parent → List DocList → List (List ℕ) → List (List ℕ)
 with_names document parent [] keys = keys
-with_names document parent (name ∷ names) keys = with_names document parent names (with_name document parent name keys)
+with_names document parent (name ∷ names) keys = with_name document parent name (with_names document parent names keys)

@@ -1,34 +1,33 @@
-use Rattle.std.proofs.Common.{◌≡◌, ◌<◌, get_or, length, map, string_bytes, sym, ap, ◌∙◌, subst}
-use Rattle.std.specs.Prelude.{if◌then◌else◌}
-use Rattle.std.proofs.lemmas.Option.{slice_get-get_or}
-use Rattle.yd_meaning.specs.Document.{with_key_of}
+use Rattle.std.proofs.Common.{◌≡◌, ◌∙◌, ◌<◌, [], IfSome, length, map, drop, string_bytes, sym, ap, subst}
+use Rattle.std.proofs.lemmas.Option.{slice_get_within}
+use Rattle.yd_names.specs.Names.{IsOf, IsLastOf}
 use Rattle.yd_doc.specs.Kept.{Kept, own_document}
-use Rattle.yd_doc.specs.Keys.{is_used}
-use Rattle.yd_state.proofs.NamesLemmas.{no_name}
-use Rattle.yd_doc.proofs.UsedLemmas.{found_next}
-use Rattle.yd_doc.proofs.replica.Replica.keys_found.Goals.{then-is_used+in_ok-add_key, else-is_used}
+use Rattle.yd_doc.specs.Keys.{with_name, with_names}
+use Rattle.yd_doc.proofs.UsedLemmas.{left_of, walk_begins, walk_goes_on, walk_descends, found_next}
 use Rattle.yd_doc.proofs.replica.Replica.keys_found.Goals as goal
 
-pub loop-n-preserved : goal.loop-n-preserved
-loop-n-preserved c =
-    let names = c.names-names.result.now in
-    let d = own_document c.args.self.now in
-    let names_are : names ≡ c.args.self.now.state.held.names = c.names-names.ensures.names ∙ ap (λ (r : Kept). r.state.held.names) c.self.view_is in
-    let old = map string_bytes c.loop-n.found.keys in
-    let less : c.loop-n.n < length names = c.loop-n-test.true in
-    elim c.if-is_used.branch [
-      | then-is_used+in_ok-add_key w ↦
-          let there = slice_get-get_or c.args.self.now.state.held.names c.loop-n.n w.index-names-n.result (subst (λ ns. c.loop-n.n < length ns) names_are less) in
-          found_next d c.args.parent.now names c.loop-n.n w.index-names-n.result c.is_used.result old (map string_bytes c.if-is_used.found.keys) less
-          ((rw there at c.is_used.ensures) ∙ ap (λ ns. is_used d c.args.parent.now (get_or ns c.loop-n.n w.index-names-n.result)) (sym names_are))
-          (ap (λ f. map string_bytes f.keys) w.found-is ∙ w.in_ok-add_key.ensures
-          ∙ sym (ap (λ t. if t then with_key_of (get_or names c.loop-n.n w.index-names-n.result).key old else old) w.if-is_used.true))
-          ∙ c.loop-n.invariant
-      | else-is_used w ↦
-          let there = slice_get-get_or c.args.self.now.state.held.names c.loop-n.n no_name (subst (λ ns. c.loop-n.n < length ns) names_are less) in
-          found_next d c.args.parent.now names c.loop-n.n no_name c.is_used.result old (map string_bytes c.if-is_used.found.keys) less
-          ((rw there at c.is_used.ensures) ∙ ap (λ ns. is_used d c.args.parent.now (get_or ns c.loop-n.n no_name)) (sym names_are))
-          (ap (λ f. map string_bytes f.keys) w.found-is
-          ∙ sym (ap (λ t. if t then with_key_of (get_or names c.loop-n.n no_name).key old else old) w.if-is_used.false))
-          ∙ c.loop-n.invariant
-    ]
+pub loop-next-init : goal.loop-next-init
+loop-next-init c =
+    let begins = walk_begins (own_document c.args.self.now) c.args.parent.now c.args.self.now.state.held.names c.last_list_of-next.result
+    (subst (λ (r : Kept). IsLastOf r.state.held.names c.args.parent.now (length r.state.held.names) c.last_list_of-next.result) c.self.view_is c.last_list_of-next.ensures) in
+    (begins.0, ap (map string_bytes) c.new-found.ensures.empty ∙ begins.1)
+
+pub loop-next-preserved : goal.loop-next-preserved
+loop-next-preserved c =
+    let names = c.args.self.now.state.held.names in
+    let now = subst (λ next. IfSome next (λ n. IsOf names c.args.parent.now n) × (map string_bytes c.loop-next.found.keys
+    ≡ with_names (own_document c.args.self.now) c.args.parent.now (drop (left_of next) names) [])) c.in-Some.is c.loop-next.invariant in
+    walk_goes_on (own_document c.args.self.now) c.args.parent.now names c.in-Some.n c.last_list_of-next-in-Some.result (map string_bytes c.add_used.new.found.keys) now.0
+    (subst (λ (r : Kept). IsLastOf r.state.held.names c.args.parent.now c.in-Some.n c.last_list_of-next-in-Some.result) c.self.view_is c.last_list_of-next-in-Some.ensures)
+    (found_next (own_document c.args.self.now) c.args.parent.now names c.in-Some.n now.0.list (map string_bytes c.loop-next.found.keys) (map string_bytes c.add_used.new.found.keys)
+    now.0.there (subst (λ name. IfSome name (λ name. map string_bytes c.add_used.new.found.keys
+    ≡ with_name (own_document c.args.self.now) c.args.parent.now name (map string_bytes c.loop-next.found.keys))) now.0.there c.in_ok-add_used.ensures) now.1)
+
+pub loop-next-smaller : goal.loop-next-smaller
+loop-next-smaller c = subst (λ next. left_of c.last_list_of-next-in-Some.result < left_of next) (sym c.in-Some.is)
+    (walk_descends c.args.parent.now c.self.inside.state.held.names c.in-Some.n c.last_list_of-next-in-Some.result c.last_list_of-next-in-Some.ensures)
+
+pub add_used-requires : goal.add_used-requires
+add_used-requires c =
+    let own : IsOf c.args.self.now.state.held.names c.args.parent.now c.in-Some.n = subst (λ next. IfSome next (λ n. IsOf c.args.self.now.state.held.names c.args.parent.now n)) c.in-Some.is c.loop-next.invariant.0 in
+    slice_get_within c.args.self.now.state.held.names c.in-Some.n own.list own.there

@@ -1,4 +1,4 @@
-use Rattle.std.proofs.Common.{length, ap, ◌∙◌, arith}
+use Rattle.std.proofs.Common.{length, ap, arith}
 use Rattle.yd_doc.specs.Counted.{counted_ids}
 use Rattle.yd_doc.specs.Kept.{own_document}
 use Rattle.yd_state.specs.Lent.{units_left, units_of_view}

@@ -1,4 +1,4 @@
-use Rattle.std.proofs.Common.{length, sym, ap, ◌∙◌, ◌-◌, arith}
+use Rattle.std.proofs.Common.{sym, ap, ◌∙◌, ◌-◌, arith}
 use Rattle.std.specs.Prelude.{slice_get}
 use Rattle.yd_doc.specs.Counted.{counted_ids}
 use Rattle.yd_doc.specs.Kept.{own_document}
