@@ -170,7 +170,7 @@ impl Replica {
     }
 
     /// The units of a list in order, deleted ones too; lost ones are in no list. It takes time with the
-    /// number of lists, since it looks for the name from the front, and copies no unit.
+    /// logarithm of how many lists there are, and copies no unit.
     pub fn list(&self, list: &List) -> ListView<'_>
         ensures units { units_left result ≡ lent_units (own_document self.now) list.now }
         ensures received { (o : Operation) → IsIn o ((own_document self.now).units list.now)
@@ -181,7 +181,7 @@ impl Replica {
     }
 
     /// The id of the unit that stands last in a list, deleted or not, and none where the list has no
-    /// unit. It takes time with the number of lists, as `list` does.
+    /// unit. It takes time with the logarithm of how many lists there are, as `list` does.
     pub fn last_of(&self, list: &List) -> Option<Id>
         ensures { result ≡ last_unit (own_document self.now) list.now }
     {

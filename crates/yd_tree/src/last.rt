@@ -21,8 +21,8 @@ pub(crate) struct LastUnit {
     pub shown: bool,
 }
 
-/// The unit that stands last in a list, if it has any. It takes time with the number of lists, as
-/// `Replica::list` does, and a few look-ups by bisection.
+/// The unit that stands last in a list, if it has any. It takes a look-up of the list, as
+/// `Replica::list` does, and a few by bisection.
 pub(crate) fn last_in(replica: &Replica, list: &List) -> Option<LastUnit>
     ensures last { result ≡ option_map (told_of (own_document replica.now))
         (last_unit ((own_document replica.now).units list.now)) }

@@ -91,8 +91,7 @@ pub fn map_remove(
 }
 
 /// The id of the value of a key, by the key's list: the unit that stands last there, where it is live
-/// and no mark (Yjs 13, get of a map). It takes time with the number of lists, and a few look-ups by
-/// bisection.
+/// and no mark (Yjs 13, get of a map). It takes a look-up of the list, and a few by bisection.
 pub fn value_in(replica: &Replica, list: &List) -> Option<Id>
     ensures unit { result ≡ id_of_unit (if_shown (own_document replica.now).deleted
         (last_unit ((own_document replica.now).units list.now))) }
