@@ -3,9 +3,11 @@ pub mod KeepingLemmas
 pub mod AddingLemmas
 pub mod IntegratingLemmas
 pub mod DeletingLemmas
-pub mod EmptyingLemmas
 pub mod LoweringLemmas
+pub mod HalvesLemmas
 pub mod LoweredLemmas
+pub mod TearingLemmas
+pub mod FreedLemmas
 pub mod TakingLemmas
 pub mod TakenLemmas
 pub mod BackLemmas

@@ -189,7 +189,7 @@ from_among id left right list [] o h = absurd h
 from_among id left right list (u ∷ us) o (inl e) = subst (λ (x : Id). IsAmong id (suc (length us)) x) (sym (ap (λ (p : Operation). p.id) e)) (record { client = refl; low = omega arith; high = omega arith })
 from_among id left right list (u ∷ us) o (inr h) = later_among id o.id (length us) (from_among (later_id id 1) (Some id) right None us o h)
 
-gone_among : (id : Id) (n : ℕ) (o : Operation) → IsIn o (gone_from id n) → IsAmong id n o.id
+pub gone_among : (id : Id) (n : ℕ) (o : Operation) → IsIn o (gone_from id n) → IsAmong id n o.id
 gone_among id zero o h = absurd h
 gone_among id (suc n) o (inl e) = subst (λ (x : Id). IsAmong id (suc n) x) (sym (ap (λ (p : Operation). p.id) e)) (record { client = refl; low = omega arith; high = omega arith })
 gone_among id (suc n) o (inr h) = later_among id o.id n (gone_among (later_id id 1) n o h)
@@ -214,17 +214,17 @@ in_span_or span id = elim (eq_says span.client.0 id.client.0) [
   ]
 ]
 
-lowered_inside : (span : Span) (level : ℕ) (o : Operation) → InSpan span o.id → lowered_in span level o ≡ lowered_to level o
+pub lowered_inside : (span : Span) (level : ℕ) (o : Operation) → InSpan span o.id → lowered_in span level o ≡ lowered_to level o
 lowered_inside span level o s = elim (in_span_or span o.id) [ inl x ↦ rw x.0 refl | inr x ↦ absurd (x.1 s) ]
 
-lowered_outside : (span : Span) (level : ℕ) (o : Operation) → (InSpan span o.id → ⊥) → lowered_in span level o ≡ o
+pub lowered_outside : (span : Span) (level : ℕ) (o : Operation) → (InSpan span o.id → ⊥) → lowered_in span level o ≡ o
 lowered_outside span level o out = elim (in_span_or span o.id) [ inl x ↦ absurd (out x.1) | inr x ↦ rw x.0 refl ]
 
 map_same : (f g : Operation → Operation) (os : List Operation) → ((o : Operation) → IsIn o os → f o ≡ g o) → map f os ≡ map g os
 map_same f g [] same = refl
 map_same f g (o ∷ os) same = ap₂ (λ x xs. x ∷ xs) (same o (inl refl)) (map_same f g os (λ p h. same p (inr h)))
 
-map_none : (f : Operation → Operation) (os : List Operation) → ((o : Operation) → IsIn o os → f o ≡ o) → map f os ≡ os
+pub map_none : (f : Operation → Operation) (os : List Operation) → ((o : Operation) → IsIn o os → f o ≡ o) → map f os ≡ os
 map_none f [] same = refl
 map_none f (o ∷ os) same = ap₂ (λ x xs. x ∷ xs) (same o (inl refl)) (map_none f os (λ p h. same p (inr h)))
 

@@ -1,6 +1,6 @@
 -- The parts of a store stay of the same runs, where a run is cut and where one is added.
 use Rattle.std.proofs.Common.{◌≡◌, ◌≢◌, ℕ, zero, suc, Bool, false, map, ◌+◌, ◌-◌, ◌<◌, ◌⊎◌, inl, inr, List, [], ◌∷◌, ◌++◌, Option, Some, None, length, get_or, set, take, refl, sym, ap, ap₂, ◌∙◌, subst, arith}
-use Rattle.std.proofs.lemmas.List.{map-append, length-map, take_at, get_or_append_left, get_or_at, length-append, length-set, get_or-set_same, get_or-set_other}
+use Rattle.std.proofs.lemmas.List.{map-append, map-set, length-map, take_at, get_or_append_left, get_or_at, length-append, length-set, get_or-set_same, get_or-set_other}
 use Rattle.std.specs.Prelude.{IfSome}
 use Rattle.yd_ids.specs.declared.id.Id.{Id}
 use Rattle.yd_ids.specs.declared.id.Client.{Client}
@@ -270,6 +270,10 @@ run_added old mid new marks midm more contents midc grown list run kept len coun
 }
 
 -- ---- what is read at a place
+
+-- what the places tell where one is told no more
+pub told_empty : (old new : Contented) (place : ℕ) → new.rows ≡ set old.rows place None → told_of new ≡ set (told_of old) place None
+told_empty old new place rows = ap (λ (rs : List (Option Run)). map told rs) rows ∙ map-set told old.rows place None
 
 pub told_at : (items : List (Option Run)) (place : ℕ) (d : Option Run) → place < length items → d ≡ get_or items place d → told d ≡ run_at (map told items) place
 told_at [] place d lt e = absurd (omega (arith, lt))

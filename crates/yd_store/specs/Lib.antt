@@ -3,7 +3,7 @@ pub mod Store
 pub mod Units
 pub mod Integrating
 pub mod Deleting
-pub mod Emptying
+pub mod Halves
 pub mod Lowering
 pub mod Taking
 pub mod Law

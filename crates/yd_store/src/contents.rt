@@ -1,18 +1,20 @@
 //! What the runs of a store hold.
 
-ghost use Rattle.std.specs.Prelude.{◌≡◌, ◌<◌, ◌≤◌, ◌+◌, ◌++◌, ◌∷◌, [], None, slice_set, length, OnOk, OnErr, IsOk, option_copied};
+ghost use Rattle.std.specs.Prelude.{◌≡◌, ◌<◌, ◌≤◌, ◌+◌, ◌++◌, ◌∷◌, [], None, slice_set, length, IfOk, OnOk, OnErr, IsOk, option_copied};
 ghost use Rattle.yd_arena.specs.Arena.{runs_of, next_clock};
 ghost use Rattle.yd_marks.specs.Marks.{IsBorder};
 ghost use Rattle.yd_store.specs.Contents.{told, told_of, run_at, CanCut, CutsTold, KeepsTold};
 ghost use Rattle.yd_store.specs.Lowering.{told_down, LowersSpan};
+ghost use Rattle.yd_store.specs.Halves.{told_as};
 
-use crate::cutting::{cut_told, drop_told, push_told};
+use crate::cutting::{cut_told, drop_told, push_told, put_text};
 use crate::level::{Level, lower_told};
 use std::alloc::{AllocError, Global};
 use std::marker::Model;
 use yd_arena::{Arena, Beside};
 use yd_ids::{Id, Span};
-use yd_ops::Run;
+use yd_ops::{NoMemory, Run};
+use yd_units::Units;
 
 /// The run of each place, where it is told. A gone one has none.
 ///
@@ -112,6 +114,26 @@ impl Contents {
             clock += len;
             left -= len;
         }
+    }
+
+    /// U+FFFD, in memory of its own.
+    pub fn replacement(&self) -> Result<Units, NoMemory>
+        ensures { IfOk result (λ units. units ≡ 0xFFFD ∷ []) }
+    {
+        let mut units = Vec::new(*self.runs.allocator());
+        units.push(0xFFFD)?;
+        Ok(Units::of_units(units))
+    }
+
+    /// Lets the run at a place hold a text, if it is told. It takes no memory.
+    pub fn put_text(&mut self, place: usize, units: Units)
+        requires { place < length self.old.rows }
+        ensures told { told_of self.new ≡ slice_set (told_of self.old) place
+            (told_as units (run_at (told_of self.old) place)) }
+        ensures len { length self.new.rows ≡ length self.old.rows }
+        ensures room { self.new.room ≡ self.old.room }
+    {
+        put_text(&mut self.runs, place, units);
     }
 
     /// Tells the run at a place down to a level.

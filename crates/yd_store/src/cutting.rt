@@ -6,10 +6,12 @@ ghost use Rattle.yd_ops.specs.Value.{len_of};
 ghost use Rattle.yd_ops.specs.Cutting.{run_before, run_behind};
 ghost use Rattle.yd_ops.specs.View.{content_value, run_value};
 ghost use Rattle.yd_store.specs.Contents.{told, run_at, told_before, told_behind, cut_runs, CanBeCut};
+ghost use Rattle.yd_store.specs.Halves.{told_as};
 
 use std::alloc::AllocError;
 use yd_ids::Id;
-use yd_ops::{NoMemory, Run};
+use yd_ops::{Content, NoMemory, Run};
+use yd_units::Units;
 
 /// Puts what a place tells at the end, where there is memory for it.
 pub fn push_told(runs: &mut Vec<Option<Run>>, run: Option<Run>)
@@ -27,6 +29,26 @@ pub fn drop_told(runs: &mut Vec<Option<Run>>, place: usize)
     ensures memory { vec_capacity runs.new ≡ vec_capacity runs.old }
 {
     runs[place] = None;
+}
+
+/// Lets a run that is told hold a text.
+fn put_text_in(slot: &mut Option<Run>, units: Units)
+    ensures { told slot.new ≡ told_as units (told slot.old) }
+{
+    if let Some(run) = slot {
+        run.content = Content::Str(units);
+    }
+}
+
+/// The same of the run at a place.
+pub fn put_text(runs: &mut Vec<Option<Run>>, place: usize, units: Units)
+    requires { place < length runs.old.items }
+    ensures items { map told runs.new.items ≡ slice_set (map told runs.old.items) place
+        (told_as units (run_at (map told runs.old.items) place)) }
+    ensures memory { vec_capacity runs.new ≡ vec_capacity runs.old }
+    ensures len { length runs.new.items ≡ length runs.old.items }
+{
+    put_text_in(&mut runs[place], units);
 }
 
 /// Leaves the first units of a run in it, and answers the others as a run, as `Run::cut` does.

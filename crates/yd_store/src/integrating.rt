@@ -84,7 +84,7 @@ impl Store {
     }
 
     /// The same of its end, where it is held.
-    fn part_behind(&mut self, id: Id) -> Result<(), NoMemory>
+    pub(crate) fn part_behind(&mut self, id: Id) -> Result<(), NoMemory>
         requires { id.clock < next_clock self.old.placed id.client.0 }
         ensures border { OnOk result (IsBorderBehind self.new id) }
         ensures units { KeepsUnits self.old self.new }

@@ -20,6 +20,7 @@ mod counted;
 mod cutting;
 mod deleting;
 mod fault;
+mod halves;
 mod integrating;
 pub mod law;
 mod level;

@@ -11,16 +11,16 @@ ghost use Rattle.yd_arena.specs.Lists.{AreLists, IsLoose};
 ghost use Rattle.yd_arena.specs.Arena.{runs_of, count_of, places_in, next_clock, HasUnit, IsArena};
 ghost use Rattle.yd_marks.specs.Marks.{mark_at, IsBorder, MarksSpan};
 ghost use Rattle.yd_store.specs.Contents.{told, told_of, run_at};
-ghost use Rattle.yd_store.specs.Store.{spare_of, stretch_of, gone_stretch, AreTold, IsKept, KeepsRuns, SplitsAt, StandsIn, AddsRun, AddsOutside};
-ghost use Rattle.yd_store.specs.Units.{KeepsUnits, AddsUnits, AddsApart};
-ghost use Rattle.yd_store.specs.Emptying.{EmptiesRun};
-ghost use Rattle.yd_store.specs.Lowering.{LowersSpan};
+ghost use Rattle.yd_store.specs.Store.{spare_of, AreTold, IsKept, KeepsRuns, SplitsAt, StandsIn, AddsRun};
+ghost use Rattle.yd_store.specs.Units.{KeepsUnits, AddsUnits};
 ghost use Rattle.yd_store.specs.Taking.{TakesBack, AreDead};
+
+mod outside;
+mod telling;
 
 use crate::contents::Contents;
 use crate::counted::counts;
 use crate::fault::Unplaced;
-use crate::level::Level;
 use crate::parts::{add_list_parts, reserve_parts, seek};
 use crate::rights::{kept_right, stands_in};
 use std::alloc::Global;
@@ -305,91 +305,6 @@ impl Store {
         Ok(place)
     }
 
-    /// Adds units of which only the ids are known, the next ones of their client, in no list. They
-    /// are deleted. The place of their run is answered. While the client has spare, this takes no
-    /// memory.
-    pub fn add_gone(&mut self, span: Span) -> Result<usize, NoMemory>
-        requires next { span.clock ≡ next_clock self.old.placed span.client.0 }
-        requires filled { 0 < span.len }
-        requires fits { IsClock (span.clock + span.len) }
-        ensures place { IfOk result (λ place. place ≡ length (runs_of self.old.placed)) }
-        ensures done { OnOk result (AddsOutside self.old self.new (gone_stretch span) None) }
-        ensures units { OnOk result (AddsApart self.old self.new (gone_stretch span) None) }
-        ensures unchanged { OnErr result (IsKept self.old self.new) }
-        ensures spares { (client : ℕ) → spare_of self.old client ≤ spare_of self.new client + 1 }
-        ensures succeeds { 0 < spare_of self.old span.client.0 → IsOk result }
-    {
-        reserve_parts(
-            &mut self.arena,
-            &mut self.marks,
-            &mut self.contents,
-            span.client,
-            1,
-        )?;
-        let place = self.arena.add_loose(Stretch {
-            id: Id {
-                client: span.client,
-                clock: span.clock,
-            },
-            len: span.len,
-            left: None,
-            right: None,
-        });
-        self.marks.add(None, span.len, OUTSIDE);
-        self.contents.add(None);
-        Ok(place)
-    }
-
-    /// Adds the next run of its client in no list, as one whose units are lost. They are deleted.
-    /// Its place is answered. While the client has spare, this takes no memory; where it finds
-    /// none, the run comes back, and nothing has changed.
-    pub fn add_lost(&mut self, run: Run) -> Result<usize, Unplaced>
-        requires next { run.id.clock ≡ next_clock self.old.placed run.id.client.0 }
-        requires filled { 0 < len_of (content_value run.content) }
-        requires fits { IsClock (run.id.clock + len_of (content_value run.content)) }
-        ensures place { IfOk result (λ place. place ≡ length (runs_of self.old.placed)) }
-        ensures done { OnOk result (AddsOutside self.old self.new
-            (stretch_of (run_value run) None) (Some (run_value run))) }
-        ensures units { OnOk result (AddsApart self.old self.new
-            (stretch_of (run_value run) None) (Some (run_value run))) }
-        ensures value_returned { IfErr result (λ fault. run_value fault.0 ≡ run_value run) }
-        ensures unchanged { OnErr result (IsKept self.old self.new) }
-        ensures spares { (client : ℕ) → spare_of self.old client ≤ spare_of self.new client + 1 }
-        ensures succeeds { 0 < spare_of self.old run.id.client.0 → IsOk result }
-    {
-        let room = reserve_parts(
-            &mut self.arena,
-            &mut self.marks,
-            &mut self.contents,
-            run.id.client,
-            1,
-        );
-        if room.is_err() {
-            return Err(Unplaced(run));
-        }
-        let len = run.len();
-        let place = self.arena.add_loose(Stretch {
-            id: run.id,
-            len,
-            left: run.left,
-            right: None,
-        });
-        self.marks.add(None, len, OUTSIDE);
-        self.contents.add(Some(run));
-        Ok(place)
-    }
-
-    /// Lets a run that is in no list be gone: of its units the ids alone are told from here on. Lists,
-    /// index and marks are as before. It takes no memory.
-    pub fn empty_run(&mut self, place: usize)
-        requires place { place < length (runs_of self.old.placed) }
-        requires loose { IsLoose self.old.placed.linked place }
-        ensures emptied { EmptiesRun self.old self.new place }
-        ensures spare { (client : ℕ) → spare_of self.new client ≡ spare_of self.old client }
-    {
-        self.contents.empty(place);
-    }
-
     /// Marks the units of a span as deleted, run by run. The span is held, and parts no run: see
     /// `split`. What was marked stays so, and nothing else is marked. It takes no memory.
     pub fn mark_deleted(&mut self, span: Span)
@@ -403,22 +318,6 @@ impl Store {
         ensures spare { (client : ℕ) → spare_of self.new client ≡ spare_of self.old client }
     {
         self.marks.mark_deleted(&self.arena, span);
-    }
-
-    /// Tells the units of a span down to a level, run by run, where it parts no run. It takes no
-    /// memory.
-    pub(crate) fn lower_runs(&mut self, span: Span, level: Level)
-        requires held { span.clock + span.len ≤ next_clock self.old.placed span.client.0 }
-        requires front { IsBorder (runs_of self.old.placed) span.client.0 span.clock }
-        requires back { IsBorder (runs_of self.old.placed) span.client.0 (span.clock + span.len) }
-        ensures told { AreTold (runs_of self.old.placed) (told_of self.old.contents) }
-        ensures lowered { LowersSpan (runs_of self.old.placed) level
-            (told_of self.old.contents) (told_of self.new.contents) span }
-        ensures placed { self.new.placed ≡ self.old.placed }
-        ensures marks { self.new.marks ≡ self.old.marks }
-        ensures spare { (client : ℕ) → spare_of self.new client ≡ spare_of self.old client }
-    {
-        self.contents.lower(&self.arena, span, level);
     }
 
     /// Takes the last run of a client out, where its runs from a clock on are marked as deleted.
@@ -440,9 +339,3 @@ impl Store {
         self.arena.next_clock(client)
     }
 }
-
-/// The mark of units in no list.
-const OUTSIDE: Mark = Mark {
-    deleted: true,
-    counted: false,
-};

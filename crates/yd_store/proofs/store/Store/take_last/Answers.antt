@@ -4,7 +4,7 @@ use Rattle.yd_arena.specs.Arena.{next_clock}
 use Rattle.yd_store.specs.Contents.{told}
 use Rattle.yd_store.specs.Store.{Stored}
 use Rattle.yd_store.specs.Taking.{TakesBack}
-use Rattle.yd_store.proofs.EmptyingLemmas.{told_empty}
+use Rattle.yd_store.proofs.StoreLemmas.{told_empty}
 use Rattle.yd_store.proofs.TakingLemmas.{takes_back}
 use Rattle.yd_store.proofs.TakenLemmas.{begins_above, store_taken, still_dead}
 use Rattle.yd_store.proofs.store.Store.take_last.Goals as goal
