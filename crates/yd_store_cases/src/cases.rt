@@ -2,7 +2,7 @@
 
 use crate::step::Case;
 use crate::step::Step::{
-    self, Add, Back, Delete, Deleted, Empty, EmptyLost, Gone, Lost, Lower, Mark, Put, Split,
+    self, Add, Back, Delete, Deleted, EmptyLost, Gone, Lost, Lower, Mark, Put, Split,
 };
 
 /// Three runs at the front: `B` and `A` have no origins, and `C` stands before `B`.
@@ -148,23 +148,17 @@ pub const CUTS: [Case; 19] = [
         ],
         ids: &[(2, 0), (2, 1), (2, 2), (2, 3)],
     },
-    Case {
-        name: "lost units are gone",
-        steps: &[
-            A_BY_1,
-            Lost((2, 0), "xyz"),
-            Split((2, 1)),
-            Empty((2, 1)),
-            Empty((1, 0)),
-        ],
-        ids: &[(1, 0), (2, 0), (2, 1), (2, 2), (2, 3)],
-    },
     case!(
         "units between are known by their neighbours",
         A_BY_1,
         Deleted((1, 1), Some((1, 0)), 2),
         Put(0, (1, 3), Some((1, 2)), None, "c"),
         Delete((1, 2), 1),
+    ),
+    case!(
+        "a pair is split, and its halves stay",
+        Put(0, (1, 0), None, None, "a😀b"),
+        Split((1, 2)),
     ),
     case!(
         "a run is added in room that was taken",
@@ -175,7 +169,7 @@ pub const CUTS: [Case; 19] = [
 ];
 
 /// The cases in which units are told less, or are taken out again.
-pub const LOSSES: [Case; 7] = [
+pub const LOSSES: [Case; 16] = [
     case!(
         "a span within a run is spelled deleted",
         Put(0, (1, 0), None, None, "abcdef"),
@@ -197,6 +191,54 @@ pub const LOSSES: [Case; 7] = [
             EmptyLost((2, 1), 2),
         ],
         ids: &[(1, 0), (2, 0), (2, 1), (2, 2), (2, 3)],
+    },
+    case!(
+        "a half before what is spelled deleted is torn",
+        Put(0, (1, 0), None, None, "a😀b"),
+        Lower((1, 2), 1),
+    ),
+    case!(
+        "a half behind what is spelled deleted is torn",
+        Put(0, (1, 0), None, None, "a😀b"),
+        Lower((1, 0), 2),
+    ),
+    case!(
+        "halves at both ends are torn",
+        Put(0, (1, 0), None, None, "😀😀"),
+        Lower((1, 1), 2),
+    ),
+    case!(
+        "a pair that is spelled deleted is whole",
+        Put(0, (1, 0), None, None, "😀😀"),
+        Lower((1, 2), 2),
+    ),
+    case!(
+        "a half in a run of its own is torn",
+        Put(0, (1, 0), None, None, "😀"),
+        Split((1, 1)),
+        Lower((1, 1), 1),
+    ),
+    case!(
+        "a half beside a unit that is no partner stays",
+        Put(0, (1, 0), None, None, "a😀"),
+        Back((1, 2)),
+        Put(0, (1, 2), Some((1, 1)), None, "b"),
+        Lower((1, 2), 1),
+    ),
+    case!(
+        "no half is torn where no unit is spelled deleted",
+        Put(0, (1, 0), None, None, "😀"),
+        Lower((1, 1), 0),
+    ),
+    Case {
+        name: "a half before lost units that are gone is torn",
+        steps: &[A_BY_1, Lost((2, 0), "x😀y"), EmptyLost((2, 2), 2)],
+        ids: &[(2, 0), (2, 1), (2, 2), (2, 3)],
+    },
+    Case {
+        name: "a half behind lost units that are gone is torn",
+        steps: &[A_BY_1, Lost((2, 0), "x😀y"), EmptyLost((2, 1), 1)],
+        ids: &[(2, 0), (2, 1), (2, 2), (2, 3)],
     },
     Case {
         name: "a run is taken out, and what it parted stays so",

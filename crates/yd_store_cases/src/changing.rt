@@ -33,10 +33,6 @@ pub fn change(alloc: Global, store: &mut Store, step: Step) -> Result<(), NoMemo
             let content = Content::Str(Units::from_text(alloc, text)?);
             add_first(store, id_of(at), content)
         }
-        Step::Empty(at) => {
-            empty(store, id_of(at));
-            Ok(())
-        }
         Step::Split(at) => split(store, id_of(at)),
         Step::Delete(at, len) => delete(store, span_of(at, len)),
         Step::Mark(at, len) => mark(store, span_of(at, len)),
@@ -137,19 +133,6 @@ fn add_first(store: &mut Store, id: Id, content: Content) -> Result<(), NoMemory
     match store.add_run(run, 0, None) {
         Ok(_) => Ok(()),
         Err(_) => Err(NoMemory),
-    }
-}
-
-/// Lets the run with an id be gone, if it is in no list.
-fn empty(store: &mut Store, id: Id)
-    ensures { count_of store.new.placed ≡ count_of store.old.placed }
-{
-    let Some(found) = store.find(id) else {
-        return;
-    };
-    let list = store.list_of(found.place);
-    if list.is_none() {
-        store.empty_run(found.place);
     }
 }
 

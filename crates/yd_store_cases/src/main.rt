@@ -1,7 +1,7 @@
 //! What a store makes of worked cases, a line for each case: its first list, and then its second one,
 //! where that is not empty. Runs are parted by `|`, deleted units stand in brackets, and `-` is a unit
-//! of which only its neighbours are known. Behind them stands how many units are live, and of some
-//! ids what the store tells. The stored output was worked out by hand, from Yjs's own rule.
+//! of which only its neighbours are known. `<` and `>` are the halves of a pair, and `#` is U+FFFD.
+//! Behind them stands how many units are live, and of some ids what the store tells. The stored output was worked out by hand, from Yjs's own rule.
 //!
 //! A change that finds no memory is made once more, and then `again` is said on err. Where a list, the
 //! next clocks or a mark is not as before it, the status is 6. Without memory for the rest it is 5.

@@ -16,8 +16,6 @@ pub enum Step {
     Lost(At, &'static str),
     /// A text without origins goes into the first list, in room that is taken before.
     Add(At, &'static str),
-    /// The run with this id, which is in no list, is told no more.
-    Empty(At),
     /// A run begins with this id.
     Split(At),
     /// So many units are deleted, from this id on.

@@ -8,6 +8,7 @@ use std::alloc::Global;
 use yd_ids::{Client, Id};
 use yd_ops::{Content, NoMemory};
 use yd_store::Store;
+use yd_units::Units;
 
 /// The runs of a list in order, and how many of its units are live.
 pub(crate) fn tell_list(
@@ -58,10 +59,10 @@ fn tell_run(store: &Store, place: usize, out: &mut Vec<u8>) -> Result<(), NoMemo
     requires { place < length (runs_of store.now.placed) }
 {
     let Some(run) = store.run_of(place) else {
-        return add(out, "?");
+        return add(out, "nothing");
     };
     match &run.content {
-        Content::Str(units) => units.write_text(out)?,
+        Content::Str(units) => tell_units(units, out)?,
         Content::Deleted(count) => {
             for _ in 0..*count {
                 out.push(b'-')?;
@@ -72,7 +73,23 @@ fn tell_run(store: &Store, place: usize, out: &mut Vec<u8>) -> Result<(), NoMemo
     Ok(())
 }
 
-/// What is told of an id: that it is not held, or whether it is deleted, and in which list it is.
+/// Units one by one, with a sign for each half of a pair.
+fn tell_units(units: &Units, out: &mut Vec<u8>) -> Result<(), NoMemory> {
+    for i in 0..units.len() {
+        let sign = match units.unit(i) {
+            Some(0xD800..=0xDBFF) => b'<',
+            Some(0xDC00..=0xDFFF) => b'>',
+            Some(0xFFFD) => b'#',
+            Some(unit) if unit < 0x80 => unit as u8,
+            _ => b'?',
+        };
+        out.push(sign)?;
+    }
+    Ok(())
+}
+
+/// What is told of an id: that it is not held, or whether it is deleted, and in which list it is, or
+/// what a run holds that is in none.
 pub(crate) fn tell_id(
     alloc: Global,
     store: &Store,
@@ -94,7 +111,10 @@ pub(crate) fn tell_id(
         add(out, " is deleted")?;
     }
     match store.list_of(found.place) {
-        None => add(out, " in no list"),
+        None => {
+            add(out, " in no list: ")?;
+            tell_run(store, found.place, out)
+        }
         Some(list) => add(out, format!(in alloc; " in {list}")?.as_str()),
     }
 }
