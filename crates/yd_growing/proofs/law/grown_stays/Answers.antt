@@ -1,0 +1,5 @@
+use Rattle.yd_growing.proofs.FrontLemmas.{stays_grown}
+use Rattle.yd_growing.proofs.law.grown_stays.Goals as goal
+
+pub returns : goal.returns
+returns c = stays_grown

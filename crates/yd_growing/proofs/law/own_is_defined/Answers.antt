@@ -1,0 +1,5 @@
+use Rattle.yd_growing.proofs.DocumentLemmas.{own_is_defined}
+use Rattle.yd_growing.proofs.law.own_is_defined.Goals as goal
+
+pub returns : goal.returns
+returns c = own_is_defined

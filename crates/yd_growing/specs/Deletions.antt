@@ -1,0 +1,29 @@
+-- Which ids a replica deletes by the order that its own lists have (own; the rules are those of Yjs 13).
+use Rattle.std.specs.Prelude.{◌≡◌, ◌≢◌, Bool, true, List, Some}
+use Rattle.yd_words.specs.Member.{IsIn}
+use Rattle.yd_ids.specs.declared.id.Id.{Id}
+use Rattle.yd_ops.specs.declared.lists.List.{List as DocList}
+use Rattle.yd_ops.specs.Operation.{Operation}
+use Rattle.yd_origins.specs.Deleted.{last_of}
+use Rattle.yd_updates.specs.Received.{has_operation}
+use Rattle.yd_meaning.specs.Names.{has_key, item_of_list}
+use Rattle.yd_meaning.specs.Held.{is_lost}
+use Rattle.yd_meaning.specs.Order.{AreHonest}
+use Rattle.yd_meaning.specs.Deleted.{is_deleted}
+
+-- an id is due to be deleted: it is held and named; it is lost; it stands in a list with a key, and not last; or the item of
+-- its list is deleted
+pub data IsDue (lists : DocList → List Id) (held : List Operation) (named deleted : Id → Bool) : Id → Type 0 where
+  due_by_name : {x : Id} → has_operation held x ≡ true → named x ≡ true → IsDue lists held named deleted x
+  due_by_loss : {x : Id} → is_lost held x ≡ true → IsDue lists held named deleted x
+  due_by_key : {x : Id} → (list : DocList) → IsIn x (lists list) → has_key list ≡ true → last_of (lists list) ≢ Some x → IsDue lists held named deleted x
+  due_by_item : {x y : Id} → (list : DocList) → IsIn x (lists list) → item_of_list list ≡ Some y → deleted y ≡ true → IsDue lists held named deleted x
+
+-- all that is due is deleted, and nothing that is not held
+pub record AreClosed (lists : DocList → List Id) (held : List Operation) (named deleted : Id → Bool) : Type 0 where
+  pub due : (x : Id) → IsDue lists held named deleted x → deleted x ≡ true
+  pub only_held : (x : Id) → deleted x ≡ true → has_operation held x ≡ true
+
+-- where the edit rules are kept, the definitions delete what is deleted
+abbrev pub AreSound : List Operation → (Id → Bool) → (Id → Bool) → Type 0
+AreSound held named deleted = AreHonest held → (x : Id) → deleted x ≡ true → is_deleted held named x ≡ true

@@ -1,0 +1,4 @@
+pub mod Deletions
+pub mod Grown
+pub mod Law
+pub mod Own

@@ -1,0 +1,38 @@
+//! The laws of grown documents, each the contract of an empty function.
+
+ghost use Rattle.yd_growing.specs.Law.{GrownIsOrder, GrowthGoesOn, GrownStays, ClosedIsDeleted, SoundStays, DueIsSound, OwnIsDefined};
+
+/// Where what is held keeps the edit rules, a whole list that grew by scans is the origin order.
+pub fn grown_is_order()
+    ensures { GrownIsOrder }
+{}
+
+/// What grew by scans and then grew further has grown by the scans of both.
+pub fn growth_goes_on()
+    ensures { GrowthGoesOn }
+{}
+
+/// A list that grew by scans did so still once more is held, where it got nothing or grew on.
+pub fn grown_stays()
+    ensures { GrownStays }
+{}
+
+/// Where lists are in the origin order, what is closed and sound is what the definitions delete.
+pub fn closed_is_deleted()
+    ensures { ClosedIsDeleted }
+{}
+
+/// What was deleted soundly is sound once more is held and more is named.
+pub fn sound_stays()
+    ensures { SoundStays }
+{}
+
+/// Where lists grew by scans, deleting what is due by their order is sound.
+pub fn due_is_sound()
+    ensures { DueIsSound }
+{}
+
+/// Where what is held keeps the edit rules, a replica's own document is the one that this defines.
+pub fn own_is_defined()
+    ensures { OwnIsDefined }
+{}
