@@ -4,3 +4,6 @@ pub mod DueLemmas
 pub mod FrontLemmas
 pub mod GrowthLemmas
 pub mod HonestLemmas
+pub mod CutLemmas
+pub mod PlacingLemmas
+pub mod RowLemmas

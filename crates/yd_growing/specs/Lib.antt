@@ -2,3 +2,5 @@ pub mod Deletions
 pub mod Grown
 pub mod Law
 pub mod Own
+pub mod Placing
+pub mod Rows

@@ -12,3 +12,4 @@
 #![tactic(auto)]
 
 pub mod law;
+pub mod placing;
