@@ -11,8 +11,10 @@ use Rattle.yd_meaning.specs.Order.{rows_of, order_of, AreHonest}
 use Rattle.yd_meaning.specs.Deleted.{is_deleted}
 use Rattle.yd_meaning.specs.Document.{Document, operations_at, document_with}
 use Rattle.yd_meaning.proofs.DocumentLemmas.{found_before}
+use Rattle.yd_meaning.proofs.HonestLemmas.{honest_set}
 use Rattle.yd_meaning.proofs.StandingTableLemmas.{standing_table}
 use Rattle.yd_meaning.proofs.VectorLemmas.{held_written}
+use Rattle.yd_growing.specs.Grown.{StandsHonest}
 use Rattle.yd_growing.specs.Own.{ids_in, IsOwnDocument}
 use Rattle.yd_growing.proofs.DueLemmas.{closed_is_deleted}
 use Rattle.yd_growing.proofs.HonestLemmas.{grown_is_order}
@@ -29,16 +31,22 @@ module _ (received : List Operation) (written : IsWritten received) (honest : Ar
   abbrev held : List Operation
   held = held_set received
 
+  is_written : IsWritten held
+  is_written = held_written received written
+
+  stands_honest : StandsHonest held
+  stands_honest = honest_set received written honest
+
   ordered : (list : DocList) → ids_in document list ≡ order_of (standing held) list
-  ordered list = grown_is_order received written honest list (ids_in document list) (own.lists.grown list)
+  ordered list = grown_is_order held is_written stands_honest list (ids_in document list) (own.lists.grown list)
       (λ x e of. (own.lists.each list x).1 (e, of))
 
   units_are : (list : DocList) → document.units list ≡ operations_at (standing held) (order_of (standing held) list)
-  units_are list = at_their_ids (standing held) (standing_table held (held_written received written)).distinct (document.units list) (own.lists.as_held list)
+  units_are list = at_their_ids (standing held) (standing_table held is_written).distinct (document.units list) (own.lists.as_held list)
       ∙ ap (operations_at (standing held)) (ordered list)
 
   deleted_are : (x : Id) → document.deleted x ≡ (has_operation held x && is_deleted held named x)
-  deleted_are = closed_is_deleted received written named (ids_in document) ordered document.deleted own.closed (own.sound honest)
+  deleted_are = closed_is_deleted held is_written named (ids_in document) ordered document.deleted own.closed (own.sound stands_honest)
 
   -- ---- lemmas for callers
 

@@ -1,6 +1,6 @@
 -- What is due by the order of grown lists, and what the definitions delete where the edit rules are kept.
 use Rattle.std.proofs.Common.{◌≡◌, ◌≢◌, Bool, true, false, ◌||◌, ◌&&◌, List, Some, inl, inr, refl, sym, ap, ◌∙◌, subst}
-use Rattle.std.proofs.lemmas.Bool.{cases_Bool, or_left}
+use Rattle.std.proofs.lemmas.Bool.{cases_Bool, or_left, or_right}
 use Rattle.yd_words.specs.Member.{IsIn}
 use Rattle.yd_words.proofs.TestLemmas.{both_hold, hold_both}
 use Rattle.yd_ids.specs.declared.id.Id.{Id}
@@ -11,17 +11,15 @@ use Rattle.yd_origins.specs.Table.{IsTable}
 use Rattle.yd_origins.specs.Deleted.{last_of, IsDeleted, by_name, by_key, by_item}
 use Rattle.yd_updates.specs.Received.{has_operation, IsWritten}
 use Rattle.yd_meaning.specs.Names.{has_key, item_of_list}
-use Rattle.yd_meaning.specs.Held.{held_set, standing, is_lost}
+use Rattle.yd_meaning.specs.Held.{standing, is_lost}
 use Rattle.yd_meaning.specs.Order.{rows_of, operation_set, list_of, order_of}
 use Rattle.yd_meaning.specs.Deleted.{is_deleted_among, is_deleted}
-use Rattle.yd_meaning.proofs.DeletedTestLemmas.{deleted_is, is_deleted-true}
+use Rattle.yd_meaning.proofs.DeletedLemmas.{deleted_among_is, deleted_among-true}
 use Rattle.yd_meaning.proofs.HeldListLemmas.{in_order_of}
 use Rattle.yd_meaning.proofs.NestingLemmas.{standing_item}
 use Rattle.yd_meaning.proofs.StandingTableLemmas.{standing_table}
-use Rattle.yd_meaning.proofs.VectorLemmas.{held_written}
-use Rattle.yd_growing.specs.Deletions.{IsDue, due_by_name, due_by_loss, due_by_key, due_by_item, AreClosed}
-use Rattle.yd_growing.specs.Law.{with_deleted}
-use Rattle.yd_growing.proofs.FrontLemmas.{stands_held}
+use Rattle.yd_growing.specs.Deletions.{IsDue, due_by_name, due_by_loss, due_by_key, due_by_item, AreClosed, with_deleted}
+use Rattle.yd_growing.proofs.StayingLemmas.{stands_held, lost_is, stands_not_lost}
 
 -- two tests of which each holds where the other does give one answer
 both_ways : (s t : Bool) → (s ≡ true → t ≡ true) → (t ≡ true → s ≡ true) → s ≡ t
@@ -29,25 +27,23 @@ both_ways true t f g = sym (f refl)
 both_ways false true f g = g refl
 both_ways false false f g = refl
 
-module _ (os : List Operation) (w : IsWritten os) (named : Id → Bool) where
-  abbrev held : List Operation
-  held = held_set os
-
-  written : IsWritten held
-  written = held_written os w
-
+module _ (held : List Operation) (written : IsWritten held) (named : Id → Bool) where
   abbrev stands : List Operation
   stands = standing held
 
   table : IsTable (rows_of stands)
   table = standing_table held written
 
-  lost_is : (x : Id) → has_operation held x ≡ true → has_operation stands x ≡ false → is_lost held x ≡ true
-  lost_is x e none = rw (e, none) refl
-
   -- what is lost is deleted
   lost_deleted : (x : Id) → is_lost held x ≡ true → is_deleted held named x ≡ true
   lost_deleted x e = or_left (is_lost held x) (is_deleted_among stands named x) e
+
+  -- of what stands the test tells what the laws of the order call deleted
+  is_deleted-true : (x : Id) → has_operation stands x ≡ true → IsDeleted (operation_set stands) named x → is_deleted held named x ≡ true
+  is_deleted-true x e by = or_right (is_lost held x) (is_deleted_among stands named x) (deleted_among-true held written named e by)
+
+  deleted_is : (x : Id) → has_operation stands x ≡ true → is_deleted held named x ≡ true → IsDeleted (operation_set stands) named x
+  deleted_is x e by = deleted_among_is held written named x (sym (ap (λ t. t || is_deleted_among stands named x) (stands_not_lost held x e)) ∙ by)
 
   module _ (lists : DocList → List Id) (ordered : (list : DocList) → lists list ≡ order_of stands list) where
     -- what is in a list stands, and is of that list
@@ -64,17 +60,17 @@ module _ (os : List Operation) (w : IsWritten os) (named : Id → Bool) where
       due_deleted : ((y : Id) → deleted y ≡ true → is_deleted held named y ≡ true) → (x : Id) → IsDue lists held named deleted x →
           is_deleted held named x ≡ true
       due_deleted sound x (due_by_name there by) = elim (cases_Bool (has_operation stands x)) [
-        | inl e ↦ is_deleted-true os w named x e (by_name by)
-        | inr none ↦ lost_deleted x (lost_is x there none)
+        | inl e ↦ is_deleted-true x e (by_name by)
+        | inr none ↦ lost_deleted x (lost_is held x there none)
       ]
       due_deleted sound x (due_by_loss lost) = lost_deleted x lost
-      due_deleted sound x (due_by_key list i key other) = let (e, of) = in_list list x i in is_deleted-true os w named x e (by_key (record {
+      due_deleted sound x (due_by_key list i key other) = let (e, of) = in_list list x i in is_deleted-true x e (by_key (record {
         keyed = ap has_key of ∙ key;
         not_last = subst (λ l. last_of (order_of stands l) ≢ Some x) (sym of) (subst (λ l. last_of l ≢ Some x) (ordered list) other);
       }))
       due_deleted sound x (due_by_item {y = y} list i item by) = let (e, of) = in_list list x i in
           let its : item_of_list (list_of stands x) ≡ Some y = ap item_of_list of ∙ item in
-          is_deleted-true os w named x e (by_item its (deleted_is os w named y (standing_item held written x y e its) (sound y by)))
+          is_deleted-true x e (by_item its (deleted_is y (standing_item held written x y e its) (sound y by)))
 
       -- ---- what is deleted is due
 
@@ -88,8 +84,8 @@ module _ (os : List Operation) (w : IsWritten os) (named : Id → Bool) where
 
         all_due : (x : Id) → has_operation held x ≡ true → is_deleted held named x ≡ true → deleted x ≡ true
         all_due x there e = elim (cases_Bool (has_operation stands x)) [
-          | inl up ↦ deleted_due up (deleted_is os w named x up e)
-          | inr none ↦ closed.due x (due_by_loss (lost_is x there none))
+          | inl up ↦ deleted_due up (deleted_is x up e)
+          | inr none ↦ closed.due x (due_by_loss (lost_is held x there none))
         ]
 
         -- ---- lemmas for callers

@@ -1,9 +1,11 @@
 pub mod AlikeLemmas
+pub mod CutLemmas
 pub mod DocumentLemmas
 pub mod DueLemmas
-pub mod FrontLemmas
 pub mod GrowthLemmas
+pub mod HeldLemmas
 pub mod HonestLemmas
-pub mod CutLemmas
+pub mod PartLemmas
 pub mod PlacingLemmas
 pub mod RowLemmas
+pub mod StayingLemmas

@@ -1,15 +1,16 @@
 -- Which ids a replica deletes by the order that its own lists have (own; the rules are those of Yjs 13).
-use Rattle.std.specs.Prelude.{◌≡◌, ◌≢◌, Bool, true, List, Some}
+use Rattle.std.specs.Prelude.{◌≡◌, ◌≢◌, Bool, true, ◌||◌, List, Some}
 use Rattle.yd_words.specs.Member.{IsIn}
 use Rattle.yd_ids.specs.declared.id.Id.{Id}
+use Rattle.yd_ids.specs.Ids.{is_same}
 use Rattle.yd_ops.specs.declared.lists.List.{List as DocList}
 use Rattle.yd_ops.specs.Operation.{Operation}
 use Rattle.yd_origins.specs.Deleted.{last_of}
 use Rattle.yd_updates.specs.Received.{has_operation}
 use Rattle.yd_meaning.specs.Names.{has_key, item_of_list}
 use Rattle.yd_meaning.specs.Held.{is_lost}
-use Rattle.yd_meaning.specs.Order.{AreHonest}
 use Rattle.yd_meaning.specs.Deleted.{is_deleted}
+use Rattle.yd_growing.specs.Grown.{StandsHonest}
 
 -- an id is due to be deleted: it is held and named; it is lost; it stands in a list with a key, and not last; or the item of
 -- its list is deleted
@@ -24,6 +25,10 @@ pub record AreClosed (lists : DocList → List Id) (held : List Operation) (name
   pub due : (x : Id) → IsDue lists held named deleted x → deleted x ≡ true
   pub only_held : (x : Id) → deleted x ≡ true → has_operation held x ≡ true
 
--- where the edit rules are kept, the definitions delete what is deleted
+-- where what stands keeps the edit rules, the definitions delete what is deleted
 abbrev pub AreSound : List Operation → (Id → Bool) → (Id → Bool) → Type 0
-AreSound held named deleted = AreHonest held → (x : Id) → deleted x ≡ true → is_deleted held named x ≡ true
+AreSound held named deleted = StandsHonest held → (x : Id) → deleted x ≡ true → is_deleted held named x ≡ true
+
+-- an id is deleted besides others
+abbrev pub with_deleted : (Id → Bool) → Id → Id → Bool
+with_deleted deleted x y = is_same x y || deleted y

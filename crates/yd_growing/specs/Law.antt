@@ -1,32 +1,32 @@
 -- The laws of grown documents, as statements.
-use Rattle.std.specs.Prelude.{◌≡◌, ◌||◌, ◌&&◌, Bool, true, List, []}
-use Rattle.yd_words.specs.Member.{IsIn}
+use Rattle.std.specs.Prelude.{◌≡◌, ◌&&◌, Bool, true, List, []}
 use Rattle.yd_ids.specs.declared.id.Id.{Id}
-use Rattle.yd_ids.specs.Ids.{is_same}
 use Rattle.yd_ops.specs.declared.lists.List.{List as DocList}
 use Rattle.yd_ops.specs.Operation.{Operation}
+use Rattle.yd_ops.specs.Valid.{IsValidUpdate}
+use Rattle.yd_ops.specs.Value.{UpdateValue}
 use Rattle.yd_origins.specs.Table.{OriginTable}
 use Rattle.yd_origins.specs.Growing.{GrowsByScan, IsClosed}
-use Rattle.yd_updates.specs.Received.{has_operation, IsWritten}
+use Rattle.yd_updates.specs.Received.{has_operation, IsWritten, Received, received_after}
+use Rattle.yd_updates.specs.Law.{IsReceived}
 use Rattle.yd_meaning.specs.Held.{held_set, standing}
-use Rattle.yd_meaning.specs.Order.{list_of, order_of, AreHonest}
+use Rattle.yd_meaning.specs.Order.{order_of, AreHonest}
 use Rattle.yd_meaning.specs.Deleted.{is_deleted}
 use Rattle.yd_meaning.specs.Document.{Document, document_with}
 use Rattle.yd_meaning.specs.Law.{IsPartOf}
-use Rattle.yd_growing.specs.Grown.{table_in, IsGrown}
-use Rattle.yd_growing.specs.Deletions.{IsDue, AreClosed, AreSound}
+use Rattle.yd_growing.specs.Grown.{table_in, IsGrown, IsWhole, StandsHonest}
+use Rattle.yd_growing.specs.Staying.{StaysHeld}
+use Rattle.yd_growing.specs.Deletions.{IsDue, AreClosed, AreSound, with_deleted}
 use Rattle.yd_growing.specs.Own.{IsOwnDocument}
 
 -- ---- lists
 
--- each id that stands and is of the list is there
-abbrev pub IsWhole : List Operation → DocList → List Id → Type 0
-IsWhole stands list ids = (x : Id) → has_operation stands x ≡ true → list_of stands x ≡ list → IsIn x ids
-
--- where what is held keeps the edit rules, a list that grew by scans and is whole is the origin order
-abbrev pub GrownIsOrder : Type 0
-GrownIsOrder = (received : List Operation) → IsWritten received → AreHonest (held_set received) → (list : DocList) (ids : List Id) →
-    IsGrown (standing (held_set received)) list ids → IsWhole (standing (held_set received)) list ids → ids ≡ order_of (standing (held_set received)) list
+-- where what stands keeps the edit rules, a list that grew by scans and is whole is the origin order; and so it is where the
+-- held operations keep them
+pub record GrownIsOrder : Type 0 where
+  pub order : (held : List Operation) → IsWritten held → StandsHonest held → (list : DocList) (ids : List Id) →
+      IsGrown (standing held) list ids → IsWhole (standing held) list ids → ids ≡ order_of (standing held) list
+  pub honest : (received : List Operation) → IsWritten received → AreHonest (held_set received) → StandsHonest (held_set received)
 
 -- what grew and then grew further has grown by the scans of both, in every table; and what grew has its rows alone, and of
 -- each its left, its right and the smaller clocks of its client
@@ -34,43 +34,46 @@ pub record GrowthGoesOn : Type 0 where
   pub further : (table : OriginTable) (old mid new : List Id) → GrowsByScan table old mid → GrowsByScan table mid new → GrowsByScan table old new
   pub closed : (table : OriginTable) (ids : List Id) → GrowsByScan table [] ids → IsClosed table ids
 
--- a list that grew while a closed part of what is held was there grew so in the whole, whatever more is held; so it is grown
--- again, once it grew on by scans of what came
+-- a list that grew in a part grew so in the whole, whatever more is held; so it is grown again, once it grew on by scans of
+-- what came
 pub record StaysGrown (part held : List Operation) : Type 0 where
   pub same : (list : DocList) (ids : List Id) → IsGrown (standing part) list ids → IsGrown (standing held) list ids
   pub further : (list : DocList) (old new : List Id) → IsGrown (standing part) list old → GrowsByScan (table_in (standing held) list) old new →
       IsGrown (standing held) list new
 
--- so it is with each closed part
+-- so it is with a part that stays held
 abbrev pub GrownStays : Type 0
-GrownStays = (received : List Operation) → IsWritten received → (part : List Operation) → IsPartOf part (held_set received) → StaysGrown part (held_set received)
+GrownStays = (part held : List Operation) → IsWritten held → StaysHeld part held → StaysGrown part held
+
+-- ---- what stays held
+
+-- a closed part of what is held stays held; and so does all that was held before an update, where nothing that stood is lost
+pub record HeldStays : Type 0 where
+  pub parts : (received : List Operation) → IsWritten received → (part : List Operation) → IsPartOf part (held_set received) → StaysHeld part (held_set received)
+  pub received : (r : Received) (update : UpdateValue) → IsReceived r → IsValidUpdate update →
+      ((x : Id) → has_operation (standing (held_set r.operations)) x ≡ true → has_operation (standing (held_set (received_after r update).operations)) x ≡ true) →
+      StaysHeld (held_set r.operations) (held_set (received_after r update).operations)
 
 -- ---- deletions
 
--- where the edit rules are kept, and the lists are in the origin order, deletions that are closed and sound are those of the
--- definitions
+-- where what stands keeps the edit rules, and the lists are in the origin order, deletions that are closed and sound are
+-- those of the definitions
 abbrev pub ClosedIsDeleted : Type 0
-ClosedIsDeleted = (received : List Operation) → IsWritten received → AreHonest (held_set received) → (lists : DocList → List Id) (named deleted : Id → Bool) →
-    ((list : DocList) → lists list ≡ order_of (standing (held_set received)) list) → AreClosed lists (held_set received) named deleted →
-    AreSound (held_set received) named deleted →
-    (x : Id) → deleted x ≡ (has_operation (held_set received) x && is_deleted (held_set received) named x)
+ClosedIsDeleted = (held : List Operation) → IsWritten held → StandsHonest held → (lists : DocList → List Id) (named deleted : Id → Bool) →
+    ((list : DocList) → lists list ≡ order_of (standing held) list) → AreClosed lists held named deleted → AreSound held named deleted →
+    (x : Id) → deleted x ≡ (has_operation held x && is_deleted held named x)
 
--- what was deleted soundly of a closed part is sound in the whole, where no fewer ids are named
+-- what was deleted soundly in a part that stays held is sound in the whole, where no fewer ids are named
 abbrev pub SoundStays : Type 0
-SoundStays = (received : List Operation) → IsWritten received → (part : List Operation) → IsPartOf part (held_set received) →
-    (named more deleted : Id → Bool) → ((x : Id) → named x ≡ true → more x ≡ true) → ((x : Id) → deleted x ≡ true → has_operation part x ≡ true) →
-    AreSound part named deleted → AreSound (held_set received) more deleted
-
--- an id is deleted besides others
-abbrev pub with_deleted : (Id → Bool) → Id → Id → Bool
-with_deleted deleted x y = is_same x y || deleted y
+SoundStays = (part held : List Operation) → IsWritten held → StaysHeld part held → (named more deleted : Id → Bool) →
+    ((x : Id) → named x ≡ true → more x ≡ true) → ((x : Id) → deleted x ≡ true → has_operation part x ≡ true) →
+    AreSound part named deleted → AreSound held more deleted
 
 -- where the lists grew by scans and are whole, what is due may be deleted: that stays sound
 abbrev pub DueIsSound : Type 0
-DueIsSound = (received : List Operation) → IsWritten received → (lists : DocList → List Id) (named deleted : Id → Bool) →
-    ((list : DocList) → IsGrown (standing (held_set received)) list (lists list)) → ((list : DocList) → IsWhole (standing (held_set received)) list (lists list)) →
-    AreSound (held_set received) named deleted →
-    (x : Id) → IsDue lists (held_set received) named deleted x → AreSound (held_set received) named (with_deleted deleted x)
+DueIsSound = (held : List Operation) → IsWritten held → (lists : DocList → List Id) (named deleted : Id → Bool) →
+    ((list : DocList) → IsGrown (standing held) list (lists list)) → ((list : DocList) → IsWhole (standing held) list (lists list)) →
+    AreSound held named deleted → (x : Id) → IsDue lists held named deleted x → AreSound held named (with_deleted deleted x)
 
 -- ---- documents
 

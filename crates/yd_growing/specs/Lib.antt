@@ -4,3 +4,4 @@ pub mod Law
 pub mod Own
 pub mod Placing
 pub mod Rows
+pub mod Staying

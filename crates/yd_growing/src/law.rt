@@ -1,8 +1,8 @@
 //! The laws of grown documents, each the contract of an empty function.
 
-ghost use Rattle.yd_growing.specs.Law.{GrownIsOrder, GrowthGoesOn, GrownStays, ClosedIsDeleted, SoundStays, DueIsSound, OwnIsDefined};
+ghost use Rattle.yd_growing.specs.Law.{GrownIsOrder, GrowthGoesOn, GrownStays, HeldStays, ClosedIsDeleted, SoundStays, DueIsSound, OwnIsDefined};
 
-/// Where what is held keeps the edit rules, a whole list that grew by scans is the origin order.
+/// Where what stands keeps the edit rules, a whole list that grew by scans is the origin order.
 pub fn grown_is_order()
     ensures { GrownIsOrder }
 {}
@@ -15,6 +15,11 @@ pub fn growth_goes_on()
 /// A list that grew by scans did so still once more is held, where it got nothing or grew on.
 pub fn grown_stays()
     ensures { GrownStays }
+{}
+
+/// What was held stays held, and stands and is lost as it was, unless something that stood is lost.
+pub fn held_stays()
+    ensures { HeldStays }
 {}
 
 /// Where lists are in the origin order, what is closed and sound is what the definitions delete.

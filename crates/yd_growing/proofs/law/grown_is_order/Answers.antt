@@ -1,5 +1,6 @@
+use Rattle.yd_meaning.proofs.HonestLemmas.{honest_set}
 use Rattle.yd_growing.proofs.HonestLemmas.{grown_is_order}
 use Rattle.yd_growing.proofs.law.grown_is_order.Goals as goal
 
 pub returns : goal.returns
-returns c = grown_is_order
+returns c = record { order = grown_is_order; honest = honest_set }

@@ -1,4 +1,4 @@
-use Rattle.yd_growing.proofs.FrontLemmas.{stays_grown}
+use Rattle.yd_growing.proofs.StayingLemmas.{stays_grown}
 use Rattle.yd_growing.proofs.law.grown_stays.Goals as goal
 
 pub returns : goal.returns
