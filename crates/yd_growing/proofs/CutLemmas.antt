@@ -66,11 +66,14 @@ module _ (runs : List Stretch) (i n : ℕ) (lt : i < length runs) where
 -- ---- lemmas for callers
 
 pub cuts_keep_rows : CutsKeepRows
-cuts_keep_rows = λ old new place n lists lt some le cuts k kl.
-    ap (λ runs. rows_at runs (places_in new k)) cuts.runs
-    ∙ elim (chain.has_place place (list_at old.linked k)) [
-      | inl h ↦ ap (rows_at (cut_stretches (runs_of old) place n)) (cuts.lists.own k kl h)
-          ∙ rows_kept (runs_of old) place n lt some le (list_at old.linked k) (λ j m. lists.within k j kl m) (lists.distinct k kl) h
-      | inr h ↦ ap (rows_at (cut_stretches (runs_of old) place n)) (cuts.lists.others k kl h)
-          ∙ others_kept (runs_of old) place n lt (list_at old.linked k) (λ j m. lists.within k j kl m) h
-    ]
+cuts_keep_rows = λ old new place n lists lt some le cuts. record {
+  count = cuts.lists.count;
+  rows = λ k kl. ap (λ runs. rows_at runs (places_in new k)) cuts.runs
+      ∙ elim (chain.has_place place (list_at old.linked k)) [
+        | inl h ↦ ap (rows_at (cut_stretches (runs_of old) place n)) (cuts.lists.own k kl h)
+            ∙ rows_kept (runs_of old) place n lt some le (list_at old.linked k) (λ j m. lists.within k j kl m) (lists.distinct k kl) h
+        | inr h ↦ ap (rows_at (cut_stretches (runs_of old) place n)) (cuts.lists.others k kl h)
+            ∙ others_kept (runs_of old) place n lt (list_at old.linked k) (λ j m. lists.within k j kl m) h
+      ];
+  nexts = cuts.nexts;
+}

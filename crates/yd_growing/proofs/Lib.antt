@@ -2,9 +2,11 @@ pub mod AlikeLemmas
 pub mod CutLemmas
 pub mod DocumentLemmas
 pub mod DueLemmas
+pub mod FillingLemmas
 pub mod GrowthLemmas
 pub mod HeldLemmas
 pub mod HonestLemmas
+pub mod NextLemmas
 pub mod PartLemmas
 pub mod PlacingLemmas
 pub mod RowLemmas

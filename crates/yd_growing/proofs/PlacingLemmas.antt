@@ -11,6 +11,7 @@ use Rattle.yd_ids.proofs.IdLemmas.{same_numbers}
 use Rattle.yd_origins.specs.Table.{Row, OriginTable, ids_of, left_of, right_of}
 use Rattle.yd_origins.specs.Growing.{IsArrangement, GrowsByScan, IsClosed}
 use Rattle.yd_origins.specs.Scan.{after_scans}
+use Rattle.yd_origins.proofs.PartLemmas.{row_id_in}
 use Rattle.yd_scan.specs.declared.stretch.Stretch.{Stretch}
 use Rattle.yd_scan.specs.Stretches.{units_from, units_of, stretch_at, no_stretch, HasOrigins, HasLefts}
 use Rattle.yd_scan.proofs.UnitLemmas.{units_head, units_in as unit_there}
@@ -20,7 +21,7 @@ use Rattle.yd_arena.specs.Arena.{Placed, runs_of, count_of, places_in, units_in,
 use Rattle.yd_arena.proofs.ListsLemmas.{in_put}
 use Rattle.yd_growing.specs.Rows.{rows_from, rows_of_run, rows_at, rows_in}
 use Rattle.yd_growing.specs.Placing.{IsRowOf, HasRowsBelow, IsNextRun, GrowsInto, SameRowsStay, OthersStay}
-use Rattle.yd_growing.proofs.GrowthLemmas.{in_scans, scans_have, grown_closed}
+use Rattle.yd_growing.proofs.GrowthLemmas.{in_scans, scans_have, grown_closed, IsFrontOf}
 use Rattle.yd_growing.proofs.RowLemmas.{ids-from, ids-rows, row_with, in_rows, rows_there, rows_same, IsRunOfTable, run_of_table}
 
 -- ---- the units of a run, in turn
@@ -156,10 +157,10 @@ module _ (table : OriginTable) (old new : Placed) (list : ℕ) (run : Stretch) (
 -- ---- other lists
 
 module _ (table : OriginTable) (old new : Placed) (list : ℕ) (has : HasRowsBelow table old list) (same : rows_in new list ≡ rows_in old list) where
-  units_same : units_in new list ≡ units_in old list
+  pub units_same : units_in new list ≡ units_in old list
   units_same = sym (ids-rows (runs_of new) (places_in new list)) ∙ ap ids_of same ∙ ids-rows (runs_of old) (places_in old list)
 
-  rows_below : ((x : Id) → IsIn x (units_in old list) → x.clock < next_clock new x.client.0) →
+  pub rows_below : ((x : Id) → IsIn x (units_in old list) → x.clock < next_clock new x.client.0) →
       ((x : Id) → IsIn x (ids_of table) → x.clock < next_clock new x.client.0 → x.clock < next_clock old x.client.0) → HasRowsBelow table new list
   rows_below up down = record {
     each = λ x. (
@@ -171,9 +172,9 @@ module _ (table : OriginTable) (old new : Placed) (list : ℕ) (has : HasRowsBel
   }
 
 pub same_rows_stay : SameRowsStay
-same_rows_stay = λ table old new list has same nexts. rows_below table old new list has same
-    (λ x i. omega (arith, ((has.each x).0 i).1, nexts x.client.0))
-    (λ x i low. omega (arith, low, nexts x.client.0))
+same_rows_stay = λ table old new list lt has keeps. rows_below table old new list has (keeps.rows list lt)
+    (λ x i. omega (arith, ((has.each x).0 i).1, keeps.nexts x.client.0))
+    (λ x i low. omega (arith, low, keeps.nexts x.client.0))
 
 pub others_stay : OthersStay
 others_stay = λ table old new list run lists lt has comes apart.
@@ -193,3 +194,25 @@ others_stay = λ table old new list run lists lt has comes apart.
             | inr ne ↦ omega (arith, low, comes.other_nexts x.client.0 ne)
           ]),
     )
+
+-- ---- a table with rows more
+
+-- a list has the rows of the larger table too, where the store has none of those that the smaller one lacks
+pub rows_in_front : (part table : OriginTable) → IsFrontOf part table → (placed : Placed) (list : ℕ) → HasRowsBelow part placed list →
+    ((x : Id) → IsIn x (ids_of table) → x.clock < next_clock placed x.client.0 → IsIn x (ids_of part)) → HasRowsBelow table placed list
+rows_in_front part table front placed list has back = record {
+  each = λ x. (
+    (λ i. let (row, low) = (has.each x).0 i in (front.within x row, low)),
+    (λ b. (has.each x).1 (back x b.0 b.1, b.1)),
+  );
+  as_rows = λ row i.
+      let its = has.as_rows row i in
+      let same = front.same row.id (has.closed.within row.id (subst (IsIn row.id) (ids-rows (runs_of placed) (places_in placed list)) (row_id_in row (rows_in placed list) i))) in
+      record { left = same.0 ∙ its.left; right = same.1 ∙ its.right };
+  closed = record {
+    within = λ x i. front.within x (has.closed.within x i);
+    has_left = λ x i. subst (λ z. IfSome z (λ y. IsIn y (units_in placed list))) (sym (front.same x (has.closed.within x i)).0) (has.closed.has_left x i);
+    has_right = λ x i. subst (λ z. IfSome z (λ y. IsIn y (units_in placed list))) (sym (front.same x (has.closed.within x i)).1) (has.closed.has_right x i);
+    has_clocks = λ x y i q c. has.closed.has_clocks x y i (front.clocks x y (has.closed.within x i) q c) c;
+  };
+}

@@ -10,7 +10,7 @@ use Rattle.yd_ops.specs.Operation.{Operation}
 use Rattle.yd_origins.specs.Table.{Row, ids_of, IsTable}
 use Rattle.yd_origins.specs.Operations.{IsClosedPart}
 use Rattle.yd_origins.proofs.DeletedLemmas.{deletes_no_more}
-use Rattle.yd_origins.proofs.PastLemmas.{closed_honest}
+use Rattle.yd_origins.proofs.PastLemmas.{closed_list, closed_honest}
 use Rattle.yd_updates.specs.Received.{has_operation, IsWritten}
 use Rattle.yd_updates.proofs.OneOfLemmas.{operation_with, id_there, ids_stay}
 use Rattle.yd_meaning.specs.Names.{item_of_list}
@@ -69,7 +69,7 @@ module _ (part held : List Operation) (w : IsWritten held) (stays : StaysHeld pa
   part_table = standing_table part stays.written
 
   -- what is in the part and stands in the whole stands in the part
-  back : (x : Id) → has_operation part x ≡ true → has_operation (standing held) x ≡ true → has_operation (standing part) x ≡ true
+  pub back : (x : Id) → has_operation part x ≡ true → has_operation (standing held) x ≡ true → has_operation (standing part) x ≡ true
   back x there up = elim (cases_Bool (has_operation (standing part) x)) [
     | inl e ↦ e
     | inr none ↦ absurd (true≢false (sym (stays.lost x (lost_is part x there none)) ∙ stands_not_lost held x up))
@@ -103,6 +103,9 @@ module _ (part held : List Operation) (w : IsWritten held) (stays : StaysHeld pa
   }
 
   -- ---- lemmas for callers
+
+  pub same_list : (x : Id) → has_operation (standing part) x ≡ true → list_of (standing part) x ≡ list_of (standing held) x
+  same_list x e = closed_list (operation_set (standing part)) (operation_set (standing held)) table closed_part x (has_row (standing part) x e)
 
   pub is_front : (list : DocList) → IsFrontOf (table_in (standing part) list) (table_in (standing held) list)
   is_front list = list_front (operation_set (standing part)) (operation_set (standing held)) table closed_part list

@@ -38,17 +38,23 @@ pub record ComesElsewhere (old new : Placed) (list : ℕ) (run : Stretch) : Type
   pub next : next_clock new run.id.client.0 ≡ run.id.clock + run.len
   pub other_nexts : (client : ℕ) → (client ≡ run.id.client.0 → ⊥) → next_clock new client ≡ next_clock old client
 
+-- each list has the rows that it had, in their order, and each client its next clock
+pub record KeepsRows (old new : Placed) : Type 0 where
+  pub count : count_of new ≡ count_of old
+  pub rows : (list : ℕ) → list < count_of old → rows_in new list ≡ rows_in old list
+  pub nexts : (client : ℕ) → next_clock new client ≡ next_clock old client
+
 -- ---- the laws
 
--- a cut leaves all rows of each list as they are, in their order
+-- a cut leaves all rows as they are
 abbrev pub CutsKeepRows : Type 0
 CutsKeepRows = (old new : Placed) (place n : ℕ) → AreLists old.linked → place < length (runs_of old) → 0 < n → n ≤ (stretch_at (runs_of old) place).len →
-    CutsRun old new place n → (list : ℕ) → list < count_of old → rows_in new list ≡ rows_in old list
+    CutsRun old new place n → KeepsRows old new
 
--- where a list has the same rows, and each client the same next clock, it has the rows of a table as before
+-- where all rows are as they were, a list has those of a table as before
 abbrev pub SameRowsStay : Type 0
-SameRowsStay = (table : OriginTable) (old new : Placed) (list : ℕ) → HasRowsBelow table old list → rows_in new list ≡ rows_in old list →
-    ((client : ℕ) → next_clock new client ≡ next_clock old client) → HasRowsBelow table new list
+SameRowsStay = (table : OriginTable) (old new : Placed) (list : ℕ) → list < count_of old → HasRowsBelow table old list → KeepsRows old new →
+    HasRowsBelow table new list
 
 -- with a run more the list has grown by scans, and has the rows of the table that are below the new clocks
 pub record GrowsInto (table : OriginTable) (old new : Placed) (list : ℕ) : Type 0 where

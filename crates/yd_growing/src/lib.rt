@@ -11,5 +11,6 @@
 //! ```
 #![tactic(auto)]
 
+pub mod filling;
 pub mod law;
 pub mod placing;

@@ -1,0 +1,38 @@
+//! The laws of a store while held operations come into it, each the contract of an empty function.
+
+ghost use Rattle.yd_growing.specs.Filling.{FillingStarts, FillingStays, FillingIsKept, FillingAddsList, FillingAddsRun, FillingAddsLost, FillingEnds};
+
+/// A store without lists and units is a start, whatever is held.
+pub fn filling_starts()
+    ensures { FillingStarts }
+{}
+
+/// What is filled stays so once more is held.
+pub fn filling_stays()
+    ensures { FillingStays }
+{}
+
+/// A change that keeps all rows keeps the lists filled.
+pub fn filling_is_kept()
+    ensures { FillingIsKept }
+{}
+
+/// A new list of a new name keeps the lists filled.
+pub fn filling_adds_list()
+    ensures { FillingAddsList }
+{}
+
+/// A run that comes next makes its list grow by scans.
+pub fn filling_adds_run()
+    ensures { FillingAddsRun }
+{}
+
+/// A run that is lost changes no list.
+pub fn filling_adds_lost()
+    ensures { FillingAddsLost }
+{}
+
+/// Once the store has all that is held, its lists are whole.
+pub fn filling_ends()
+    ensures { FillingEnds }
+{}
