@@ -1,10 +1,9 @@
 -- What is due by the order of grown lists, and what the definitions delete where the edit rules are kept.
-use Rattle.std.proofs.Common.{◌≡◌, ◌≢◌, Bool, true, false, ◌||◌, ◌&&◌, List, Some, inl, inr, refl, sym, ap, ◌∙◌, subst}
+use Rattle.std.proofs.Common.{◌≡◌, ◌≢◌, Bool, true, false, ◌||◌, ◌&&◌, List, Some, ◌⊎◌, inl, inr, refl, sym, ap, ◌∙◌, subst}
 use Rattle.std.proofs.lemmas.Bool.{cases_Bool, or_left, or_right}
 use Rattle.yd_words.specs.Member.{IsIn}
 use Rattle.yd_words.proofs.TestLemmas.{both_hold, hold_both}
 use Rattle.yd_ids.specs.declared.id.Id.{Id}
-use Rattle.yd_ids.proofs.IdLemmas.{same_says}
 use Rattle.yd_ops.specs.declared.lists.List.{List as DocList}
 use Rattle.yd_ops.specs.Operation.{Operation}
 use Rattle.yd_origins.specs.Table.{IsTable}
@@ -18,7 +17,7 @@ use Rattle.yd_meaning.proofs.DeletedLemmas.{deleted_among_is, deleted_among-true
 use Rattle.yd_meaning.proofs.HeldListLemmas.{in_order_of}
 use Rattle.yd_meaning.proofs.NestingLemmas.{standing_item}
 use Rattle.yd_meaning.proofs.StandingTableLemmas.{standing_table}
-use Rattle.yd_growing.specs.Deletions.{IsDue, due_by_name, due_by_loss, due_by_key, due_by_item, AreClosed, with_deleted}
+use Rattle.yd_growing.specs.Deletions.{IsDue, due_by_name, due_by_loss, due_by_key, due_by_item, AreClosed}
 use Rattle.yd_growing.proofs.StayingLemmas.{stands_held, lost_is, stands_not_lost}
 
 -- two tests of which each holds where the other does give one answer
@@ -95,9 +94,9 @@ module _ (held : List Operation) (written : IsWritten held) (named : Id → Bool
             (λ e. hold_both (has_operation held x) (is_deleted held named x) (closed.only_held x e) (sound x e))
             (λ e. let b = both_hold (has_operation held x) (is_deleted held named x) e in all_due x b.0 b.1)
 
-      pub due_sound : ((y : Id) → deleted y ≡ true → is_deleted held named y ≡ true) → (x : Id) → IsDue lists held named deleted x →
-          (y : Id) → with_deleted deleted x y ≡ true → is_deleted held named y ≡ true
-      due_sound sound x due y e = elim (same_says x y) [
-        | inl same ↦ subst (λ z. is_deleted held named z ≡ true) same.1 (due_deleted sound x due)
-        | inr other ↦ sound y (sym (ap (λ t. t || deleted y) other.0) ∙ e)
+      pub due_sound : ((y : Id) → deleted y ≡ true → is_deleted held named y ≡ true) → (more : Id → Bool) →
+          ((x : Id) → more x ≡ true → (deleted x ≡ true) ⊎ IsDue lists held named deleted x) → (x : Id) → more x ≡ true → is_deleted held named x ≡ true
+      due_sound sound more why x e = elim (why x e) [
+        | inl there ↦ sound x there
+        | inr due ↦ due_deleted sound x due
       ]

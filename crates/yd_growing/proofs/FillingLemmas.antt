@@ -35,7 +35,7 @@ use Rattle.yd_growing.proofs.StayingLemmas.{stands_held, back, same_list, is_fro
 
 -- ---- names by number
 
-within_names : (names : List DocList) (n : ℕ) (x : DocList) → slice_get names n ≡ Some x → n < length names
+pub within_names : (names : List DocList) (n : ℕ) (x : DocList) → slice_get names n ≡ Some x → n < length names
 within_names [] n x e = absurd cc
 within_names (y ∷ ys) zero x e = omega arith
 within_names (y ∷ ys) (suc n) x e = omega (arith, within_names ys n x e)

@@ -1,19 +1,38 @@
 -- Growing in two steps, and what grew has the lefts, the rights and the smaller clocks of its rows.
 use Rattle.std.proofs.Common.{◌≡◌, List, [], ◌∷◌, ◌++◌, ◌⊎◌, inl, inr, Option, refl, sym, ap, ◌∙◌, subst}
 use Rattle.std.specs.Prelude.{IfSome}
-use Rattle.yd_words.specs.Member.{IsIn}
+use Rattle.yd_words.specs.Member.{IsIn, AreDistinct}
+use Rattle.yd_words.proofs.MemberLemmas.{in_left_part, in_right_part, in_parts}
 use Rattle.yd_words.proofs.OptionLemmas.{if_some_map}
 use Rattle.yd_ids.specs.declared.id.Id.{Id}
 use Rattle.yd_ids.specs.Ids.{HasSmallerClock}
 use Rattle.yd_origins.specs.Table.{OriginTable, ids_of, left_of, right_of}
-use Rattle.yd_origins.specs.Scan.{after_scan, after_scans}
+use Rattle.yd_origins.specs.Scan.{scan_place, after_scan, after_scans}
 use Rattle.yd_origins.specs.Growing.{IsArrangement, GrowsByScan, IsClosed}
 use Rattle.yd_origins.proofs.GrowingLemmas.{in_scan, scan_has}
+use Rattle.yd_origins.proofs.PlacementLemmas.{scan_moves_none}
 use Rattle.yd_growing.proofs.AlikeLemmas.{IsSameAt, scans_alike}
 
 -- ---- scans in turn
 
+distinct_in_middle : (xs ys : List Id) (n : Id) → AreDistinct (xs ++ ys) → (IsIn n (xs ++ ys) → ⊥) → AreDistinct (xs ++ n ∷ ys)
+distinct_in_middle [] ys n d new = (new, d)
+distinct_in_middle (x ∷ xs) ys n d new = (
+  (λ i. elim (in_parts x xs (n ∷ ys) i) [
+    | inl j ↦ d.0 (in_left_part x xs ys j)
+    | inr (inl e) ↦ new (inl (sym e))
+    | inr (inr j) ↦ d.0 (in_right_part x xs ys j)
+  ]),
+  distinct_in_middle xs ys n d.1 (λ i. new (inr i)),
+)
+
 module _ (left right : Id → Option Id) where
+  pub scan_distinct : (list : List Id) (n : Id) → AreDistinct list → (IsIn n list → ⊥) → AreDistinct (after_scan left right list n)
+  scan_distinct list n d new =
+      let place = scan_place left right list n in
+      let same : place.0 ++ place.1 ≡ list = scan_moves_none left right list n in
+      distinct_in_middle place.0 place.1 n (subst AreDistinct (sym same) d) (λ i. new (subst (IsIn n) same i))
+
   pub in_scans : (news list : List Id) (x : Id) → IsIn x news ⊎ IsIn x list → IsIn x (after_scans left right list news)
   in_scans [] list x (inl i) = absurd i
   in_scans [] list x (inr i) = i
@@ -126,6 +145,15 @@ module _ (table : OriginTable) where
 
   pub grown_from_nothing : (ids : List Id) → GrowsByScan table [] ids → IsClosed table ids
   grown_from_nothing ids grows = grown_closed [] ids nothing_closed grows
+
+  scans_distinct : (news l : List Id) → AreDistinct l → IsArrangement table l news → AreDistinct (after_scans left right l news)
+  scans_distinct [] l d a = d
+  scans_distinct (n ∷ ns) l d a = scans_distinct ns (after_scan left right l n) (scan_distinct left right l n d a.0)
+      (arrangement_same (n ∷ l) (after_scan left right l n) ns (in_scan left right l n) (scan_has left right l n) a.5)
+
+  -- and has no row twice
+  pub grown_distinct : (ids : List Id) → GrowsByScan table [] ids → AreDistinct ids
+  grown_distinct ids grows = subst AreDistinct grows.grown (scans_distinct grows.news [] tt grows.arranged)
 
 -- ---- a table with rows more
 

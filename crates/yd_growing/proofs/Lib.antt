@@ -11,3 +11,4 @@ pub mod PartLemmas
 pub mod PlacingLemmas
 pub mod RowLemmas
 pub mod StayingLemmas
+pub mod TellingLemmas

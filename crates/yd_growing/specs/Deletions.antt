@@ -1,8 +1,7 @@
 -- Which ids a replica deletes by the order that its own lists have (own; the rules are those of Yjs 13).
-use Rattle.std.specs.Prelude.{◌≡◌, ◌≢◌, Bool, true, ◌||◌, List, Some}
+use Rattle.std.specs.Prelude.{◌≡◌, ◌≢◌, Bool, true, List, Some}
 use Rattle.yd_words.specs.Member.{IsIn}
 use Rattle.yd_ids.specs.declared.id.Id.{Id}
-use Rattle.yd_ids.specs.Ids.{is_same}
 use Rattle.yd_ops.specs.declared.lists.List.{List as DocList}
 use Rattle.yd_ops.specs.Operation.{Operation}
 use Rattle.yd_origins.specs.Deleted.{last_of}
@@ -28,7 +27,3 @@ pub record AreClosed (lists : DocList → List Id) (held : List Operation) (name
 -- where what stands keeps the edit rules, the definitions delete what is deleted
 abbrev pub AreSound : List Operation → (Id → Bool) → (Id → Bool) → Type 0
 AreSound held named deleted = StandsHonest held → (x : Id) → deleted x ≡ true → is_deleted held named x ≡ true
-
--- an id is deleted besides others
-abbrev pub with_deleted : (Id → Bool) → Id → Id → Bool
-with_deleted deleted x y = is_same x y || deleted y

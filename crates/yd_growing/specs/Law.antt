@@ -1,5 +1,6 @@
 -- The laws of grown documents, as statements.
-use Rattle.std.specs.Prelude.{◌≡◌, ◌&&◌, Bool, true, List, []}
+use Rattle.std.specs.Prelude.{◌≡◌, ◌⊎◌, ◌&&◌, Bool, true, List, []}
+use Rattle.yd_words.specs.Member.{AreDistinct}
 use Rattle.yd_ids.specs.declared.id.Id.{Id}
 use Rattle.yd_ops.specs.declared.lists.List.{List as DocList}
 use Rattle.yd_ops.specs.Operation.{Operation}
@@ -16,7 +17,7 @@ use Rattle.yd_meaning.specs.Document.{Document, document_with}
 use Rattle.yd_meaning.specs.Law.{IsPartOf}
 use Rattle.yd_growing.specs.Grown.{table_in, IsGrown, IsWhole, StandsHonest}
 use Rattle.yd_growing.specs.Staying.{StaysHeld}
-use Rattle.yd_growing.specs.Deletions.{IsDue, AreClosed, AreSound, with_deleted}
+use Rattle.yd_growing.specs.Deletions.{IsDue, AreClosed, AreSound}
 use Rattle.yd_growing.specs.Own.{IsOwnDocument}
 
 -- ---- lists
@@ -28,11 +29,12 @@ pub record GrownIsOrder : Type 0 where
       IsGrown (standing held) list ids → IsWhole (standing held) list ids → ids ≡ order_of (standing held) list
   pub honest : (received : List Operation) → IsWritten received → AreHonest (held_set received) → StandsHonest (held_set received)
 
--- what grew and then grew further has grown by the scans of both, in every table; and what grew has its rows alone, and of
--- each its left, its right and the smaller clocks of its client
+-- what grew and then grew further has grown by the scans of both, in every table; and what grew has its rows alone, each
+-- once, and of each its left, its right and the smaller clocks of its client
 pub record GrowthGoesOn : Type 0 where
   pub further : (table : OriginTable) (old mid new : List Id) → GrowsByScan table old mid → GrowsByScan table mid new → GrowsByScan table old new
   pub closed : (table : OriginTable) (ids : List Id) → GrowsByScan table [] ids → IsClosed table ids
+  pub once : (table : OriginTable) (ids : List Id) → GrowsByScan table [] ids → AreDistinct ids
 
 -- a list that grew in a part grew so in the whole, whatever more is held; so it is grown again, once it grew on by scans of
 -- what came
@@ -69,11 +71,12 @@ SoundStays = (part held : List Operation) → IsWritten held → StaysHeld part 
     ((x : Id) → named x ≡ true → more x ≡ true) → ((x : Id) → deleted x ≡ true → has_operation part x ≡ true) →
     AreSound part named deleted → AreSound held more deleted
 
--- where the lists grew by scans and are whole, what is due may be deleted: that stays sound
+-- where the lists grew by scans and are whole, what is due may be deleted besides: that stays sound
 abbrev pub DueIsSound : Type 0
 DueIsSound = (held : List Operation) → IsWritten held → (lists : DocList → List Id) (named deleted : Id → Bool) →
     ((list : DocList) → IsGrown (standing held) list (lists list)) → ((list : DocList) → IsWhole (standing held) list (lists list)) →
-    AreSound held named deleted → (x : Id) → IsDue lists held named deleted x → AreSound held named (with_deleted deleted x)
+    AreSound held named deleted → (more : Id → Bool) → ((x : Id) → more x ≡ true → (deleted x ≡ true) ⊎ IsDue lists held named deleted x) →
+    AreSound held named more
 
 -- ---- documents
 

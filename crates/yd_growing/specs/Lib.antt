@@ -6,3 +6,4 @@ pub mod Own
 pub mod Placing
 pub mod Rows
 pub mod Staying
+pub mod Telling

@@ -1,6 +1,7 @@
 //! The laws of a store while held operations come into it, each the contract of an empty function.
 
 ghost use Rattle.yd_growing.specs.Filling.{FillingStarts, FillingStays, FillingIsKept, FillingAddsList, FillingAddsRun, FillingAddsLost, FillingEnds};
+ghost use Rattle.yd_growing.specs.Telling.{ListsTellUnits, FilledListsAreGrown};
 
 /// A store without lists and units is a start, whatever is held.
 pub fn filling_starts()
@@ -35,4 +36,14 @@ pub fn filling_adds_lost()
 /// Once the store has all that is held, its lists are whole.
 pub fn filling_ends()
     ensures { FillingEnds }
+{}
+
+/// The operations of a list are its units, in their order.
+pub fn lists_tell_units()
+    ensures { ListsTellUnits }
+{}
+
+/// A document that tells the lists of a filled store has grown lists.
+pub fn filled_lists_are_grown()
+    ensures { FilledListsAreGrown }
 {}

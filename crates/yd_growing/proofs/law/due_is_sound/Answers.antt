@@ -3,5 +3,5 @@ use Rattle.yd_growing.proofs.HonestLemmas.{grown_is_order}
 use Rattle.yd_growing.proofs.law.due_is_sound.Goals as goal
 
 pub returns : goal.returns
-returns c = λ held written lists named deleted grown whole sound x due honest.
-    due_sound held written named lists (λ list. grown_is_order held written honest list (lists list) (grown list) (whole list)) deleted (sound honest) x due
+returns c = λ held written lists named deleted grown whole sound more why honest.
+    due_sound held written named lists (λ list. grown_is_order held written honest list (lists list) (grown list) (whole list)) deleted (sound honest) more why
