@@ -1,4 +1,5 @@
 pub mod Deletions
+pub mod Example
 pub mod Filling
 pub mod Grown
 pub mod Law

@@ -11,6 +11,7 @@
 //! ```
 #![tactic(auto)]
 
+pub mod example;
 pub mod filling;
 pub mod law;
 pub mod placing;
