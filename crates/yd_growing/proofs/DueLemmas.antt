@@ -56,7 +56,7 @@ module _ (held : List Operation) (written : IsWritten held) (named : Id → Bool
     module _ (deleted : Id → Bool) where
       -- ---- what is due is deleted
 
-      due_deleted : ((y : Id) → deleted y ≡ true → is_deleted held named y ≡ true) → (x : Id) → IsDue lists held named deleted x →
+      pub due_deleted : ((y : Id) → deleted y ≡ true → is_deleted held named y ≡ true) → (x : Id) → IsDue lists held named deleted x →
           is_deleted held named x ≡ true
       due_deleted sound x (due_by_name there by) = elim (cases_Bool (has_operation stands x)) [
         | inl e ↦ is_deleted-true x e (by_name by)

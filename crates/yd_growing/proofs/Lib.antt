@@ -1,4 +1,6 @@
 pub mod AlikeLemmas
+pub mod ArrangingLemmas
+pub mod ComingLemmas
 pub mod CutLemmas
 pub mod DocumentLemmas
 pub mod DueLemmas

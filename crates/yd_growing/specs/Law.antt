@@ -36,6 +36,11 @@ pub record GrowthGoesOn : Type 0 where
   pub closed : (table : OriginTable) (ids : List Id) → GrowsByScan table [] ids → IsClosed table ids
   pub once : (table : OriginTable) (ids : List Id) → GrowsByScan table [] ids → AreDistinct ids
 
+-- every list can grow, whatever is held: what stands of it comes in some arrangement, and then it is whole
+abbrev pub ListsCanGrow : Type 0
+ListsCanGrow = (received : List Operation) → IsWritten received → (list : DocList) →
+    (ids : List Id) × IsGrown (standing (held_set received)) list ids × IsWhole (standing (held_set received)) list ids
+
 -- a list that grew in a part grew so in the whole, whatever more is held; so it is grown again, once it grew on by scans of
 -- what came
 pub record StaysGrown (part held : List Operation) : Type 0 where
@@ -80,7 +85,9 @@ DueIsSound = (held : List Operation) → IsWritten held → (lists : DocList →
 
 -- ---- documents
 
--- where the edit rules are kept, a replica's own document is the one that the held operations define
-abbrev pub OwnIsDefined : Type 0
-OwnIsDefined = (received : List Operation) → IsWritten received → AreHonest (held_set received) → (document : Document) (named : Id → Bool) →
-    IsOwnDocument document (held_set received) named → document ≡ document_with (held_set received) named
+-- where the edit rules are kept, a replica's own document is the one that the held operations define, and that is one
+pub record OwnIsDefined : Type 0 where
+  pub defined : (received : List Operation) → IsWritten received → AreHonest (held_set received) → (document : Document) (named : Id → Bool) →
+      IsOwnDocument document (held_set received) named → document ≡ document_with (held_set received) named
+  pub own : (received : List Operation) → IsWritten received → AreHonest (held_set received) → (named : Id → Bool) →
+      IsOwnDocument (document_with (held_set received) named) (held_set received) named

@@ -1,6 +1,6 @@
 //! The laws of grown documents, each the contract of an empty function.
 
-ghost use Rattle.yd_growing.specs.Law.{GrownIsOrder, GrowthGoesOn, GrownStays, HeldStays, ClosedIsDeleted, SoundStays, DueIsSound, OwnIsDefined};
+ghost use Rattle.yd_growing.specs.Law.{GrownIsOrder, GrowthGoesOn, ListsCanGrow, GrownStays, HeldStays, ClosedIsDeleted, SoundStays, DueIsSound, OwnIsDefined};
 
 /// Where what stands keeps the edit rules, a whole list that grew by scans is the origin order.
 pub fn grown_is_order()
@@ -10,6 +10,11 @@ pub fn grown_is_order()
 /// What grew by scans and then grew further has grown by the scans of both.
 pub fn growth_goes_on()
     ensures { GrowthGoesOn }
+{}
+
+/// Every list can grow, whatever is held.
+pub fn lists_can_grow()
+    ensures { ListsCanGrow }
 {}
 
 /// A list that grew by scans did so still once more is held, where it got nothing or grew on.
@@ -37,7 +42,7 @@ pub fn due_is_sound()
     ensures { DueIsSound }
 {}
 
-/// Where what is held keeps the edit rules, a replica's own document is the one that this defines.
+/// Where what is held keeps the edit rules, the own document is just the one that this defines.
 pub fn own_is_defined()
     ensures { OwnIsDefined }
 {}

@@ -1,4 +1,4 @@
-use Rattle.std.proofs.Common.{◌≡◌, ◌<◌, List, [], ◌∷◌, inl, inr, refl, ap, arith}
+use Rattle.std.proofs.Common.{[], ◌∷◌, inl, inr, refl, ap, arith}
 use Rattle.yd_words.specs.Member.{IsIn}
 use Rattle.yd_ids.specs.declared.id.Id.{Id}
 use Rattle.yd_ids.specs.Ids.{HasSmallerClock}
@@ -11,7 +11,11 @@ kept : IsGrown followed in_root (first_id 1 ∷ first_id 2 ∷ [])
 kept = record {
   news = first_id 1 ∷ first_id 2 ∷ [];
   arranged = (
-    (λ i. i), inr (inl refl), tt, tt, (λ y i c. absurd (omega (arith, c.1))),
+    (λ i. i),
+    inr (inl refl),
+    tt,
+    tt,
+    (λ y i c. absurd (omega (arith, c.1))),
     (not_first, inl refl, inl refl, tt, (λ y i c. absurd (omega (arith, c.1))), tt),
   );
   grown = refl;
@@ -25,7 +29,11 @@ broken : IsGrown both_at_front in_root (second_id ∷ first_id 1 ∷ [])
 broken = record {
   news = first_id 1 ∷ second_id ∷ [];
   arranged = (
-    (λ i. i), inl refl, tt, tt, (λ y i c. absurd (omega (arith, c.1))),
+    (λ i. i),
+    inl refl,
+    tt,
+    tt,
+    (λ y i c. absurd (omega (arith, c.1))),
     (not_first, inr (inl refl), tt, tt, smaller, tt),
   );
   grown = refl;
