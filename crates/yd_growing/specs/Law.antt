@@ -17,7 +17,7 @@ use Rattle.yd_meaning.specs.Document.{Document, document_with}
 use Rattle.yd_meaning.specs.Law.{IsPartOf}
 use Rattle.yd_growing.specs.Grown.{table_in, IsGrown, IsWhole, StandsHonest}
 use Rattle.yd_growing.specs.Staying.{StaysHeld}
-use Rattle.yd_growing.specs.Deletions.{IsDue, AreClosed, AreSound}
+use Rattle.yd_growing.specs.Deletions.{IsDue, AreClosed, AreSound, DeletesBesides}
 use Rattle.yd_growing.specs.Own.{IsOwnDocument}
 
 -- ---- lists
@@ -69,6 +69,11 @@ abbrev pub ClosedIsDeleted : Type 0
 ClosedIsDeleted = (held : List Operation) → IsWritten held → StandsHonest held → (lists : DocList → List Id) (named deleted : Id → Bool) →
     ((list : DocList) → lists list ≡ order_of (standing held) list) → AreClosed lists held named deleted → AreSound held named deleted →
     (x : Id) → deleted x ≡ (has_operation held x && is_deleted held named x)
+
+-- what was closed in a part is closed in the whole, once what is due besides is deleted
+abbrev pub ClosedGoesOn : Type 0
+ClosedGoesOn = (old_lists lists : DocList → List Id) (part held : List Operation) (named more deleted now : Id → Bool) →
+    AreClosed old_lists part named deleted → DeletesBesides old_lists lists part held named more deleted now → AreClosed lists held more now
 
 -- what was deleted soundly in a part that stays held is sound in the whole, where no fewer ids are named
 abbrev pub SoundStays : Type 0

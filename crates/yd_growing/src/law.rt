@@ -1,6 +1,6 @@
 //! The laws of grown documents, each the contract of an empty function.
 
-ghost use Rattle.yd_growing.specs.Law.{GrownIsOrder, GrowthGoesOn, ListsCanGrow, GrownStays, HeldStays, ClosedIsDeleted, SoundStays, DueIsSound, OwnIsDefined};
+ghost use Rattle.yd_growing.specs.Law.{GrownIsOrder, GrowthGoesOn, ListsCanGrow, GrownStays, HeldStays, ClosedIsDeleted, ClosedGoesOn, SoundStays, DueIsSound, OwnIsDefined};
 
 /// Where what stands keeps the edit rules, a whole list that grew by scans is the origin order.
 pub fn grown_is_order()
@@ -30,6 +30,11 @@ pub fn held_stays()
 /// Where lists are in the origin order, what is closed and sound is what the definitions delete.
 pub fn closed_is_deleted()
     ensures { ClosedIsDeleted }
+{}
+
+/// What was closed is closed once more is held, where what is due besides is deleted.
+pub fn closed_goes_on()
+    ensures { ClosedGoesOn }
 {}
 
 /// What was deleted soundly is sound once more is held and more is named.
