@@ -34,11 +34,11 @@ use Rattle.yd_meaning.proofs.RowLemmas.{row_one, has_row, row_has, written_disti
 use Rattle.yd_meaning.proofs.StandingLemmas.{standing_in}
 use Rattle.yd_meaning.proofs.StandingTableLemmas.{standing_table}
 use Rattle.yd_meaning.proofs.VectorLemmas.{held_written, held_smaller}
-use Rattle.yd_growing.specs.Grown.{table_in, IsGrown, IsWhole}
+use Rattle.yd_growing.specs.Grown.{table_in, IsGrown, HasAllOfList}
 use Rattle.yd_growing.specs.Own.{ids_in, IsOwnDocument}
-use Rattle.yd_growing.specs.Deletions.{IsDue, due_by_name, due_by_loss, due_by_key, due_by_item}
+use Rattle.yd_growing.specs.Deletions.{MustBeDeleted, for_name, for_loss, for_key, for_item}
 use Rattle.yd_growing.proofs.ArrangingLemmas.{is_lower, arranged}
-use Rattle.yd_growing.proofs.DueLemmas.{due_deleted}
+use Rattle.yd_growing.proofs.DeletionLemmas.{deleted_by_definition}
 use Rattle.yd_growing.proofs.GrowthLemmas.{in_scans}
 use Rattle.yd_growing.proofs.HonestLemmas.{grown_is_order}
 use Rattle.yd_growing.proofs.StayingLemmas.{stands_held}
@@ -159,13 +159,13 @@ module _ (os : List Operation) (w : IsWritten os) where
     is_grown : IsGrown (standing held) list grown_ids
     is_grown = record { news = coming; arranged = arranged arrival own (own_is_table set rows list) lefts rights clocks; grown = refl }
 
-    is_whole : IsWhole (standing held) list grown_ids
+    is_whole : HasAllOfList (standing held) list grown_ids
     is_whole x e of = in_scans (left_of own) (right_of own) coming [] x (inl (in_sorted (is_lower arrival) (ids_of own) x (in_own set rows list x (has_row (standing held) x e) of)))
 
     -- ---- lemmas for callers
 
     -- every list can grow
-    pub can_grow : (ids : List Id) × IsGrown (standing held) list ids × IsWhole (standing held) list ids
+    pub can_grow : (ids : List Id) × IsGrown (standing held) list ids × HasAllOfList (standing held) list ids
     can_grow = (grown_ids, is_grown, is_whole)
 
   -- ---- the document that is defined
@@ -177,11 +177,11 @@ module _ (os : List Operation) (w : IsWritten os) where
     ids_are : (list : DocList) → ids_in (document_with held named) list ≡ order_of (standing held) list
     ids_are list = (operations_held (standing held) table.distinct (order_of (standing held) list) (λ x i. ((in_order_of (standing held) table list x).0 i).0)).0
 
-    due_held : (x : Id) → IsDue (ids_in (document_with held named)) held named (document_with held named).deleted x → has_operation held x ≡ true
-    due_held x (due_by_name there by) = there
-    due_held x (due_by_loss lost) = (both_hold (has_operation held x) _ lost).0
-    due_held x (due_by_key list i key other) = stands_held held written x ((in_order_of (standing held) table list x).0 (subst (IsIn x) (ids_are list) i)).0
-    due_held x (due_by_item list i item by) = stands_held held written x ((in_order_of (standing held) table list x).0 (subst (IsIn x) (ids_are list) i)).0
+    must_be_held : (x : Id) → MustBeDeleted (ids_in (document_with held named)) held named (document_with held named).deleted x → has_operation held x ≡ true
+    must_be_held x (for_name there by) = there
+    must_be_held x (for_loss lost) = (both_hold (has_operation held x) _ lost).0
+    must_be_held x (for_key list i key other) = stands_held held written x ((in_order_of (standing held) table list x).0 (subst (IsIn x) (ids_are list) i)).0
+    must_be_held x (for_item list i item by) = stands_held held written x ((in_order_of (standing held) table list x).0 (subst (IsIn x) (ids_are list) i)).0
 
     deleted_both : (x : Id) → (document_with held named).deleted x ≡ true → (has_operation held x ≡ true) × (is_deleted held named x ≡ true)
     deleted_both x e = both_hold (has_operation held x) (is_deleted held named x) e
@@ -197,8 +197,8 @@ module _ (os : List Operation) (w : IsWritten os) where
             (grown_is_order held written (honest_set os w honest) list (grown_ids list) (is_grown list) (is_whole list) ∙ sym (ids_are list)) (is_grown list);
       };
       closed = record {
-        due = λ x due. hold_both (has_operation held x) (is_deleted held named x) (due_held x due)
-            (due_deleted held written named (ids_in (document_with held named)) ids_are (document_with held named).deleted (λ y e. (deleted_both y e).1) x due);
+        all = λ x must. hold_both (has_operation held x) (is_deleted held named x) (must_be_held x must)
+            (deleted_by_definition held written named (ids_in (document_with held named)) ids_are (document_with held named).deleted (λ y e. (deleted_both y e).1) x must);
         only_held = λ x e. (deleted_both x e).0;
       };
       sound = λ h x e. (deleted_both x e).1;

@@ -12,35 +12,35 @@ use Rattle.yd_index.specs.Holding.{front_of, rest_of, cut_stretches}
 use Rattle.yd_index.proofs.CuttingLemmas.{cut_front, cut_rest, cut_other}
 use Rattle.yd_arena.specs.Lists.{list_at}
 use Rattle.yd_arena.specs.Arena.{runs_of, places_in}
-use Rattle.yd_growing.specs.Rows.{rows_from, rows_of_run, rows_at}
+use Rattle.yd_growing.specs.Rows.{rows_of_units, rows_of_run, rows_at}
 use Rattle.yd_growing.specs.Placing.{CutsKeepRows}
 
 -- ---- one run
 
-from_split : (client : Client) (right : Option Id) (k m total clock : ℕ) (left : Option Id) → total ≡ suc k + m → rows_from client left right clock total
-    ≡ rows_from client left right clock (suc k) ++ rows_from client (Some (record { client = client; clock = clock + k })) right (clock + suc k) m
+from_split : (client : Client) (right : Option Id) (k m total clock : ℕ) (left : Option Id) → total ≡ suc k + m → rows_of_units client left right clock total
+    ≡ rows_of_units client left right clock (suc k) ++ rows_of_units client (Some (record { client = client; clock = clock + k })) right (clock + suc k) m
 from_split client right k m zero clock left e = absurd (omega (arith, e))
 from_split client right zero m (suc total) clock left e =
     let a : total ≡ m = omega (arith, e) in
     let b : clock ≡ clock + 0 = omega arith in
     let c : suc clock ≡ clock + 1 = omega arith in
     ap (λ rows. record { id = record { client = client; clock = clock }; left = left; right = right } ∷ rows)
-    (ap (rows_from client (Some (record { client = client; clock = clock })) right (suc clock)) a
-    ∙ ap₂ (λ x y. rows_from client (Some (record { client = client; clock = x })) right y m) b c)
+    (ap (rows_of_units client (Some (record { client = client; clock = clock })) right (suc clock)) a
+    ∙ ap₂ (λ x y. rows_of_units client (Some (record { client = client; clock = x })) right y m) b c)
 from_split client right (suc k) m (suc total) clock left e =
     let b : suc clock + k ≡ clock + suc k = omega arith in
     let c : suc clock + suc k ≡ clock + suc (suc k) = omega arith in
     let next : Option Id = Some (record { client = client; clock = clock }) in
     ap (λ rows. record { id = record { client = client; clock = clock }; left = left; right = right } ∷ rows)
     (from_split client right k m total (suc clock) next (omega (arith, e))
-    ∙ ap₂ (λ x y. rows_from client next right (suc clock) (suc k) ++ rows_from client (Some (record { client = client; clock = x })) right y m) b c)
+    ∙ ap₂ (λ x y. rows_of_units client next right (suc clock) (suc k) ++ rows_of_units client (Some (record { client = client; clock = x })) right y m) b c)
 
 run_split : (run : Stretch) (n : ℕ) → 0 < n → n ≤ run.len → rows_of_run (front_of run n) ++ rows_of_run (rest_of run n) ≡ rows_of_run run
 run_split run zero some le = absurd (omega arith)
 run_split run (suc k) some le =
     let e : run.id.clock + k ≡ run.id.clock + suc k - 1 = omega arith in
     sym (from_split run.id.client run.right k (run.len - suc k) run.len run.id.clock run.left (omega (arith, le))
-    ∙ ap (λ c. rows_from run.id.client run.left run.right run.id.clock (suc k) ++ rows_from run.id.client (Some (record { client = run.id.client; clock = c })) run.right (run.id.clock + suc k) (run.len - suc k)) e)
+    ∙ ap (λ c. rows_of_units run.id.client run.left run.right run.id.clock (suc k) ++ rows_of_units run.id.client (Some (record { client = run.id.client; clock = c })) run.right (run.id.clock + suc k) (run.len - suc k)) e)
 
 -- ---- lists
 

@@ -16,7 +16,7 @@ use Rattle.yd_meaning.proofs.StandingTableLemmas.{standing_table}
 use Rattle.yd_meaning.proofs.VectorLemmas.{held_written}
 use Rattle.yd_growing.specs.Grown.{StandsHonest}
 use Rattle.yd_growing.specs.Own.{ids_in, IsOwnDocument}
-use Rattle.yd_growing.proofs.DueLemmas.{closed_is_deleted}
+use Rattle.yd_growing.proofs.DeletionLemmas.{closed_is_deleted}
 use Rattle.yd_growing.proofs.HonestLemmas.{grown_is_order}
 
 -- operations of a table are those at their ids

@@ -29,7 +29,7 @@ use Rattle.yd_growing.specs.Placing.{HasRowsBelow, IsNextRun, ComesElsewhere, Gr
 use Rattle.yd_growing.specs.Filling.{FillsLists, FillsOn, ComesNext, FillingStarts, FillingStays, FillingIsKept, FillingAddsList, FillingAddsRun, FillingAddsLost, FillingEnds}
 use Rattle.yd_growing.proofs.GrowthLemmas.{nothing_closed}
 use Rattle.yd_growing.proofs.NextLemmas.{is_next}
-use Rattle.yd_growing.proofs.PlacingLemmas.{units_same, rows_below, grows_into, same_rows_stay, others_stay, rows_in_front}
+use Rattle.yd_growing.proofs.PlacingLemmas.{units_same, rows_below, grows_into, same_rows_stay, other_lists_stay, rows_in_front}
 use Rattle.yd_growing.proofs.RowLemmas.{ids-from, row_with}
 use Rattle.yd_growing.proofs.StayingLemmas.{stands_held, back, same_list, is_front}
 
@@ -197,7 +197,7 @@ module _ (held : List Operation) (w : IsWritten held) (names : List DocList) (ol
         subst (λ l. GrowsInto (table_in (standing held) l) old.placed new.placed n) (sym one)
         (subst (GrowsInto (table_in (standing held) name) old.placed new.placed) (sym same) into)
     | inr other ↦
-        let rest = others_stay (table_in (standing held) x) old.placed new.placed n stretch lists (inside n x e) (fills.rows n x e) (elsewhere n other)
+        let rest = other_lists_stay (table_in (standing held) x) old.placed new.placed n stretch lists (inside n x e) (fills.rows n x e) (elsewhere n other)
         (λ y i j. other (fills.distinct n list name
         (e ∙ ap (λ (l : DocList). Some l) (sym (own_list (operation_set (standing held)) (standing_table held w) x y j)
         ∙ own_list (operation_set (standing held)) (standing_table held w) name y (unit_stands y i))) named)) in
@@ -246,7 +246,7 @@ filling_adds_lost = λ held w names old new stretch told lists fills begins lost
       other_nexts = λ client other. adds.adds.other_nexts client other;
     }) in
     let rest : (n : ℕ) (x : DocList) → slice_get names n ≡ Some x → (units_in new.placed n ≡ units_in old.placed n) × HasRowsBelow (table_in (standing held) x) new.placed n =
-    (λ n x e. others_stay (table_in (standing held) x) old.placed new.placed n stretch lists (inside n x e) (fills.rows n x e) (elsewhere n)
+    (λ n x e. other_lists_stay (table_in (standing held) x) old.placed new.placed n stretch lists (inside n x e) (fills.rows n x e) (elsewhere n)
     (λ y i j. true≢false (sym (row_has (standing held) y (own_member (operation_set (standing held)) (standing_table held w) x y j)) ∙ lost y i))) in
     record {
       fills = record {

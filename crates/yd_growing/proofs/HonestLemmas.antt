@@ -12,11 +12,11 @@ use Rattle.yd_meaning.specs.Held.{standing}
 use Rattle.yd_meaning.specs.Order.{rows_of, operation_set, order_of}
 use Rattle.yd_meaning.proofs.RowLemmas.{row_has}
 use Rattle.yd_meaning.proofs.StandingTableLemmas.{standing_table}
-use Rattle.yd_growing.specs.Grown.{table_in, IsGrown, IsWhole, StandsHonest}
+use Rattle.yd_growing.specs.Grown.{table_in, IsGrown, HasAllOfList, StandsHonest}
 use Rattle.yd_growing.proofs.GrowthLemmas.{nothing_closed}
 
 pub grown_is_order : (held : List Operation) → IsWritten held → StandsHonest held → (list : DocList) (ids : List Id) →
-    IsGrown (standing held) list ids → IsWhole (standing held) list ids → ids ≡ order_of (standing held) list
+    IsGrown (standing held) list ids → HasAllOfList (standing held) list ids → ids ≡ order_of (standing held) list
 grown_is_order held w honest list ids grown whole =
     let set = operation_set (standing held) in
     let table : IsTable (rows_of (standing held)) = standing_table held w in

@@ -3,7 +3,7 @@ pub mod ArrangingLemmas
 pub mod ComingLemmas
 pub mod CutLemmas
 pub mod DocumentLemmas
-pub mod DueLemmas
+pub mod DeletionLemmas
 pub mod FillingLemmas
 pub mod GrowthLemmas
 pub mod HeldLemmas

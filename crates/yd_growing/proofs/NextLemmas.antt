@@ -29,7 +29,7 @@ use Rattle.yd_meaning.proofs.RowLemmas.{one_row, has_row, left_of-row, right_of-
 use Rattle.yd_meaning.proofs.StandingLemmas.{standing_sources}
 use Rattle.yd_meaning.proofs.StandingTableLemmas.{standing_table}
 use Rattle.yd_growing.specs.Grown.{table_in}
-use Rattle.yd_growing.specs.Rows.{rows_from, rows_of_run}
+use Rattle.yd_growing.specs.Rows.{rows_of_units, rows_of_run}
 use Rattle.yd_growing.specs.Placing.{IsRowOf, HasRowsBelow, IsNextRun}
 use Rattle.yd_growing.specs.Filling.{ComesNext}
 use Rattle.yd_growing.proofs.RowLemmas.{right_is}
@@ -84,7 +84,7 @@ module _ (held : List Operation) (w : IsWritten held) (name : DocList) where
 
   unit_of : (us : List UnitContent) (id : Id) (left right kept : Option Id) (list : Option DocList) →
       ((o : Operation) → IsIn o (operations_from id left right list us) → IsIn o stands) → list_of stands id ≡ name →
-      (row : Row) → IsIn row (rows_from id.client left kept id.clock (length us)) → HasUnitOf right row
+      (row : Row) → IsIn row (rows_of_units id.client left kept id.clock (length us)) → HasUnitOf right row
   unit_of [] id left right kept list f of row i = absurd i
   unit_of (u ∷ us) id left right kept list f of row (inl e) = record {
     operation = record { id = id; left_origin = left; right_origin = right; list = list; content = u };
@@ -99,14 +99,14 @@ module _ (held : List Operation) (w : IsWritten held) (name : DocList) where
       let next : Operation = record { id = later_id id 1; left_origin = Some id; right_origin = right; list = None; content = v } in
       let e : suc id.clock ≡ id.clock + 1 = omega arith in
       unit_of (v ∷ us) (later_id id 1) (Some id) right kept None (λ o j. f o (inr j)) (list_of-left stands rows_table next (f next (inr (inl refl))) id refl ∙ of) row
-      (subst (λ c. IsIn row (rows_from id.client (Some id) kept c (length (v ∷ us)))) e i)
+      (subst (λ c. IsIn row (rows_of_units id.client (Some id) kept c (length (v ∷ us)))) e i)
 
   module _ (placed : Placed) (list : ℕ) (run : RunValue) (kept : Option Id) (lists : AreLists placed.linked) (lt : list < count_of placed)
       (has : HasRowsBelow table placed list) (comes : ComesNext held placed run) (of : list_of stands run.id ≡ name)
       (keeps : IsKeptRight placed list run.right kept) where
     units : (row : Row) → IsIn row (rows_of_run (stretch_of run kept)) → HasUnitOf run.right row
     units row i = unit_of (units_of_content run.content) run.id run.left run.right kept run.list comes.stands of row
-        (subst (λ n. IsIn row (rows_from run.id.client run.left kept run.id.clock n)) (sym (length-units_of_content run.content)) i)
+        (subst (λ n. IsIn row (rows_of_units run.id.client run.left kept run.id.clock n)) (sym (length-units_of_content run.content)) i)
 
     -- the right origin is kept where it is of the list, as the store keeps it
     kept_is : (x : Id) → list_of stands x ≡ name → (z k : Option Id) → IsKeptRight placed list z k →
@@ -164,7 +164,7 @@ module _ (held : List Operation) (w : IsWritten held) (name : DocList) where
         first_there : IsIn first (rows_of_run (stretch_of run kept))
         first_there = go (len_of run.content) comes.filled
           where
-            go : (n : ℕ) → 0 < n → IsIn first (rows_from run.id.client run.left kept run.id.clock n)
+            go : (n : ℕ) → 0 < n → IsIn first (rows_of_units run.id.client run.left kept run.id.clock n)
             go zero less = absurd (omega arith)
             go (suc n) less = inl refl
 

@@ -19,8 +19,8 @@ use Rattle.yd_index.proofs.RowLemmas.{from_says, from_in}
 use Rattle.yd_arena.specs.Lists.{AreLists}
 use Rattle.yd_arena.specs.Arena.{Placed, runs_of, count_of, places_in, units_in, next_clock, GrowsByRun}
 use Rattle.yd_arena.proofs.ListsLemmas.{in_put}
-use Rattle.yd_growing.specs.Rows.{rows_from, rows_of_run, rows_at, rows_in}
-use Rattle.yd_growing.specs.Placing.{IsRowOf, HasRowsBelow, IsNextRun, GrowsInto, SameRowsStay, OthersStay}
+use Rattle.yd_growing.specs.Rows.{rows_of_units, rows_of_run, rows_at, rows_in}
+use Rattle.yd_growing.specs.Placing.{IsRowOf, HasRowsBelow, IsNextRun, GrowsInto, SameRowsStay, OtherListsStay}
 use Rattle.yd_growing.proofs.GrowthLemmas.{in_scans, scans_have, grown_closed, IsFrontOf}
 use Rattle.yd_growing.proofs.RowLemmas.{ids-from, ids-rows, row_with, in_rows, rows_there, rows_same, IsRunOfTable, run_of_table}
 
@@ -29,7 +29,7 @@ use Rattle.yd_growing.proofs.RowLemmas.{ids-from, ids-rows, row_with, in_rows, r
 module _ (table : OriginTable) (client : Client) (right : Option Id) where
   -- the units of a run are in an arrangement, where each row is the table's and what comes before them is there
   run_arranged : (n clock : ℕ) (left : Option Id) (l : List Id) →
-      ((row : Row) → IsIn row (rows_from client left right clock n) → IsIn row.id (ids_of table) × IsRowOf table row) →
+      ((row : Row) → IsIn row (rows_of_units client left right clock n) → IsIn row.id (ids_of table) × IsRowOf table row) →
       IfSome left (λ y. IsIn y l) → IfSome right (λ y. IsIn y l) → ((x : Id) → IsIn x l → x.client ≡ client → x.clock < clock) →
       ((y : Id) → IsIn y (ids_of table) → y.client ≡ client → y.clock < clock → IsIn y l) → IsArrangement table l (units_from client clock n)
   run_arranged zero clock left l rows there ends below all = tt
@@ -176,8 +176,8 @@ same_rows_stay = λ table old new list lt has keeps. rows_below table old new li
     (λ x i. omega (arith, ((has.each x).0 i).1, keeps.nexts x.client.0))
     (λ x i low. omega (arith, low, keeps.nexts x.client.0))
 
-pub others_stay : OthersStay
-others_stay = λ table old new list run lists lt has comes apart.
+pub other_lists_stay : OtherListsStay
+other_lists_stay = λ table old new list run lists lt has comes apart.
     let same : rows_in new list ≡ rows_in old list =
     ap₂ rows_at comes.runs comes.places ∙ rows_same (runs_of old) run (places_in old list) (λ i m. lists.within list i lt m) in (
       units_same table old new list has same,

@@ -9,7 +9,7 @@ use Rattle.yd_origins.specs.Table.{Row, OriginTable, ids_of, left_of, right_of}
 use Rattle.yd_origins.specs.Growing.{IsRun}
 use Rattle.yd_scan.specs.declared.stretch.Stretch.{Stretch}
 use Rattle.yd_scan.specs.Stretches.{units_from, later_units, stretch_at, units_at, no_stretch}
-use Rattle.yd_growing.specs.Rows.{rows_from, rows_of_run, rows_at}
+use Rattle.yd_growing.specs.Rows.{rows_of_units, rows_of_run, rows_at}
 use Rattle.yd_growing.specs.Placing.{IsRowOf}
 
 -- ---- ids
@@ -18,7 +18,7 @@ ids-append : (xs ys : OriginTable) → ids_of (xs ++ ys) ≡ ids_of xs ++ ids_of
 ids-append [] ys = refl
 ids-append (x ∷ xs) ys = ap (λ zs. x.id ∷ zs) (ids-append xs ys)
 
-pub ids-from : (client : Client) (left right : Option Id) (clock n : ℕ) → ids_of (rows_from client left right clock n) ≡ units_from client clock n
+pub ids-from : (client : Client) (left right : Option Id) (clock n : ℕ) → ids_of (rows_of_units client left right clock n) ≡ units_from client clock n
 ids-from client left right clock zero = refl
 ids-from client left right clock (suc n) = ap (λ zs. record { client = client; clock = clock } ∷ zs) (ids-from client (Some (record { client = client; clock = clock })) right (suc clock) n)
 
@@ -58,7 +58,7 @@ rows_same runs run (p ∷ ps) within =
 
 module _ (table : OriginTable) (client : Client) (right : Option Id) where
   -- the units behind the first are a run, where each row is the table's
-  later_run : (n clock : ℕ) → ((row : Row) → IsIn row (rows_from client (Some (record { client = client; clock = clock })) right (suc clock) n) → IsRowOf table row) →
+  later_run : (n clock : ℕ) → ((row : Row) → IsIn row (rows_of_units client (Some (record { client = client; clock = clock })) right (suc clock) n) → IsRowOf table row) →
       IsRun (left_of table) (record { client = client; clock = clock }) (units_from client (suc clock) n)
   later_run zero clock rows = tt
   later_run (suc n) clock rows = (
@@ -67,7 +67,7 @@ module _ (table : OriginTable) (client : Client) (right : Option Id) where
   )
 
   -- the right of each is the run's
-  pub right_is : (n clock : ℕ) (left : Option Id) (row : Row) → IsIn row (rows_from client left right clock n) → row.right ≡ right
+  pub right_is : (n clock : ℕ) (left : Option Id) (row : Row) → IsIn row (rows_of_units client left right clock n) → row.right ≡ right
   right_is zero clock left row i = absurd i
   right_is (suc n) clock left row (inl e) = ap (λ (r : Row). r.right) e
   right_is (suc n) clock left row (inr i) = right_is n (suc clock) (Some (record { client = client; clock = clock })) row i
@@ -81,7 +81,7 @@ pub record IsRunOfTable (table : OriginTable) (run : Stretch) : Type 0 where
 pub run_of_table : (table : OriginTable) (run : Stretch) → 0 < run.len → ((row : Row) → IsIn row (rows_of_run run) → IsRowOf table row) → IsRunOfTable table run
 run_of_table table run filled rows = let r = go run.len filled rows in record { left = r.0; right = r.1; later = r.2 }
   where
-    go : (n : ℕ) → 0 < n → ((row : Row) → IsIn row (rows_from run.id.client run.left run.right run.id.clock n) → IsRowOf table row) →
+    go : (n : ℕ) → 0 < n → ((row : Row) → IsIn row (rows_of_units run.id.client run.left run.right run.id.clock n) → IsRowOf table row) →
         (left_of table run.id ≡ run.left) × (right_of table run.id ≡ run.right) × IsRun (left_of table) run.id (units_from run.id.client (suc run.id.clock) (n - 1))
     go zero lt rs = absurd (omega arith)
     go (suc n) lt rs =

@@ -24,7 +24,7 @@ use Rattle.yd_meaning.proofs.StandingLemmas.{standing_in}
 use Rattle.yd_meaning.proofs.StandingTableLemmas.{IsEarlier, standing_table}
 use Rattle.yd_growing.specs.Grown.{table_in, StandsHonest}
 use Rattle.yd_growing.specs.Staying.{AreSeenAlike, StaysHeld}
-use Rattle.yd_growing.specs.Deletions.{AreSound}
+use Rattle.yd_growing.specs.Deletions.{AreSoundDeletions}
 use Rattle.yd_growing.specs.Law.{StaysGrown}
 use Rattle.yd_growing.proofs.GrowthLemmas.{grows_on, grown_within, IsFrontOf}
 use Rattle.yd_growing.proofs.PartLemmas.{list_front}
@@ -137,5 +137,5 @@ module _ (part held : List Operation) (w : IsWritten held) (stays : StaysHeld pa
     ]
 
   pub sound_stays : (named more deleted : Id → Bool) → ((x : Id) → named x ≡ true → more x ≡ true) → ((x : Id) → deleted x ≡ true → has_operation part x ≡ true) →
-      AreSound part named deleted → AreSound held more deleted
+      AreSoundDeletions part named deleted → AreSoundDeletions held more deleted
   sound_stays named more deleted among only_held sound honest x e = deletes named more among honest x (only_held x e) (sound (part_honest honest) x e)

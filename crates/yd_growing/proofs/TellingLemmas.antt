@@ -24,8 +24,8 @@ use Rattle.yd_meaning.specs.Document.{Document}
 use Rattle.yd_meaning.proofs.StandingLemmas.{standing_one}
 use Rattle.yd_growing.specs.Grown.{table_in, IsGrown}
 use Rattle.yd_growing.specs.Own.{ids_in, HasGrownLists}
-use Rattle.yd_growing.specs.Filling.{FillsLists, AreFilled}
-use Rattle.yd_growing.specs.Telling.{IsSound, ListsTellUnits, TellsLists, HasHeld, ListsAreGrown, FilledListsAreGrown}
+use Rattle.yd_growing.specs.Filling.{FillsLists, AreFilledLists}
+use Rattle.yd_growing.specs.Telling.{IsSoundStore, ListsTellUnits, TellsLists, HasAllHeld, ListsAreGrown, FilledListsAreGrown}
 use Rattle.yd_growing.proofs.FillingLemmas.{within_names, filling_ends}
 use Rattle.yd_growing.proofs.GrowthLemmas.{grown_distinct}
 
@@ -54,7 +54,7 @@ ids-told stretch (Some run) of = ids-from (units_of_content run.content) run.id 
     ∙ ap (units_from run.id.client run.id.clock) (length-units_of_content run.content ∙ of.len_is)
     ∙ ap (λ (id : Id). units_from id.client id.clock stretch.len) of.id_is
 
-module _ (it : Stored) (sound : IsSound it) where
+module _ (it : Stored) (sound : IsSoundStore it) where
   abbrev at : ℕ → List Operation
   at = operations_at (runs_of it.placed) (told_of it.contents)
 
@@ -110,9 +110,9 @@ id_in (p ∷ ps) o (inr m) = inr (id_in ps o m)
 
 -- ---- the document
 
-module _ (held : List Operation) (w : IsWritten held) (names : List DocList) (it : Stored) (document : Document) (sound : IsSound it)
-    (fills : FillsLists held names it.placed) (has : HasHeld held it) (grown : ListsAreGrown held names it) (tells : TellsLists document names it) where
-  filled : AreFilled held names it.placed
+module _ (held : List Operation) (w : IsWritten held) (names : List DocList) (it : Stored) (document : Document) (sound : IsSoundStore it)
+    (fills : FillsLists held names it.placed) (has : HasAllHeld held it) (grown : ListsAreGrown held names it) (tells : TellsLists document names it) where
+  filled : AreFilledLists held names it.placed
   filled = filling_ends held w names it.placed fills has.all
 
   -- what is asked of one list

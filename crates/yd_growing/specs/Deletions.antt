@@ -11,22 +11,22 @@ use Rattle.yd_meaning.specs.Held.{is_lost}
 use Rattle.yd_meaning.specs.Deleted.{is_deleted}
 use Rattle.yd_growing.specs.Grown.{StandsHonest}
 
--- an id is due to be deleted: it is held and named; it is lost; it stands in a list with a key, and not last; or the item of
--- its list is deleted
-pub data IsDue (lists : DocList → List Id) (held : List Operation) (named deleted : Id → Bool) : Id → Type 0 where
-  due_by_name : {x : Id} → has_operation held x ≡ true → named x ≡ true → IsDue lists held named deleted x
-  due_by_loss : {x : Id} → is_lost held x ≡ true → IsDue lists held named deleted x
-  due_by_key : {x : Id} → (list : DocList) → IsIn x (lists list) → has_key list ≡ true → last_of (lists list) ≢ Some x → IsDue lists held named deleted x
-  due_by_item : {x y : Id} → (list : DocList) → IsIn x (lists list) → item_of_list list ≡ Some y → deleted y ≡ true → IsDue lists held named deleted x
+-- an id must be deleted: it is held and named; it is lost; it stands in a list with a key, and not last; or the item of its
+-- list is deleted
+pub data MustBeDeleted (lists : DocList → List Id) (held : List Operation) (named deleted : Id → Bool) : Id → Type 0 where
+  for_name : {x : Id} → has_operation held x ≡ true → named x ≡ true → MustBeDeleted lists held named deleted x
+  for_loss : {x : Id} → is_lost held x ≡ true → MustBeDeleted lists held named deleted x
+  for_key : {x : Id} → (list : DocList) → IsIn x (lists list) → has_key list ≡ true → last_of (lists list) ≢ Some x → MustBeDeleted lists held named deleted x
+  for_item : {x y : Id} → (list : DocList) → IsIn x (lists list) → item_of_list list ≡ Some y → deleted y ≡ true → MustBeDeleted lists held named deleted x
 
--- all that is due is deleted, and nothing that is not held
-pub record AreClosed (lists : DocList → List Id) (held : List Operation) (named deleted : Id → Bool) : Type 0 where
-  pub due : (x : Id) → IsDue lists held named deleted x → deleted x ≡ true
+-- all is deleted that must be, and nothing that is not held
+pub record AreClosedDeletions (lists : DocList → List Id) (held : List Operation) (named deleted : Id → Bool) : Type 0 where
+  pub all : (x : Id) → MustBeDeleted lists held named deleted x → deleted x ≡ true
   pub only_held : (x : Id) → deleted x ≡ true → has_operation held x ≡ true
 
 -- where what stands keeps the edit rules, the definitions delete what is deleted
-abbrev pub AreSound : List Operation → (Id → Bool) → (Id → Bool) → Type 0
-AreSound held named deleted = StandsHonest held → (x : Id) → deleted x ≡ true → is_deleted held named x ≡ true
+abbrev pub AreSoundDeletions : List Operation → (Id → Bool) → (Id → Bool) → Type 0
+AreSoundDeletions held named deleted = StandsHonest held → (x : Id) → deleted x ≡ true → is_deleted held named x ≡ true
 
 -- what is deleted now besides what was: what is named or lost, and was not so in the part; of lists with a key that are not as
 -- they were all but the last; and under a deleted item what came, or what was there and the item was not deleted

@@ -28,14 +28,14 @@ pub record FillsLists (held : List Operation) (names : List DocList) (placed : P
       (n : ℕ) × (slice_get names n ≡ Some (list_of (standing held) x))
 
 -- each list has grown by scans, from one store to another
-abbrev pub ListsGrow : List Operation → List DocList → Placed → Placed → Type 0
-ListsGrow held names old new = (n : ℕ) (name : DocList) → slice_get names n ≡ Some name →
+abbrev pub ListsGrowOn : List Operation → List DocList → Placed → Placed → Type 0
+ListsGrowOn held names old new = (n : ℕ) (name : DocList) → slice_get names n ≡ Some name →
     GrowsByScan (table_in (standing held) name) (units_in old n) (units_in new n)
 
 -- the lists have grown by scans, and have the rows below the new clocks
 pub record FillsOn (held : List Operation) (names : List DocList) (old new : Placed) : Type 0 where
   pub fills : FillsLists held names new
-  pub grows : ListsGrow held names old new
+  pub grows : ListsGrowOn held names old new
 
 -- a run comes next: its operations stand, with the next clocks of their client, and its origins are below the next clocks
 pub record ComesNext (held : List Operation) (placed : Placed) (run : RunValue) : Type 0 where
@@ -81,7 +81,7 @@ FillingAddsLost = (held : List Operation) → IsWritten held → (names : List D
     FillsOn held names old.placed new.placed
 
 -- each list has just what stands of its name, and what stands is of a list that has a name
-pub record AreFilled (held : List Operation) (names : List DocList) (placed : Placed) : Type 0 where
+pub record AreFilledLists (held : List Operation) (names : List DocList) (placed : Placed) : Type 0 where
   pub each : (n : ℕ) (name : DocList) → slice_get names n ≡ Some name → (x : Id) →
       IsIn x (units_in placed n) ↔ ((has_operation (standing held) x ≡ true) × (list_of (standing held) x ≡ name))
   pub others : (x : Id) → has_operation (standing held) x ≡ true → IsIn (list_of (standing held) x) names
@@ -89,4 +89,4 @@ pub record AreFilled (held : List Operation) (names : List DocList) (placed : Pl
 -- so it is once the store has all that is held
 abbrev pub FillingEnds : Type 0
 FillingEnds = (held : List Operation) → IsWritten held → (names : List DocList) (placed : Placed) → FillsLists held names placed →
-    ((x : Id) → has_operation held x ≡ true → x.clock < next_clock placed x.client.0) → AreFilled held names placed
+    ((x : Id) → has_operation held x ≡ true → x.clock < next_clock placed x.client.0) → AreFilledLists held names placed

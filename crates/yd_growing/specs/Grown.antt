@@ -20,8 +20,8 @@ abbrev pub IsGrown : List Operation → DocList → List Id → Type 0
 IsGrown stands list ids = GrowsByScan (table_in stands list) [] ids
 
 -- each id that stands and is of the list is there
-abbrev pub IsWhole : List Operation → DocList → List Id → Type 0
-IsWhole stands list ids = (x : Id) → has_operation stands x ≡ true → list_of stands x ≡ list → IsIn x ids
+abbrev pub HasAllOfList : List Operation → DocList → List Id → Type 0
+HasAllOfList stands list ids = (x : Id) → has_operation stands x ≡ true → list_of stands x ≡ list → IsIn x ids
 
 -- what stands of held operations keeps the edit rules by itself: its pasts go over what stands. Where the held operations
 -- keep the edit rules, whose pasts go over what is lost too, this is so

@@ -15,9 +15,9 @@ use Rattle.yd_meaning.specs.Order.{order_of, AreHonest}
 use Rattle.yd_meaning.specs.Deleted.{is_deleted}
 use Rattle.yd_meaning.specs.Document.{Document, document_with}
 use Rattle.yd_meaning.specs.Law.{IsPartOf}
-use Rattle.yd_growing.specs.Grown.{table_in, IsGrown, IsWhole, StandsHonest}
+use Rattle.yd_growing.specs.Grown.{table_in, IsGrown, HasAllOfList, StandsHonest}
 use Rattle.yd_growing.specs.Staying.{StaysHeld}
-use Rattle.yd_growing.specs.Deletions.{IsDue, AreClosed, AreSound, DeletesBesides}
+use Rattle.yd_growing.specs.Deletions.{MustBeDeleted, AreClosedDeletions, AreSoundDeletions, DeletesBesides}
 use Rattle.yd_growing.specs.Own.{IsOwnDocument}
 
 -- ---- lists
@@ -26,7 +26,7 @@ use Rattle.yd_growing.specs.Own.{IsOwnDocument}
 -- held operations keep them
 pub record GrownIsOrder : Type 0 where
   pub order : (held : List Operation) → IsWritten held → StandsHonest held → (list : DocList) (ids : List Id) →
-      IsGrown (standing held) list ids → IsWhole (standing held) list ids → ids ≡ order_of (standing held) list
+      IsGrown (standing held) list ids → HasAllOfList (standing held) list ids → ids ≡ order_of (standing held) list
   pub honest : (received : List Operation) → IsWritten received → AreHonest (held_set received) → StandsHonest (held_set received)
 
 -- what grew and then grew further has grown by the scans of both, in every table; and what grew has its rows alone, each
@@ -39,7 +39,7 @@ pub record GrowthGoesOn : Type 0 where
 -- every list can grow, whatever is held: what stands of it comes in some arrangement, and then it is whole
 abbrev pub ListsCanGrow : Type 0
 ListsCanGrow = (received : List Operation) → IsWritten received → (list : DocList) →
-    (ids : List Id) × IsGrown (standing (held_set received)) list ids × IsWhole (standing (held_set received)) list ids
+    (ids : List Id) × IsGrown (standing (held_set received)) list ids × HasAllOfList (standing (held_set received)) list ids
 
 -- a list that grew in a part grew so in the whole, whatever more is held; so it is grown again, once it grew on by scans of
 -- what came
@@ -67,26 +67,26 @@ pub record HeldStays : Type 0 where
 -- those of the definitions
 abbrev pub ClosedIsDeleted : Type 0
 ClosedIsDeleted = (held : List Operation) → IsWritten held → StandsHonest held → (lists : DocList → List Id) (named deleted : Id → Bool) →
-    ((list : DocList) → lists list ≡ order_of (standing held) list) → AreClosed lists held named deleted → AreSound held named deleted →
+    ((list : DocList) → lists list ≡ order_of (standing held) list) → AreClosedDeletions lists held named deleted → AreSoundDeletions held named deleted →
     (x : Id) → deleted x ≡ (has_operation held x && is_deleted held named x)
 
--- what was closed in a part is closed in the whole, once what is due besides is deleted
+-- what was closed in a part is closed in the whole, once what must be deleted besides is so
 abbrev pub ClosedGoesOn : Type 0
 ClosedGoesOn = (old_lists lists : DocList → List Id) (part held : List Operation) (named more deleted now : Id → Bool) →
-    AreClosed old_lists part named deleted → DeletesBesides old_lists lists part held named more deleted now → AreClosed lists held more now
+    AreClosedDeletions old_lists part named deleted → DeletesBesides old_lists lists part held named more deleted now → AreClosedDeletions lists held more now
 
 -- what was deleted soundly in a part that stays held is sound in the whole, where no fewer ids are named
 abbrev pub SoundStays : Type 0
 SoundStays = (part held : List Operation) → IsWritten held → StaysHeld part held → (named more deleted : Id → Bool) →
     ((x : Id) → named x ≡ true → more x ≡ true) → ((x : Id) → deleted x ≡ true → has_operation part x ≡ true) →
-    AreSound part named deleted → AreSound held more deleted
+    AreSoundDeletions part named deleted → AreSoundDeletions held more deleted
 
--- where the lists grew by scans and are whole, what is due may be deleted besides: that stays sound
-abbrev pub DueIsSound : Type 0
-DueIsSound = (held : List Operation) → IsWritten held → (lists : DocList → List Id) (named deleted : Id → Bool) →
-    ((list : DocList) → IsGrown (standing held) list (lists list)) → ((list : DocList) → IsWhole (standing held) list (lists list)) →
-    AreSound held named deleted → (more : Id → Bool) → ((x : Id) → more x ≡ true → (deleted x ≡ true) ⊎ IsDue lists held named deleted x) →
-    AreSound held named more
+-- where the lists grew by scans and are whole, to delete what must be deleted stays sound
+abbrev pub AddingIsSound : Type 0
+AddingIsSound = (held : List Operation) → IsWritten held → (lists : DocList → List Id) (named deleted : Id → Bool) →
+    ((list : DocList) → IsGrown (standing held) list (lists list)) → ((list : DocList) → HasAllOfList (standing held) list (lists list)) →
+    AreSoundDeletions held named deleted → (more : Id → Bool) → ((x : Id) → more x ≡ true → (deleted x ≡ true) ⊎ MustBeDeleted lists held named deleted x) →
+    AreSoundDeletions held named more
 
 -- ---- documents
 

@@ -68,7 +68,7 @@ RunsGrow = (table : OriginTable) (old new : Placed) (list : ℕ) (run : Stretch)
 
 -- a list into which a run did not go has the units that it had, and the rows of its table below the new clocks, where no
 -- unit of the run is one of these
-abbrev pub OthersStay : Type 0
-OthersStay = (table : OriginTable) (old new : Placed) (list : ℕ) (run : Stretch) → AreLists old.linked → list < count_of old → HasRowsBelow table old list →
+abbrev pub OtherListsStay : Type 0
+OtherListsStay = (table : OriginTable) (old new : Placed) (list : ℕ) (run : Stretch) → AreLists old.linked → list < count_of old → HasRowsBelow table old list →
     ComesElsewhere old new list run → ((x : Id) → IsIn x (units_of run) → IsIn x (ids_of table) → ⊥) →
     (units_in new list ≡ units_in old list) × HasRowsBelow table new list

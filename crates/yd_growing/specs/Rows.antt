@@ -8,15 +8,15 @@ use Rattle.yd_scan.specs.Stretches.{stretch_at}
 use Rattle.yd_arena.specs.Arena.{Placed, runs_of, places_in}
 
 -- so many units of a client from a clock on: the left of each later one is the unit before it, and all have one right
-abbrev pub rows_from : Client → Option Id → Option Id → ℕ → ℕ → OriginTable
-rows_from client left right clock zero = []
-rows_from client left right clock (suc n) =
+abbrev pub rows_of_units : Client → Option Id → Option Id → ℕ → ℕ → OriginTable
+rows_of_units client left right clock zero = []
+rows_of_units client left right clock (suc n) =
     record { id = record { client = client; clock = clock }; left = left; right = right }
-    ∷ rows_from client (Some (record { client = client; clock = clock })) right (suc clock) n
+    ∷ rows_of_units client (Some (record { client = client; clock = clock })) right (suc clock) n
 
 -- the units of a run
 abbrev pub rows_of_run : Stretch → OriginTable
-rows_of_run run = rows_from run.id.client run.left run.right run.id.clock run.len
+rows_of_run run = rows_of_units run.id.client run.left run.right run.id.clock run.len
 
 -- the units of the runs at places
 abbrev pub rows_at : List Stretch → List ℕ → OriginTable

@@ -17,13 +17,13 @@ use Rattle.yd_growing.specs.Own.{HasGrownLists}
 use Rattle.yd_growing.specs.Filling.{FillsLists}
 
 -- the store is sound: no list has a place twice, and each place tells the units of its run
-pub record IsSound (it : Stored) : Type 0 where
+pub record IsSoundStore (it : Stored) : Type 0 where
   pub lists : AreLists it.placed.linked
   pub told : AreTold (runs_of it.placed) (told_of it.contents)
 
 -- the operations of a list are its units, in their order
 abbrev pub ListsTellUnits : Type 0
-ListsTellUnits = (it : Stored) → IsSound it → (list : ℕ) → list < count_of it.placed →
+ListsTellUnits = (it : Stored) → IsSoundStore it → (list : ℕ) → list < count_of it.placed →
     map (λ (o : Operation). o.id) (operations_in it list) ≡ units_in it.placed list
 
 -- a document has the operations of each list under its name, and none under others
@@ -32,7 +32,7 @@ pub record TellsLists (document : Document) (names : List DocList) (it : Stored)
   pub others : (name : DocList) → (IsIn name names → ⊥) → document.units name ≡ []
 
 -- the store has just what is held
-pub record HasHeld (held : List Operation) (it : Stored) : Type 0 where
+pub record HasAllHeld (held : List Operation) (it : Stored) : Type 0 where
   pub all : (x : Id) → has_operation held x ≡ true → x.clock < next_clock it.placed x.client.0
   pub no_more : (o : Operation) → HasOperation it o → IsIn o held
 
@@ -42,5 +42,5 @@ ListsAreGrown held names it = (n : ℕ) (name : DocList) → slice_get names n �
 
 -- a document that tells the lists of a store has grown lists, where these grew and the store has just what is held
 abbrev pub FilledListsAreGrown : Type 0
-FilledListsAreGrown = (held : List Operation) → IsWritten held → (names : List DocList) (it : Stored) (document : Document) → IsSound it →
-    FillsLists held names it.placed → HasHeld held it → ListsAreGrown held names it → TellsLists document names it → HasGrownLists document held
+FilledListsAreGrown = (held : List Operation) → IsWritten held → (names : List DocList) (it : Stored) (document : Document) → IsSoundStore it →
+    FillsLists held names it.placed → HasAllHeld held it → ListsAreGrown held names it → TellsLists document names it → HasGrownLists document held

@@ -1,6 +1,6 @@
 //! The laws of grown documents, each the contract of an empty function.
 
-ghost use Rattle.yd_growing.specs.Law.{GrownIsOrder, GrowthGoesOn, ListsCanGrow, GrownStays, HeldStays, ClosedIsDeleted, ClosedGoesOn, SoundStays, DueIsSound, OwnIsDefined};
+ghost use Rattle.yd_growing.specs.Law.{GrownIsOrder, GrowthGoesOn, ListsCanGrow, GrownStays, HeldStays, ClosedIsDeleted, ClosedGoesOn, SoundStays, AddingIsSound, OwnIsDefined};
 
 /// Where what stands keeps the edit rules, a whole list that grew by scans is the origin order.
 pub fn grown_is_order()
@@ -32,7 +32,7 @@ pub fn closed_is_deleted()
     ensures { ClosedIsDeleted }
 {}
 
-/// What was closed is closed once more is held, where what is due besides is deleted.
+/// What was closed is closed once more is held, where what must be deleted besides is deleted.
 pub fn closed_goes_on()
     ensures { ClosedGoesOn }
 {}
@@ -42,9 +42,9 @@ pub fn sound_stays()
     ensures { SoundStays }
 {}
 
-/// Where lists grew by scans, deleting what is due by their order is sound.
-pub fn due_is_sound()
-    ensures { DueIsSound }
+/// Where lists grew by scans, deleting what must be by their order is sound.
+pub fn adding_is_sound()
+    ensures { AddingIsSound }
 {}
 
 /// Where what is held keeps the edit rules, the own document is just the one that this defines.

@@ -1,6 +1,6 @@
 //! The laws of lists in an arena while their operations come, each the contract of an empty function.
 
-ghost use Rattle.yd_growing.specs.Placing.{CutsKeepRows, SameRowsStay, RunsGrow, OthersStay};
+ghost use Rattle.yd_growing.specs.Placing.{CutsKeepRows, SameRowsStay, RunsGrow, OtherListsStay};
 
 /// A cut leaves all rows of each list as they are.
 pub fn cuts_keep_rows()
@@ -18,6 +18,6 @@ pub fn runs_grow()
 {}
 
 /// A list into which a run does not go has the rows of its table still.
-pub fn others_stay()
-    ensures { OthersStay }
+pub fn other_lists_stay()
+    ensures { OtherListsStay }
 {}

@@ -4,30 +4,30 @@ use Rattle.yd_ids.specs.declared.id.Id.{Id}
 use Rattle.yd_ops.specs.declared.lists.List.{List as DocList}
 use Rattle.yd_ops.specs.Operation.{Operation}
 use Rattle.yd_origins.specs.Deleted.{last_of}
-use Rattle.yd_growing.specs.Deletions.{IsDue, due_by_name, due_by_loss, due_by_key, due_by_item, AreClosed, DeletesBesides}
+use Rattle.yd_growing.specs.Deletions.{MustBeDeleted, for_name, for_loss, for_key, for_item, AreClosedDeletions, DeletesBesides}
 use Rattle.yd_growing.proofs.law.closed_goes_on.Goals as goal
 
-due_again : (old_lists lists : DocList → List Id) (part held : List Operation) (named more deleted now : Id → Bool) → AreClosed old_lists part named deleted →
-    DeletesBesides old_lists lists part held named more deleted now → (x : Id) → IsDue lists held more now x → now x ≡ true
-due_again old_lists lists part held named more deleted now closed besides x (due_by_name there by) = elim (besides.names x there by) [
-  | inl was ↦ besides.stays x (closed.due x (due_by_name was.0 was.1))
+still_deleted : (old_lists lists : DocList → List Id) (part held : List Operation) (named more deleted now : Id → Bool) → AreClosedDeletions old_lists part named deleted →
+    DeletesBesides old_lists lists part held named more deleted now → (x : Id) → MustBeDeleted lists held more now x → now x ≡ true
+still_deleted old_lists lists part held named more deleted now closed besides x (for_name there by) = elim (besides.names x there by) [
+  | inl was ↦ besides.stays x (closed.all x (for_name was.0 was.1))
   | inr e ↦ e
 ]
-due_again old_lists lists part held named more deleted now closed besides x (due_by_loss lost) = elim (besides.losses x lost) [
-  | inl was ↦ besides.stays x (closed.due x (due_by_loss was))
+still_deleted old_lists lists part held named more deleted now closed besides x (for_loss lost) = elim (besides.losses x lost) [
+  | inl was ↦ besides.stays x (closed.all x (for_loss was))
   | inr e ↦ e
 ]
-due_again old_lists lists part held named more deleted now closed besides x (due_by_key list i key other) = elim (besides.keys list key) [
-  | inl same ↦ besides.stays x (closed.due x (due_by_key list (subst (IsIn x) same i) key (subst (λ l. last_of l ≢ Some x) same other)))
+still_deleted old_lists lists part held named more deleted now closed besides x (for_key list i key other) = elim (besides.keys list key) [
+  | inl same ↦ besides.stays x (closed.all x (for_key list (subst (IsIn x) same i) key (subst (λ l. last_of l ≢ Some x) same other)))
   | inr all ↦ all x i other
 ]
-due_again old_lists lists part held named more deleted now closed besides x (due_by_item {y = y} list i item by) = elim (besides.items list x y i item by) [
-  | inl was ↦ besides.stays x (closed.due x (due_by_item list was.0 item was.1))
+still_deleted old_lists lists part held named more deleted now closed besides x (for_item {y = y} list i item by) = elim (besides.items list x y i item by) [
+  | inl was ↦ besides.stays x (closed.all x (for_item list was.0 item was.1))
   | inr e ↦ e
 ]
 
 pub returns : goal.returns
 returns c = λ old_lists lists part held named more deleted now closed besides. record {
-  due = due_again old_lists lists part held named more deleted now closed besides;
+  all = still_deleted old_lists lists part held named more deleted now closed besides;
   only_held = besides.only_held;
 }

@@ -1,4 +1,4 @@
-use Rattle.yd_growing.proofs.DueLemmas.{closed_is_deleted}
+use Rattle.yd_growing.proofs.DeletionLemmas.{closed_is_deleted}
 use Rattle.yd_growing.proofs.law.closed_is_deleted.Goals as goal
 
 pub returns : goal.returns

@@ -1,4 +1,4 @@
--- What is due by the order of grown lists, and what the definitions delete where the edit rules are kept.
+-- What must be deleted by the order of grown lists, and what the definitions delete where the edit rules are kept.
 use Rattle.std.proofs.Common.{◌≡◌, ◌≢◌, Bool, true, false, ◌||◌, ◌&&◌, List, Some, ◌⊎◌, inl, inr, refl, sym, ap, ◌∙◌, subst}
 use Rattle.std.proofs.lemmas.Bool.{cases_Bool, or_left, or_right}
 use Rattle.yd_words.specs.Member.{IsIn}
@@ -17,7 +17,7 @@ use Rattle.yd_meaning.proofs.DeletedLemmas.{deleted_among_is, deleted_among-true
 use Rattle.yd_meaning.proofs.HeldListLemmas.{in_order_of}
 use Rattle.yd_meaning.proofs.NestingLemmas.{standing_item}
 use Rattle.yd_meaning.proofs.StandingTableLemmas.{standing_table}
-use Rattle.yd_growing.specs.Deletions.{IsDue, due_by_name, due_by_loss, due_by_key, due_by_item, AreClosed}
+use Rattle.yd_growing.specs.Deletions.{MustBeDeleted, for_name, for_loss, for_key, for_item, AreClosedDeletions}
 use Rattle.yd_growing.proofs.StayingLemmas.{stands_held, lost_is, stands_not_lost}
 
 -- two tests of which each holds where the other does give one answer
@@ -54,37 +54,37 @@ module _ (held : List Operation) (written : IsWritten held) (named : Id → Bool
     list_has x e = subst (IsIn x) (sym (ordered (list_of stands x))) ((in_order_of stands table (list_of stands x) x).1 (e, refl))
 
     module _ (deleted : Id → Bool) where
-      -- ---- what is due is deleted
+      -- ---- what must be deleted the definitions delete
 
-      pub due_deleted : ((y : Id) → deleted y ≡ true → is_deleted held named y ≡ true) → (x : Id) → IsDue lists held named deleted x →
+      pub deleted_by_definition : ((y : Id) → deleted y ≡ true → is_deleted held named y ≡ true) → (x : Id) → MustBeDeleted lists held named deleted x →
           is_deleted held named x ≡ true
-      due_deleted sound x (due_by_name there by) = elim (cases_Bool (has_operation stands x)) [
+      deleted_by_definition sound x (for_name there by) = elim (cases_Bool (has_operation stands x)) [
         | inl e ↦ is_deleted-true x e (by_name by)
         | inr none ↦ lost_deleted x (lost_is held x there none)
       ]
-      due_deleted sound x (due_by_loss lost) = lost_deleted x lost
-      due_deleted sound x (due_by_key list i key other) = let (e, of) = in_list list x i in is_deleted-true x e (by_key (record {
+      deleted_by_definition sound x (for_loss lost) = lost_deleted x lost
+      deleted_by_definition sound x (for_key list i key other) = let (e, of) = in_list list x i in is_deleted-true x e (by_key (record {
         keyed = ap has_key of ∙ key;
         not_last = subst (λ l. last_of (order_of stands l) ≢ Some x) (sym of) (subst (λ l. last_of l ≢ Some x) (ordered list) other);
       }))
-      due_deleted sound x (due_by_item {y = y} list i item by) = let (e, of) = in_list list x i in
+      deleted_by_definition sound x (for_item {y = y} list i item by) = let (e, of) = in_list list x i in
           let its : item_of_list (list_of stands x) ≡ Some y = ap item_of_list of ∙ item in
           is_deleted-true x e (by_item its (deleted_is y (standing_item held written x y e its) (sound y by)))
 
-      -- ---- what is deleted is due
+      -- ---- what the definitions delete is deleted
 
-      module _ (closed : AreClosed lists held named deleted) where
-        deleted_due : {x : Id} → has_operation stands x ≡ true → IsDeleted (operation_set stands) named x → deleted x ≡ true
-        deleted_due e (by_name {x = x} by) = closed.due x (due_by_name (stands_held held written x e) by)
-        deleted_due e (by_key {x = x} over) = closed.due x (due_by_key (list_of stands x) (list_has x e) over.keyed
+      module _ (closed : AreClosedDeletions lists held named deleted) where
+        deleted_as_defined : {x : Id} → has_operation stands x ≡ true → IsDeleted (operation_set stands) named x → deleted x ≡ true
+        deleted_as_defined e (by_name {x = x} by) = closed.all x (for_name (stands_held held written x e) by)
+        deleted_as_defined e (by_key {x = x} over) = closed.all x (for_key (list_of stands x) (list_has x e) over.keyed
             (subst (λ l. last_of l ≢ Some x) (sym (ordered (list_of stands x))) over.not_last))
-        deleted_due e (by_item {x = x} {y = y} item by) = closed.due x (due_by_item (list_of stands x) (list_has x e) item
-            (deleted_due (standing_item held written x y e item) by))
+        deleted_as_defined e (by_item {x = x} {y = y} item by) = closed.all x (for_item (list_of stands x) (list_has x e) item
+            (deleted_as_defined (standing_item held written x y e item) by))
 
-        all_due : (x : Id) → has_operation held x ≡ true → is_deleted held named x ≡ true → deleted x ≡ true
-        all_due x there e = elim (cases_Bool (has_operation stands x)) [
-          | inl up ↦ deleted_due up (deleted_is x up e)
-          | inr none ↦ closed.due x (due_by_loss (lost_is held x there none))
+        all_deleted : (x : Id) → has_operation held x ≡ true → is_deleted held named x ≡ true → deleted x ≡ true
+        all_deleted x there e = elim (cases_Bool (has_operation stands x)) [
+          | inl up ↦ deleted_as_defined up (deleted_is x up e)
+          | inr none ↦ closed.all x (for_loss (lost_is held x there none))
         ]
 
         -- ---- lemmas for callers
@@ -92,11 +92,11 @@ module _ (held : List Operation) (written : IsWritten held) (named : Id → Bool
         pub closed_is_deleted : ((y : Id) → deleted y ≡ true → is_deleted held named y ≡ true) → (x : Id) → deleted x ≡ (has_operation held x && is_deleted held named x)
         closed_is_deleted sound x = both_ways (deleted x) (has_operation held x && is_deleted held named x)
             (λ e. hold_both (has_operation held x) (is_deleted held named x) (closed.only_held x e) (sound x e))
-            (λ e. let b = both_hold (has_operation held x) (is_deleted held named x) e in all_due x b.0 b.1)
+            (λ e. let b = both_hold (has_operation held x) (is_deleted held named x) e in all_deleted x b.0 b.1)
 
-      pub due_sound : ((y : Id) → deleted y ≡ true → is_deleted held named y ≡ true) → (more : Id → Bool) →
-          ((x : Id) → more x ≡ true → (deleted x ≡ true) ⊎ IsDue lists held named deleted x) → (x : Id) → more x ≡ true → is_deleted held named x ≡ true
-      due_sound sound more why x e = elim (why x e) [
+      pub adding_is_sound : ((y : Id) → deleted y ≡ true → is_deleted held named y ≡ true) → (more : Id → Bool) →
+          ((x : Id) → more x ≡ true → (deleted x ≡ true) ⊎ MustBeDeleted lists held named deleted x) → (x : Id) → more x ≡ true → is_deleted held named x ≡ true
+      adding_is_sound sound more why x e = elim (why x e) [
         | inl there ↦ sound x there
-        | inr due ↦ due_deleted sound x due
+        | inr must ↦ deleted_by_definition sound x must
       ]
