@@ -23,15 +23,15 @@ use Rattle.yd_meaning.specs.Held.{standing}
 use Rattle.yd_meaning.specs.Order.{operation_set, list_of}
 use Rattle.yd_meaning.proofs.RowLemmas.{has_row, row_has}
 use Rattle.yd_meaning.proofs.StandingTableLemmas.{standing_table}
-use Rattle.yd_growing.specs.Grown.{table_in}
+use Rattle.yd_growing.specs.Grown.{table_in, IsGrown}
 use Rattle.yd_growing.specs.Rows.{rows_at, rows_in, rows_of_run}
 use Rattle.yd_growing.specs.Placing.{HasRowsBelow, IsNextRun, ComesElsewhere, GrowsInto}
-use Rattle.yd_growing.specs.Filling.{FillsLists, FillsOn, ComesNext, FillingStarts, FillingStays, FillingIsKept, FillingAddsList, FillingAddsRun, FillingAddsLost, FillingEnds}
-use Rattle.yd_growing.proofs.GrowthLemmas.{nothing_closed}
+use Rattle.yd_growing.specs.Filling.{FillsLists, AddsName, FillingGoesOn, FillsOn, ComesNext, FillingStarts, FillingStays, FillingIsKept, FillingAddsList, FillingAddsRun, FillingAddsLost, FillingEnds}
+use Rattle.yd_growing.proofs.GrowthLemmas.{nothing_closed, grows_on}
 use Rattle.yd_growing.proofs.NextLemmas.{is_next}
 use Rattle.yd_growing.proofs.PlacingLemmas.{units_same, rows_below, grows_into, same_rows_stay, other_lists_stay, rows_in_front}
 use Rattle.yd_growing.proofs.RowLemmas.{ids-from, row_with}
-use Rattle.yd_growing.proofs.StayingLemmas.{stands_held, back, same_list, is_front}
+use Rattle.yd_growing.proofs.StayingLemmas.{stands_held, back, same_list, is_front, lists_grown}
 
 -- ---- names by number
 
@@ -152,8 +152,15 @@ module _ (held : List Operation) (w : IsWritten held) (names : List DocList) (na
     listed = λ x up low. let (n, e) = fills.listed x up (omega (arith, low, nexts x.client.0)) in (n, still_named names name n (list_of (standing held) x) e);
   }
 
+  adds_name : AddsName held names name old new
+  adds_name = record {
+    fills = with_list;
+    same = λ n x e. units_same (table_in (standing held) x) old new n (fills.rows n x e) (old_rows n x e);
+    none = last_units;
+  }
+
 pub filling_adds_list : FillingAddsList
-filling_adds_list = with_list
+filling_adds_list = adds_name
 
 -- ---- a run more
 
@@ -264,6 +271,43 @@ filling_adds_lost = λ held w names old new stretch told lists fills begins lost
       };
       grows = λ n x e. stays_grown (table_in (standing held) x) (units_in old.placed n) (units_in new.placed n) (rest n x e).0;
     }
+
+-- ---- from a store to another
+
+slice_below : (names : List DocList) (n : ℕ) → n < length names → (x : DocList) × (slice_get names n ≡ Some x)
+slice_below [] n lt = absurd (omega (arith, lt))
+slice_below (y ∷ ys) zero lt = (y, refl)
+slice_below (y ∷ ys) (suc n) lt = slice_below ys n (omega (arith, lt))
+
+pub filling_goes_on : FillingGoesOn
+filling_goes_on = record {
+  start = λ held names placed. record {
+    kept = λ n name e. e;
+    grows = λ n name e. stays_grown (table_in (standing held) name) (units_in placed n) (units_in placed n) refl;
+    made = λ n name e le. absurd (omega (arith, le, within_names names n name e));
+  };
+  on = λ held names old more mid new from to. record {
+    kept = from.kept;
+    grows = λ n name e. grows_on (table_in (standing held) name) (units_in old n) (units_in mid n) (units_in new n) (from.grows n name e)
+        (to.grows n name (from.kept n name e));
+    made = λ n name e le. grows_on (table_in (standing held) name) [] (units_in mid n) (units_in new n) (from.made n name e le) (to.grows n name e);
+  };
+  list = λ held names old more mid name new from adds. record {
+    kept = λ n x e. still_named more name n x (from.kept n x e);
+    grows = λ n x e. subst (GrowsByScan (table_in (standing held) x) (units_in old n)) (sym (adds.same n x (from.kept n x e))) (from.grows n x e);
+    made = λ n x e le. elim (named_or_last more name n x e) [
+      | inl f ↦ subst (GrowsByScan (table_in (standing held) x) []) (sym (adds.same n x f)) (from.made n x f le)
+      | inr f ↦ stays_grown (table_in (standing held) x) [] (units_in new n) (ap (units_in new) f.0 ∙ adds.none)
+    ];
+  };
+  end = λ part held w stays names old more new grown from n name e. elim (split (length names) n) [
+    | inl le ↦ from.made n name e le
+    | inr lt ↦
+        let (x, f) = slice_below names n lt in
+        let same : x ≡ name = some_is x name (sym (from.kept n x f) ∙ e) in
+        subst (λ l. IsGrown (standing held) l (units_in new n)) same (lists_grown part held w stays x (units_in old n) (units_in new n) (grown n x f) (from.grows n x f))
+  ];
+}
 
 -- ---- the end
 

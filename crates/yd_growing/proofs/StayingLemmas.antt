@@ -8,6 +8,7 @@ use Rattle.yd_ids.specs.Ids.{HasSmallerClock}
 use Rattle.yd_ops.specs.declared.lists.List.{List as DocList}
 use Rattle.yd_ops.specs.Operation.{Operation}
 use Rattle.yd_origins.specs.Table.{Row, ids_of, IsTable}
+use Rattle.yd_origins.specs.Growing.{GrowsByScan}
 use Rattle.yd_origins.specs.Operations.{IsClosedPart}
 use Rattle.yd_origins.proofs.DeletedLemmas.{deletes_no_more}
 use Rattle.yd_origins.proofs.PastLemmas.{closed_list, closed_honest}
@@ -22,7 +23,7 @@ use Rattle.yd_meaning.proofs.NestingLemmas.{item_earlier}
 use Rattle.yd_meaning.proofs.RowLemmas.{row_one, has_row, row_has, list_carried-one}
 use Rattle.yd_meaning.proofs.StandingLemmas.{standing_in}
 use Rattle.yd_meaning.proofs.StandingTableLemmas.{IsEarlier, standing_table}
-use Rattle.yd_growing.specs.Grown.{table_in, StandsHonest}
+use Rattle.yd_growing.specs.Grown.{table_in, IsGrown, StandsHonest}
 use Rattle.yd_growing.specs.Staying.{AreSeenAlike, StaysHeld}
 use Rattle.yd_growing.specs.Deletions.{AreSoundDeletions}
 use Rattle.yd_growing.specs.Law.{StaysGrown}
@@ -110,11 +111,15 @@ module _ (part held : List Operation) (w : IsWritten held) (stays : StaysHeld pa
   pub is_front : (list : DocList) → IsFrontOf (table_in (standing part) list) (table_in (standing held) list)
   is_front list = list_front (operation_set (standing part)) (operation_set (standing held)) table closed_part list
 
+  pub lists_grown : (list : DocList) (old new : List Id) → IsGrown (standing part) list old → GrowsByScan (table_in (standing held) list) old new →
+      IsGrown (standing held) list new
+  lists_grown list old new grown more = grows_on (table_in (standing held) list) [] old new
+      (grown_within (table_in (standing part) list) (table_in (standing held) list) (is_front list) old grown) more
+
   pub stays_grown : StaysGrown part held
   stays_grown = record {
     same = λ list ids grown. grown_within (table_in (standing part) list) (table_in (standing held) list) (is_front list) ids grown;
-    further = λ list old new grown more. grows_on (table_in (standing held) list) [] old new
-        (grown_within (table_in (standing part) list) (table_in (standing held) list) (is_front list) old grown) more;
+    further = lists_grown;
   }
 
   part_honest : StandsHonest held → StandsHonest part

@@ -1,5 +1,5 @@
 -- A store while held operations come into it, run by run: each list has what stands of it below the next clocks (own).
-use Rattle.std.specs.Prelude.{◌≡◌, ◌↔◌, ◌<◌, ◌++◌, ℕ, true, false, List, [], ◌∷◌, Option, Some, IfSome, length, slice_get}
+use Rattle.std.specs.Prelude.{◌≡◌, ◌↔◌, ◌<◌, ◌≤◌, ◌++◌, ℕ, true, false, List, [], ◌∷◌, Option, Some, IfSome, length, slice_get}
 use Rattle.yd_words.specs.Member.{IsIn}
 use Rattle.yd_ids.specs.declared.id.Id.{Id}
 use Rattle.yd_ops.specs.declared.lists.List.{List as DocList}
@@ -14,7 +14,7 @@ use Rattle.yd_store.specs.Store.{Stored, AddsRun, AddsOutside}
 use Rattle.yd_updates.specs.Received.{has_operation, IsWritten}
 use Rattle.yd_meaning.specs.Held.{standing}
 use Rattle.yd_meaning.specs.Order.{list_of}
-use Rattle.yd_growing.specs.Grown.{table_in}
+use Rattle.yd_growing.specs.Grown.{table_in, IsGrown}
 use Rattle.yd_growing.specs.Staying.{StaysHeld}
 use Rattle.yd_growing.specs.Placing.{HasRowsBelow, KeepsRows}
 
@@ -61,11 +61,17 @@ abbrev pub FillingIsKept : Type 0
 FillingIsKept = (held : List Operation) (names : List DocList) (old new : Placed) → FillsLists held names old → KeepsRows old new →
     FillsOn held names old new
 
+-- the lists are filled, with one more that is empty, and the others have the units that they had
+pub record AddsName (held : List Operation) (names : List DocList) (name : DocList) (old new : Placed) : Type 0 where
+  pub fills : FillsLists held (names ++ name ∷ []) new
+  pub same : (n : ℕ) (other : DocList) → slice_get names n ≡ Some other → units_in new n ≡ units_in old n
+  pub none : units_in new (length names) ≡ []
+
 -- a new list has a name that none had
 abbrev pub FillingAddsList : Type 0
 FillingAddsList = (held : List Operation) → IsWritten held → (names : List DocList) (name : DocList) (old new : Placed) → FillsLists held names old →
     (IsIn name names → ⊥) → runs_of new ≡ runs_of old → new.linked.lists ≡ old.linked.lists ++ [] ∷ [] →
-    ((client : ℕ) → next_clock new client ≡ next_clock old client) → FillsLists held (names ++ name ∷ []) new
+    ((client : ℕ) → next_clock new client ≡ next_clock old client) → AddsName held names name old new
 
 -- a run that comes next goes into the list of its operations by the scan
 abbrev pub FillingAddsRun : Type 0
@@ -79,6 +85,24 @@ FillingAddsLost = (held : List Operation) → IsWritten held → (names : List D
     AreLists old.placed.linked → FillsLists held names old.placed → stretch.id.clock ≡ next_clock old.placed stretch.id.client.0 →
     ((x : Id) → IsIn x (units_of stretch) → has_operation (standing held) x ≡ false) → AddsOutside old new stretch told →
     FillsOn held names old.placed new.placed
+
+-- lists keep their names, and have grown by scans since then; and those that are new have grown from nothing
+pub record GrowsFrom (held : List Operation) (names : List DocList) (old : Placed) (more : List DocList) (new : Placed) : Type 0 where
+  pub kept : (n : ℕ) (name : DocList) → slice_get names n ≡ Some name → slice_get more n ≡ Some name
+  pub grows : ListsGrowOn held names old new
+  pub made : (n : ℕ) (name : DocList) → slice_get more n ≡ Some name → length names ≤ n → IsGrown (standing held) name (units_in new n)
+
+-- so it is at the start, and goes on where lists grow, and where one is added; and what grew in a part that stays held is
+-- grown in the whole at the end
+pub record FillingGoesOn : Type 0 where
+  pub start : (held : List Operation) (names : List DocList) (placed : Placed) → GrowsFrom held names placed names placed
+  pub on : (held : List Operation) (names : List DocList) (old : Placed) (more : List DocList) (mid new : Placed) →
+      GrowsFrom held names old more mid → FillsOn held more mid new → GrowsFrom held names old more new
+  pub list : (held : List Operation) (names : List DocList) (old : Placed) (more : List DocList) (mid : Placed) (name : DocList) (new : Placed) →
+      GrowsFrom held names old more mid → AddsName held more name mid new → GrowsFrom held names old (more ++ name ∷ []) new
+  pub end : (part held : List Operation) → IsWritten held → StaysHeld part held → (names : List DocList) (old : Placed) (more : List DocList) (new : Placed) →
+      ((n : ℕ) (name : DocList) → slice_get names n ≡ Some name → IsGrown (standing part) name (units_in old n)) → GrowsFrom held names old more new →
+      (n : ℕ) (name : DocList) → slice_get more n ≡ Some name → IsGrown (standing held) name (units_in new n)
 
 -- each list has just what stands of its name, and what stands is of a list that has a name
 pub record AreFilledLists (held : List Operation) (names : List DocList) (placed : Placed) : Type 0 where

@@ -1,6 +1,6 @@
 //! The laws of a store while held operations come into it, each the contract of an empty function.
 
-ghost use Rattle.yd_growing.specs.Filling.{FillingStarts, FillingStays, FillingIsKept, FillingAddsList, FillingAddsRun, FillingAddsLost, FillingEnds};
+ghost use Rattle.yd_growing.specs.Filling.{FillingStarts, FillingStays, FillingIsKept, FillingAddsList, FillingAddsRun, FillingAddsLost, FillingGoesOn, FillingEnds};
 ghost use Rattle.yd_growing.specs.Telling.{ListsTellUnits, FilledListsAreGrown};
 
 /// A store without lists and units is a start, whatever is held.
@@ -31,6 +31,11 @@ pub fn filling_adds_run()
 /// A run that is lost changes no list.
 pub fn filling_adds_lost()
     ensures { FillingAddsLost }
+{}
+
+/// From step to step the lists have grown by scans, and new ones from nothing.
+pub fn filling_goes_on()
+    ensures { FillingGoesOn }
 {}
 
 /// Once the store has all that is held, its lists are whole.
