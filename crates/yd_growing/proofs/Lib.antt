@@ -1,16 +1,10 @@
 pub mod AlikeLemmas
 pub mod ArrangingLemmas
 pub mod ComingLemmas
-pub mod CutLemmas
-pub mod DocumentLemmas
 pub mod DeletionLemmas
-pub mod FillingLemmas
+pub mod DocumentLemmas
 pub mod GrowthLemmas
 pub mod HeldLemmas
 pub mod HonestLemmas
-pub mod NextLemmas
 pub mod PartLemmas
-pub mod PlacingLemmas
-pub mod RowLemmas
 pub mod StayingLemmas
-pub mod TellingLemmas

@@ -1,10 +1,6 @@
 pub mod Deletions
 pub mod Example
-pub mod Filling
 pub mod Grown
 pub mod Law
 pub mod Own
-pub mod Placing
-pub mod Rows
 pub mod Staying
-pub mod Telling

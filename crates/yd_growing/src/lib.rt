@@ -3,8 +3,9 @@
 //!
 //! There are definitions and laws, and no code: whoever keeps a document from one update to the
 //! next cites `specs/`. Which lists grew so stands in `specs/Grown.antt`, what is deleted by their
-//! order in `specs/Deletions.antt`, and the whole document in `specs/Own.antt`. Each law is the
-//! contract of an empty function ([`law`]).
+//! order in `specs/Deletions.antt`, the whole document in `specs/Own.antt`, and what of it stays as
+//! more is held in `specs/Staying.antt`. Each law is the contract of an empty function ([`law`]),
+//! and [`example`] has small lists that the checker computes.
 //!
 //! ```rust
 //! law::own_is_defined();
@@ -12,6 +13,4 @@
 #![tactic(auto)]
 
 pub mod example;
-pub mod filling;
 pub mod law;
-pub mod placing;

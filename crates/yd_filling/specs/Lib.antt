@@ -1,0 +1,4 @@
+pub mod Filling
+pub mod Placing
+pub mod Rows
+pub mod Telling
