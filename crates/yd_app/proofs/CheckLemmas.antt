@@ -9,7 +9,7 @@ use Rattle.yd_app.proofs.MergeLemmas.{written_of}
 use Rattle.yd_app.specs.Command.{check}
 use Rattle.yd_app.specs.Commands.Check.{findings_text}
 use Rattle.yd_app.specs.Law.{AreSameChanges, CheckRunsConverge, ChecksConverge}
-use Rattle.yd_app.specs.Writing.{TakesAll}
+use Rattle.yd_ending.specs.Writing.{TakesAll}
 
 -- the same changes have the same contents, or say the same
 changes_are : (one other : List UpdateValue) → AreSameChanges one other → HaveSameContents one other ⊎ SayTheSame one other

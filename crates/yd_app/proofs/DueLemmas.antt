@@ -7,15 +7,16 @@ use Rattle.yd_playing.specs.declared.fault.LineCause.{LineCause}
 use Rattle.yd_updates.specs.Received.{received_set}
 use Rattle.yd_world.specs.Shelf.{Shelf}
 use Rattle.yd_world.specs.Traffic.{Traffic}
+use Rattle.yd_ending.specs.Lines.{refused_line}
+use Rattle.yd_ending.specs.Script.{refused_script_line}
 use Rattle.yd_files.proofs.VerdictLemmas.{files_judged, stand_apart, stand_one, stops_one}
 use Rattle.yd_files.specs.Files.{File}
 use Rattle.yd_files.specs.Verdict.{Inputs, IsTold, StandFor, StopsAt, Verdict, accepted, missing, refused, too_large}
 use Rattle.yd_app.proofs.WordLemmas.{asked_or_not, asks_same}
 use Rattle.yd_app.specs.Command.{Command, edit}
-use Rattle.yd_app.specs.Commands.Edit.{lines_of_first, refused_script_line}
+use Rattle.yd_app.specs.Commands.Edit.{lines_of_first}
 use Rattle.yd_app.specs.Due.{Due, IsDue, Refuses, lacking, no_step_2, output, over_limit, refusal, usage}
 use Rattle.yd_app.specs.Law.{OneIsDue}
-use Rattle.yd_app.specs.Lines.{refused_line}
 use Rattle.yd_app.specs.Output.{AreMade, IsOutputOf, IsRefusalOf, output_of}
 use Rattle.yd_app.specs.Words.{AreOfNoForm, Asks, AsksFor}
 

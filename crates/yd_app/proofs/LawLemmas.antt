@@ -15,7 +15,7 @@ use Rattle.yd_app.specs.Law.{AreSameChanges, RunsConverge, Shows, ShowsConverge}
 use Rattle.yd_app.specs.Command.{Command, show}
 use Rattle.yd_app.specs.Commands.Show.{shown_line}
 use Rattle.yd_app.specs.Output.{IsOutputOf}
-use Rattle.yd_app.specs.Writing.{TakesAll}
+use Rattle.yd_ending.specs.Writing.{TakesAll}
 use Rattle.yd_modes.specs.declared.mode.Mode.{Mode}
 
 -- of the same changes the same is received

@@ -8,4 +8,3 @@ pub mod RequestLemmas
 pub mod RunLemmas
 pub mod TableLemmas
 pub mod WordLemmas
-pub mod WritingLemmas

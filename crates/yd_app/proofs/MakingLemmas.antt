@@ -8,9 +8,8 @@ use Rattle.yd_v1.specs.LogWriting.{log_bytes}
 use Rattle.yd_updates.specs.Received.{Received, received_set}
 use Rattle.yd_world.specs.Shelf.{Shelf}
 use Rattle.yd_world.specs.Traffic.{Traffic}
-use Rattle.yd_world.specs.declared.fault.Outage.{Outage}
-use Rattle.yd_world.specs.declared.fault.Outage.TheVariants as outages
-use Rattle.yd_files.specs.Counts.{Count, RoseIn, count_of}
+use Rattle.yd_ending.specs.Ending.{Delivers, status_of, stop_of_fault}
+use Rattle.yd_files.specs.Counts.{Count, RoseIn}
 use Rattle.yd_files.specs.Files.{File}
 use Rattle.yd_files.specs.Reading.{StopsAmong}
 use Rattle.yd_files.specs.Seen.{file_of}
@@ -21,14 +20,13 @@ use Rattle.yd_app.proofs.DueLemmas.{weaker}
 use Rattle.yd_app.specs.Asking.{StopsAsking}
 use Rattle.yd_app.specs.Command.{Command, pack}
 use Rattle.yd_app.specs.Due.{IsDue, output}
-use Rattle.yd_app.specs.Ending.{Delivers, Ends, status_of}
+use Rattle.yd_app.specs.Ending.{Ends}
 use Rattle.yd_app.specs.Output.{AreMade, IsMadeOf, StandsForAgain, output_of}
 use Rattle.yd_app.specs.Run.{TakesAllOf, Writes}
-use Rattle.yd_app.specs.Stopping.{Makes, MakesOf, MakesOn, StopsFor, StopsMaking, StopsOver, stop_of_fault, stop_of_outage}
+use Rattle.yd_app.specs.Stopping.{Makes, MakesOf, MakesOn, StopsFor, StopsMaking, StopsOver}
 use Rattle.yd_app.specs.Words.{Asks, AsksFor}
-use Rattle.yd_app.specs.Writing.{CountsFault, TakesFront}
-use Rattle.yd_app.specs.declared.stop.Stop.{Stop}
-use Rattle.yd_app.specs.declared.stop.Stop.TheVariants.{Usage, Refused, ReadFault, TooLarge, NoMemory, WriteFault}
+use Rattle.yd_ending.specs.declared.stop.Stop.{Stop}
+use Rattle.yd_ending.specs.declared.stop.Stop.TheVariants.{Usage, Refused, ReadFault, TooLarge, NoMemory, WriteFault}
 
 -- ---- what is made of inputs
 
@@ -122,13 +120,6 @@ unwritten Calm words told told_now traffic reads writes taken now stop same (inr
     subst (λ (s : Stop). Ends Calm words told told_now traffic reads writes taken now (Err s)) (sym asks.holds.1) (stopped Calm words told told_now traffic reads writes taken now asks.holds.0 same asks.command asks.files asks.asks asks.holds.2)
 unwritten Calm words told told_now traffic reads writes taken now stop same (inr (inr (inr asks))) =
     refused_made Calm words told told_now traffic reads writes taken now stop same asks.command asks.files asks.asks asks.holds
-
--- writing stopped
-pub written_err : (bytes : Vec ℕ) (before now : ℕ) (taken next : Option (List ℕ)) (result : Result (Unit {0}) Stop) (outage : Outage) → IsErr result × IsErrAnd result (λ s. s ≡ stop_of_outage outage)
-    → TakesFront taken next bytes.items → CountsFault {X = Unit {0}} before now (Err outage) → Delivers (Ok bytes) (count_of before now) taken next result
-written_err bytes before now taken next (Ok done) outage is front cause = absurd is.1
-written_err bytes before now taken next (Err stop) outages.NoMemory is front cause = (front, inl is.1)
-written_err bytes before now taken next (Err stop) outages.Failed is front cause = (front, inr (is.1, cause))
 
 -- what was made is due
 made_due : (words : List (List ℕ)) (told : Option Shelf) (traffic : Option Traffic) (bytes : List ℕ) → AsksFor words (λ command files. MakesOf command files told bytes) → IsDue words told traffic (output bytes)

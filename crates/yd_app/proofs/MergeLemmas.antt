@@ -18,7 +18,7 @@ use Rattle.yd_app.specs.Commands.Vector.{vector_bytes}
 use Rattle.yd_grouping.specs.Reach.{reach_of}
 use Rattle.yd_app.specs.Law.{FitsIn, MergeRunsConverge, MergesAreConverted, MergesConverge, Runs, WritesOfMerge, file_in, kind_of}
 use Rattle.yd_app.specs.Output.{IsOutputOf}
-use Rattle.yd_app.specs.Writing.{TakesAll}
+use Rattle.yd_ending.specs.Writing.{TakesAll}
 use Rattle.yd_app.specs.declared.format.Format.{Format}
 use Rattle.yd_app.specs.declared.format.Format.TheVariants.{V1, V2}
 

@@ -9,14 +9,16 @@ use Rattle.yd_files.specs.Verdict.{IsTold}
 use Rattle.yd_app.proofs.DueLemmas.{due_one, weaker}
 use Rattle.yd_app.proofs.MakingLemmas.{written_due}
 use Rattle.yd_app.specs.Due.{Due, IsDue, lacking, line_of_due, no_step_2, output, over_limit, refusal, status_of_due, statuses_of_due, usage}
-use Rattle.yd_app.specs.Ending.{Ends, line_of, status_of}
+use Rattle.yd_app.specs.Ending.{Ends}
 use Rattle.yd_app.specs.Command.{Command}
-use Rattle.yd_app.specs.Lines.{no_memory_line, read_fault_line, refusal_line, write_fault_line}
-use Rattle.yd_app.specs.Run.{Comes, CutsOff, Follows, HasReason, IsLine, IsOneOf, TellsErr, Writes, WritesFront}
+use Rattle.yd_ending.specs.Ending.{line_of, status_of}
+use Rattle.yd_ending.specs.Lines.{no_memory_line, read_fault_line, refusal_line, write_fault_line}
+use Rattle.yd_app.specs.Run.{Comes, CutsOff, Follows, HasReason, IsLine, TellsErr, Writes, WritesPart}
 use Rattle.yd_app.specs.Words.{AreOfNoForm, AsksFor}
-use Rattle.yd_app.specs.Writing.{TakesAll, TakesFront}
-use Rattle.yd_app.specs.declared.stop.Stop.{Stop}
-use Rattle.yd_app.specs.declared.stop.Stop.TheVariants.{Usage, Refused, ReadFault, TooLarge, NoMemory, WriteFault}
+use Rattle.yd_ending.specs.Status.{IsOneOf}
+use Rattle.yd_ending.specs.Writing.{TakesAll, TakesFront, TakesPart}
+use Rattle.yd_ending.specs.declared.stop.Stop.{Stop}
+use Rattle.yd_ending.specs.declared.stop.Stop.TheVariants.{Usage, Refused, ReadFault, TooLarge, NoMemory, WriteFault}
 
 -- ---- endings that say what is due
 
@@ -57,7 +59,7 @@ read_failed Calm words told told_now traffic reads writes taken now (Err (TooLar
 
 -- out failed
 write_failed : (Calm : Type 0) (words : List (List ℕ)) (told told_now : Option Shelf) (traffic : Option Traffic) (reads writes : Count) (taken now : Option (List ℕ)) (e : Result (Unit {0}) Stop) → Ends Calm words told told_now traffic reads writes taken now e
-    → status_of e ≡ 4 → RoseIn writes × WritesFront words told traffic taken now × (line_of e ≡ write_fault_line)
+    → status_of e ≡ 4 → RoseIn writes × WritesPart words told traffic taken now × (line_of e ≡ write_fault_line)
 write_failed Calm words told told_now traffic reads writes taken now (Ok done) h n = absurd (omega (arith, n))
 write_failed Calm words told told_now traffic reads writes taken now (Err (Refused what)) h n = absurd (omega (arith, n))
 write_failed Calm words told told_now traffic reads writes taken now (Err Usage) h n = absurd (omega (arith, n))
@@ -68,7 +70,7 @@ write_failed Calm words told told_now traffic reads writes taken now (Err (TooLa
 
 -- memory was wanted
 memory_wanted : (Calm : Type 0) (words : List (List ℕ)) (told told_now : Option Shelf) (traffic : Option Traffic) (reads writes : Count) (taken now : Option (List ℕ)) (e : Result (Unit {0}) Stop) → Ends Calm words told told_now traffic reads writes taken now e
-    → status_of e ≡ 5 → ((now ≡ taken) ⊎ WritesFront words told traffic taken now) × (line_of e ≡ no_memory_line)
+    → status_of e ≡ 5 → ((now ≡ taken) ⊎ WritesPart words told traffic taken now) × (line_of e ≡ no_memory_line)
 memory_wanted Calm words told told_now traffic reads writes taken now (Ok done) h n = absurd (omega (arith, n))
 memory_wanted Calm words told told_now traffic reads writes taken now (Err (Refused what)) h n = absurd (omega (arith, n))
 memory_wanted Calm words told told_now traffic reads writes taken now (Err Usage) h n = absurd (omega (arith, n))
@@ -254,7 +256,7 @@ reported_cuts Calm words told told_now traffic reads writes taken now e status e
   no_memory = λ n. by_ending e ends (omega (arith, is, n)) untouched;
 }
   where
-    by_ending : (f : Result (Unit {0}) Stop) → Ends Calm words told told_now traffic reads writes taken now f → status_of f ≢ 0 → (IsOneOf (status_of f) (1 ∷ 2 ∷ 3 ∷ 6 ∷ 7 ∷ 8 ∷ []) → now ≡ taken) → (now ≡ taken) ⊎ WritesFront words told traffic taken now
+    by_ending : (f : Result (Unit {0}) Stop) → Ends Calm words told told_now traffic reads writes taken now f → status_of f ≢ 0 → (IsOneOf (status_of f) (1 ∷ 2 ∷ 3 ∷ 6 ∷ 7 ∷ 8 ∷ []) → now ≡ taken) → (now ≡ taken) ⊎ WritesPart words told traffic taken now
     by_ending (Ok done) h n same = absurd (n refl)
     by_ending (Err (Refused what)) h n same = inl (same (inl refl))
     by_ending (Err Usage) h n same = inl (same (inr (inl refl)))
@@ -266,23 +268,25 @@ reported_cuts Calm words told told_now traffic reads writes taken now e status e
 -- what stands on err
 pub tells_err : (Calm : Type 0) (words : List (List ℕ)) (told told_now : Option Shelf) (traffic : Option Traffic) (reads writes : Count) (taken now : Option (List ℕ)) (e : Result (Unit {0}) Stop) (status : ℕ) (errs : Count) (err err_now : Option (List ℕ)) → Ends Calm words told told_now traffic reads writes taken now e
     → (status ≡ status_of e) ⊎ ((status ≡ 5) × (status_of e ≢ 0)) → (status_of e ≡ 0 → err_now ≡ err) → TakesFront err err_now (line_of e) → (status ≢ 5 → TakesAll err err_now (line_of e) ⊎ RoseIn errs)
-    → (status ≢ status_of e → errs.now ≡ errs.before) → TellsErr Calm words told told_now traffic reads writes errs err err_now status
-tells_err Calm words told told_now traffic reads writes taken now e status errs err err_now ends is silent front whole kept = record {
+    → (status ≢ status_of e → TakesPart err err_now (line_of e) × (errs.now ≡ errs.before)) → TellsErr Calm words told told_now traffic reads writes errs err err_now status
+tells_err Calm words told told_now traffic reads writes taken now e status errs err err_now ends is silent front whole short = record {
   done = λ n. silent (omega (arith, is, n));
   line = λ one.
       let due : status ≡ status_of e = omega (arith, is, one) in
       (line_of e, rw due (ends_line Calm words told told_now traffic reads writes taken now e ends), front, whole (λ five. omega (arith, one, five)));
-  no_memory = λ five. (line_of e, front, by_ending e ends (omega (arith, is, five)) (λ n. kept (λ same. n (omega (arith, same, five)))));
+  no_memory = λ five. (line_of e, front, by_ending e ends (omega (arith, is, five)) (λ n. short (λ same. n (omega (arith, same, five)))));
 }
   where
-    other : (due : ℕ) (f : Result (Unit {0}) Stop) → due ≡ status_of f → IsOneOf due (1 ∷ 2 ∷ 3 ∷ 4 ∷ 7 ∷ 8 ∷ []) → Ends Calm words told told_now traffic reads writes taken now f → (5 ≢ status_of f → errs.now ≡ errs.before)
+    other : (due : ℕ) (f : Result (Unit {0}) Stop) → due ≡ status_of f → IsOneOf due (1 ∷ 2 ∷ 3 ∷ 4 ∷ 7 ∷ 8 ∷ []) → Ends Calm words told told_now traffic reads writes taken now f → (5 ≢ status_of f → TakesPart err err_now (line_of f) × (errs.now ≡ errs.before))
         → IsLine Calm words told told_now traffic 5 (line_of f)
-        ⊎ ((d : ℕ) × IsOneOf d (1 ∷ 2 ∷ 3 ∷ 4 ∷ 7 ∷ 8 ∷ []) × HasReason words told traffic reads writes d × IsLine Calm words told told_now traffic d (line_of f) × (errs.now ≡ errs.before))
-    other due f same one h unchanged = inr (due, one, rw same (ends_reason Calm words told told_now traffic reads writes taken now f h), rw same (ends_line Calm words told told_now traffic reads writes taken now f h), unchanged (λ five. omega (arith, same, one, five)))
+        ⊎ ((d : ℕ) × IsOneOf d (1 ∷ 2 ∷ 3 ∷ 4 ∷ 7 ∷ 8 ∷ []) × HasReason words told traffic reads writes d × IsLine Calm words told told_now traffic d (line_of f) × TakesPart err err_now (line_of f) × (errs.now ≡ errs.before))
+    other due f same one h unchanged =
+        let left = unchanged (λ five. omega (arith, same, one, five)) in
+        inr (due, one, rw same (ends_reason Calm words told told_now traffic reads writes taken now f h), rw same (ends_line Calm words told told_now traffic reads writes taken now f h), left.0, left.1)
 
-    by_ending : (f : Result (Unit {0}) Stop) → Ends Calm words told told_now traffic reads writes taken now f → status_of f ≢ 0 → (5 ≢ status_of f → errs.now ≡ errs.before)
+    by_ending : (f : Result (Unit {0}) Stop) → Ends Calm words told told_now traffic reads writes taken now f → status_of f ≢ 0 → (5 ≢ status_of f → TakesPart err err_now (line_of f) × (errs.now ≡ errs.before))
         → IsLine Calm words told told_now traffic 5 (line_of f)
-        ⊎ ((d : ℕ) × IsOneOf d (1 ∷ 2 ∷ 3 ∷ 4 ∷ 7 ∷ 8 ∷ []) × HasReason words told traffic reads writes d × IsLine Calm words told told_now traffic d (line_of f) × (errs.now ≡ errs.before))
+        ⊎ ((d : ℕ) × IsOneOf d (1 ∷ 2 ∷ 3 ∷ 4 ∷ 7 ∷ 8 ∷ []) × HasReason words told traffic reads writes d × IsLine Calm words told told_now traffic d (line_of f) × TakesPart err err_now (line_of f) × (errs.now ≡ errs.before))
     by_ending (Ok done) h n same = absurd (n refl)
     by_ending (Err NoMemory) h n same = inl (ends_line Calm words told told_now traffic reads writes taken now (Err NoMemory) h)
     by_ending (Err (Refused what)) h n same = other 1 (Err (Refused what)) refl (inl refl) h same

@@ -3,8 +3,8 @@ use Rattle.std.specs.Prelude.{◌≢◌, ℕ, List, map}
 use Rattle.yd_words.specs.Each.{Each}
 use Rattle.yd_files.specs.Files.{File, IsNamed, file_word}
 use Rattle.yd_app.specs.Words.{AreOfNoForm}
-use Rattle.yd_app.specs.declared.stop.Stop.{Stop}
-use Rattle.yd_app.specs.declared.stop.Stop.TheVariants.{Usage, Refused, ReadFault, TooLarge, NoMemory, WriteFault}
+use Rattle.yd_ending.specs.declared.stop.Stop.{Stop}
+use Rattle.yd_ending.specs.declared.stop.Stop.TheVariants.{Usage, Refused, ReadFault, TooLarge, NoMemory, WriteFault}
 
 -- no files have these words
 abbrev pub NameNoFiles : List (List ℕ) → Type 0

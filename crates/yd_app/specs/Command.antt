@@ -13,10 +13,6 @@ use Rattle.yd_app.specs.declared.format.Format.TheVariants.{V1, V2}
 use Rattle.yd_modes.specs.declared.mode.Mode.{Mode}
 use Rattle.yd_modes.specs.declared.mode.Mode.TheVariants.{Text, Delta, Array, Map, Tree}
 
--- how the program is used
-abbrev pub usage_line : List ℕ
-usage_line = codes "usage: ydoc show|merge|cut|vector|convert|edit|serve|sync|check|generate|pack\n"
-
 -- what is done with files: a root is shown in a mode of all that they hold, the one file is written in a format, all updates as one log
 -- or as one update in a format, the vector that all reach together, or what the one file has from the vector in a file on; a client plays
 -- the script in a file on all that they hold, and what its lines made is written as one update; or it is told what was found of all updates

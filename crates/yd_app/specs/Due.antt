@@ -3,12 +3,12 @@ use Rattle.std.specs.Prelude.{◌≡◌, ◌⊎◌, ℕ, List, [], ◌∷◌, Op
 use Rattle.yd_parts.specs.Fault.{Fault}
 use Rattle.yd_world.specs.Shelf.{Shelf}
 use Rattle.yd_world.specs.Traffic.{Traffic}
+use Rattle.yd_ending.specs.Lines.{limit_line, no_step_2_line, read_fault_line, refused_line, usage_line}
+use Rattle.yd_ending.specs.Status as status
 use Rattle.yd_files.specs.Files.{File}
 use Rattle.yd_files.specs.Verdict.{Inputs, StandFor, StopsAt, missing, refused, too_large}
-use Rattle.yd_app.specs.Command.{Command, usage_line}
-use Rattle.yd_app.specs.Lines.{limit_line, no_step_2_line, read_fault_line, refused_line}
+use Rattle.yd_app.specs.Command.{Command}
 use Rattle.yd_app.specs.Output.{IsOutputOf, IsRefusalOf}
-use Rattle.yd_app.specs.Status as status
 use Rattle.yd_app.specs.Words.{AreOfNoForm, AsksFor}
 
 -- how the program is used; the line of what is refused; the name of a file that is too large; the name that the library lacks; that

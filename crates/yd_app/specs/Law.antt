@@ -6,6 +6,7 @@ use Rattle.yd_ops.specs.Value.{UpdateValue}
 use Rattle.yd_updates.specs.Agreement.{AreAlike, Agree, HaveSameContents, SayTheSame, operations_of_all}
 use Rattle.yd_v2.specs.Reading.{most_structs}
 use Rattle.yd_world.specs.Shelf.{Shelf}
+use Rattle.yd_ending.specs.Writing.{TakesAll}
 use Rattle.yd_world.specs.Traffic.{Traffic}
 use Rattle.yd_files.specs.Files.{File}
 use Rattle.yd_files.specs.Verdict.{Inputs, StandFor}
@@ -16,7 +17,6 @@ use Rattle.yd_app.specs.Due.{Due, IsDue}
 use Rattle.yd_app.specs.Output.{IsMadeOf, IsOutputOf}
 use Rattle.yd_app.specs.Run.{Writes}
 use Rattle.yd_app.specs.Words.{Asks}
-use Rattle.yd_app.specs.Writing.{TakesAll}
 use Rattle.yd_app.specs.declared.format.Format.{Format}
 use Rattle.yd_app.specs.declared.format.Format.TheVariants.{V1, V2}
 use Rattle.yd_modes.specs.declared.mode.Mode.{Mode}

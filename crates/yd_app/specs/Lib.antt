@@ -4,12 +4,8 @@ pub mod Commands
 pub mod Due
 pub mod Ending
 pub mod Law
-pub mod Lines
 pub mod Output
-pub mod Reason
 pub mod Run
-pub mod Status
 pub mod Stopping
 pub mod Table
 pub mod Words
-pub mod Writing

@@ -8,15 +8,11 @@ use Rattle.yd_files.specs.Reading.{FailsAt}
 use Rattle.yd_files.specs.Verdict.{Inputs, IsTold, NoneIsMissing, StandFor}
 use Rattle.yd_app.specs.Due.{Due, IsDue, line_of_due, output, status_of_due, statuses_of_due}
 use Rattle.yd_app.specs.Command.{Command}
-use Rattle.yd_app.specs.Lines.{no_memory_line, read_fault_line, write_fault_line}
+use Rattle.yd_ending.specs.Lines.{no_memory_line, read_fault_line, write_fault_line}
+use Rattle.yd_ending.specs.Status.{IsOneOf}
+use Rattle.yd_ending.specs.Writing.{TakesAll, TakesFront, TakesPart}
 use Rattle.yd_app.specs.Output.{IsOutputOf, StandsForAgain}
 use Rattle.yd_app.specs.Words.{AreOfNoForm, Asks, AsksFor}
-use Rattle.yd_app.specs.Writing.{TakesAll, TakesFront}
-
--- the number is one of these
-abbrev pub IsOneOf : ℕ → List ℕ → Type 0
-IsOneOf n [] = ⊥
-IsOneOf n (m ∷ others) = (n ≡ m) ⊎ IsOneOf n others
 
 -- ---- statuses
 
@@ -58,14 +54,14 @@ TakesAllOf command files told taken now =
 abbrev pub Writes : List (List ℕ) → Option Shelf → Option (List ℕ) → Option (List ℕ) → Type 0
 Writes words told taken now = AsksFor words (λ command files. TakesAllOf command files told taken now)
 
--- a front of the output that is due was written
-abbrev pub WritesFront : List (List ℕ) → Option Shelf → Option Traffic → Option (List ℕ) → Option (List ℕ) → Type 0
-WritesFront words told traffic taken now = (bytes : List ℕ) × IsDue words told traffic (output bytes) × TakesFront taken now bytes
+-- a part of the output that is due was written, which may be nothing, and not all
+abbrev pub WritesPart : List (List ℕ) → Option Shelf → Option Traffic → Option (List ℕ) → Option (List ℕ) → Type 0
+WritesPart words told traffic taken now = (bytes : List ℕ) × IsDue words told traffic (output bytes) × TakesPart taken now bytes
 
 -- what stands on out where the run ended within its output
 pub record CutsOff (words : List (List ℕ)) (told : Option Shelf) (traffic : Option Traffic) (taken now : Option (List ℕ)) (status : ℕ) : Type 0 where
-  pub write_fault : status ≡ 4 → WritesFront words told traffic taken now
-  pub no_memory : status ≡ 5 → (now ≡ taken) ⊎ WritesFront words told traffic taken now
+  pub write_fault : status ≡ 4 → WritesPart words told traffic taken now
+  pub no_memory : status ≡ 5 → (now ≡ taken) ⊎ WritesPart words told traffic taken now
 
 -- ---- err
 
@@ -76,12 +72,12 @@ pub record IsLine (Calm : Type 0) (words : List (List ℕ)) (told told_now : Opt
   pub write_fault : status ≡ 4 → line ≡ write_fault_line
   pub no_memory : status ≡ 5 → line ≡ no_memory_line
 
--- what stands on err: the line, or a front of it where err failed; where memory is wanted a front of the line that says so, or of the
--- line that was due, and then err did not fail
+-- what stands on err: the line, or a front of it where err failed; where memory is wanted a front of the line that says so, or a part of the
+-- line that was due, and then err did not fail. So a line that was told to its end has its own status
 pub record TellsErr (Calm : Type 0) (words : List (List ℕ)) (told told_now : Option Shelf) (traffic : Option Traffic) (reads writes errs : Count) (taken now : Option (List ℕ)) (status : ℕ) : Type 0 where
   pub done : status ≡ 0 → now ≡ taken
   pub line : IsOneOf status (1 ∷ 2 ∷ 3 ∷ 4 ∷ 7 ∷ 8 ∷ []) → (text : List ℕ) × IsLine Calm words told told_now traffic status text × TakesFront taken now text × (TakesAll taken now text ⊎ RoseIn errs)
   pub no_memory : status ≡ 5 →
       (text : List ℕ) × TakesFront taken now text
       × (IsLine Calm words told told_now traffic 5 text
-      ⊎ ((due : ℕ) × IsOneOf due (1 ∷ 2 ∷ 3 ∷ 4 ∷ 7 ∷ 8 ∷ []) × HasReason words told traffic reads writes due × IsLine Calm words told told_now traffic due text × (errs.now ≡ errs.before)))
+      ⊎ ((due : ℕ) × IsOneOf due (1 ∷ 2 ∷ 3 ∷ 4 ∷ 7 ∷ 8 ∷ []) × HasReason words told traffic reads writes due × IsLine Calm words told told_now traffic due text × TakesPart taken now text × (errs.now ≡ errs.before)))

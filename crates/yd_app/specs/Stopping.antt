@@ -2,33 +2,18 @@
 use Rattle.std.specs.Prelude.{◌≡◌, ◌⊎◌, ℕ, List, Option, Result, Ok, Err}
 use Rattle.std.specs.Global.{Vec}
 use Rattle.yd_world.specs.Shelf.{Shelf}
-use Rattle.yd_world.specs.declared.fault.Outage.{Outage}
-use Rattle.yd_world.specs.declared.fault.Outage.TheVariants as outages
+use Rattle.yd_ending.specs.Ending.{stop_of_fault}
+use Rattle.yd_ending.specs.Lines.{refusal_line}
 use Rattle.yd_files.specs.Counts.{Count}
 use Rattle.yd_files.specs.Files.{File}
 use Rattle.yd_files.specs.Reading.{ReadsCalmly, StopsAmong}
 use Rattle.yd_files.specs.Verdict.{Inputs, StandFor}
 use Rattle.yd_files.specs.declared.fault.FileFault.{FileFault}
-use Rattle.yd_files.specs.declared.fault.FileFault.TheVariants as faults
 use Rattle.yd_app.specs.Command.{Command}
-use Rattle.yd_app.specs.Lines.{refusal_line}
 use Rattle.yd_app.specs.Output.{IsMadeOf, IsRefusalOf}
 use Rattle.yd_app.specs.Words.{AreOfNoForm, Asks, AsksFor}
-use Rattle.yd_app.specs.declared.refusal.Refusal.TheVariants.{OfFile}
-use Rattle.yd_app.specs.declared.stop.Stop.{Stop}
-use Rattle.yd_app.specs.declared.stop.Stop.TheVariants.{Usage, Refused, ReadFault, TooLarge, NoMemory, WriteFault}
-
--- why reading files stopped
-abbrev pub stop_of_fault : FileFault → Stop
-stop_of_fault (faults.Refused file cause spot) = Refused (OfFile file cause spot)
-stop_of_fault (faults.ReadFault file) = ReadFault file
-stop_of_fault (faults.TooLarge file) = TooLarge file
-stop_of_fault faults.NoMemory = NoMemory
-
--- why writing stopped
-abbrev pub stop_of_outage : Outage → Stop
-stop_of_outage outages.NoMemory = NoMemory
-stop_of_outage outages.Failed = WriteFault
+use Rattle.yd_ending.specs.declared.stop.Stop.{Stop}
+use Rattle.yd_ending.specs.declared.stop.Stop.TheVariants.{Usage, Refused, ReadFault, TooLarge, NoMemory, WriteFault}
 
 -- the bytes are what the command makes of what the files stand for
 abbrev pub MakesOf : Command → List File → Option Shelf → List ℕ → Type 0

@@ -13,10 +13,6 @@ use yd_files::{File, Kind};
 use yd_ids::Client;
 use yd_modes::Mode;
 
-/// How the program is used.
-pub const USAGE: &str =
-    "usage: ydoc show|merge|cut|vector|convert|edit|serve|sync|check|generate|pack";
-
 /// What is done with files.
 #[derive(Clone, Copy)]
 pub enum Command<'a> {

@@ -1,8 +1,10 @@
 //! That there was no memory.
 
 ghost use Rattle.std.specs.Prelude.{◌≡◌};
+ghost use Rattle.yd_ending.specs.declared.stop.Stop.TheVariants.{NoMemory as NoRoom};
 
 use std::alloc::{AllocError, AllocFailed};
+use yd_ending::Stop;
 
 /// A growth found no memory.
 #[derive(Clone, Copy, Debug, PartialEq, Eq)]
@@ -93,5 +95,13 @@ impl From<yd_checking::NoMemory> for NoMemory {
 
     fn from(_refused: yd_checking::NoMemory) -> NoMemory {
         NoMemory
+    }
+}
+
+impl<'a> From<NoMemory> for Stop<'a> {
+    ghost from_gives = { λ _ stop. stop ≡ NoRoom };
+
+    fn from(_refused: NoMemory) -> Stop<'a> {
+        Stop::NoMemory
     }
 }

@@ -14,23 +14,16 @@
 
 mod command;
 mod commands;
-mod delivery;
-mod ending;
 mod fault;
 mod format;
 pub mod law;
 mod mode;
 mod program;
 mod receiving;
-mod refusal;
 mod request;
-mod script;
-mod status;
-mod stop;
 mod word;
-mod writing;
 
 pub use fault::NoMemory;
 pub use program::run;
 pub use word::Word;
-pub use writing::write_out;
+pub use yd_ending::write_out;

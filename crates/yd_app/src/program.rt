@@ -1,17 +1,16 @@
 //! The program over the traits of the outside.
 
 ghost use Rattle.std.specs.Prelude.{◌≡◌, ◌∷◌, []};
+ghost use Rattle.yd_ending.specs.Status.{IsOneOf};
 ghost use Rattle.yd_files.specs.Counts.{count_of};
-ghost use Rattle.yd_app.specs.Run.{Comes, Completes, CutsOff, HasReason, IsOneOf, TellsErr, Writes};
+ghost use Rattle.yd_app.specs.Run.{Comes, Completes, CutsOff, HasReason, TellsErr, Writes};
 ghost use Rattle.yd_app.specs.Stopping.{Makes, ReadsAsked};
 
 use crate::commands::make_of;
-use crate::delivery::deliver;
-use crate::ending::report;
 use crate::request::request_of;
-use crate::stop::Stop;
 use crate::word::Word;
 use std::alloc::Global;
+use yd_ending::{Stop, deliver, report};
 use yd_world::{Library, Sink, Switchboard};
 
 /// Does what the words ask for, and answers the status. The words that run are

@@ -10,9 +10,9 @@ ghost use Rattle.yd_app.specs.Words.{Asks};
 
 use crate::command::{Command, are_wanted, command_of};
 use crate::fault::NoMemory;
-use crate::stop::Stop;
 use crate::word::Word;
 use std::alloc::Global;
+use yd_ending::Stop;
 use yd_files::{File, file_of};
 
 /// A command of files.

@@ -1,14 +1,11 @@
 -- What `edit` writes: what the lines of a script made, played by a client on what the files hold, as one update; or the line that is refused (own).
-use Rattle.std.specs.Prelude.{◌≡◌, ℕ, List, [], ◌∷◌, ◌++◌, codes, decimal}
+use Rattle.std.specs.Prelude.{◌≡◌, ℕ, List, [], ◌∷◌}
 use Rattle.yd_ids.specs.declared.id.Client.{Client}
-use Rattle.yd_ids.specs.declared.id.Id.{Id}
-use Rattle.yd_making.specs.declared.fault.EditFault.{EditFault}
-use Rattle.yd_making.specs.declared.fault.EditFault.TheVariants.{NoMemory, NoPlace, NotHeld, ClockFull, InsidePair, OwnWaiting, PastEnd, NoKey, Nothing}
 use Rattle.yd_ops.specs.Value.{UpdateValue}
 use Rattle.yd_playing.specs.Played.{ArePlayed}
 use Rattle.yd_playing.specs.Stopped.{StopsAt}
 use Rattle.yd_playing.specs.declared.fault.LineCause.{LineCause}
-use Rattle.yd_playing.specs.declared.fault.LineCause.TheVariants.{BadLine, NoTarget, Edit}
+use Rattle.yd_ending.specs.Script.{refused_script_line}
 use Rattle.yd_script.specs.Lines.{Numbered, script_lines}
 use Rattle.yd_updates.specs.Received.{received_set}
 use Rattle.yd_files.specs.Verdict.{Inputs}
@@ -27,38 +24,6 @@ MakesUpdates client inputs us = ArePlayed client (received_set inputs.updates) (
 -- what is written stands for the merge of what they made
 abbrev pub EditStandsAgain : Client → Inputs → Type 0
 EditStandsAgain client inputs = (us : List UpdateValue) → MakesUpdates client inputs us → MergedStandsAgain V1 us
-
--- ---- a refused line
-
--- a number behind a name
-abbrev pub with_number : List ℕ → ℕ → List ℕ
-with_number name number = name ++ codes " " ++ decimal number
-
--- an id behind a name: its client and its clock
-abbrev pub with_id : List ℕ → Id → List ℕ
-with_id name id = with_number (with_number name id.client.0) id.clock
-
--- why an edit is refused, as it is told
-abbrev pub edit_text : EditFault → List ℕ
-edit_text NoMemory = codes "NoMemory"
-edit_text (NoPlace id) = with_id (codes "NoPlace") id
-edit_text (NotHeld id) = with_id (codes "NotHeld") id
-edit_text (ClockFull clock) = with_number (codes "ClockFull") clock
-edit_text (InsidePair place) = with_number (codes "InsidePair") place
-edit_text (OwnWaiting clock) = with_number (codes "OwnWaiting") clock
-edit_text (PastEnd length) = with_number (codes "PastEnd") length
-edit_text NoKey = codes "NoKey"
-edit_text Nothing = codes "Nothing"
-
--- why a line is refused
-abbrev pub cause_text : LineCause → List ℕ
-cause_text BadLine = codes "BadLine"
-cause_text (NoTarget step) = with_number (codes "NoTarget") step
-cause_text (Edit fault) = edit_text fault
-
--- the line with the number is refused, in the script under the name
-abbrev pub refused_script_line : List ℕ → ℕ → LineCause → List ℕ
-refused_script_line name number cause = codes "refused " ++ name ++ codes " line " ++ decimal number ++ codes " " ++ cause_text cause ++ codes "\n"
 
 -- this is the line of the first line of the script that is refused
 abbrev pub IsRefusedLine : Client → List ℕ → Inputs → List ℕ → Type 0

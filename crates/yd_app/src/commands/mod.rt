@@ -20,8 +20,8 @@ mod show;
 mod vector;
 
 use crate::command::Command;
-use crate::stop::Stop;
 use std::alloc::Global;
+use yd_ending::Stop;
 use yd_files::{File, Inputs, read_files};
 use yd_world::Library;
 

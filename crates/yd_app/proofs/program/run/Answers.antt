@@ -1,5 +1,5 @@
 use Rattle.std.proofs.Common.{◌≢◌, ap}
-use Rattle.yd_app.specs.Ending.{status_of}
+use Rattle.yd_ending.specs.Ending.{status_of}
 use Rattle.yd_files.specs.Counts.{count_of}
 use Rattle.yd_app.proofs.MakingLemmas.{ends_of, no_write_fault}
 use Rattle.yd_app.proofs.RunLemmas.{calm_follows, counted_follows, reported_comes, reported_cuts, reported_reason, reported_writes, tells_err}
@@ -103,4 +103,4 @@ returns-clause-err g c =
     let errs = count_of (g.S.Sink.faults c.args.err.now) (g.S.Sink.faults c.report.new.err) in
     let report = c.report.ensures in
     tells_err calm words told told_now traffic reads writes taken now ending c.report.result errs (g.S.Sink.bytes_taken c.args.err.now) (g.S.Sink.bytes_taken c.report.new.err) ends report.status
-    (λ silent. ap g.S.Sink.bytes_taken (report.silent silent)) report.front report.whole report.kept
+    (λ silent. ap g.S.Sink.bytes_taken (report.silent silent)) report.front report.whole report.short

@@ -1,0 +1,6 @@
+pub mod Ending
+pub mod Lines
+pub mod Reason
+pub mod Script
+pub mod Status
+pub mod Writing
