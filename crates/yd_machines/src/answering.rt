@@ -22,8 +22,9 @@ pub(crate) fn is_answering(replica: &Replica)
     let _spans = deletes.spans();
 }
 
-/// The state vector of a replica.
-pub(crate) fn vector_of(replica: &Replica) -> &Vector
+/// The state vector of a replica, as an answer: it counts what the replica holds (own). Nothing is
+/// copied.
+pub fn vector_of(replica: &Replica) -> &Vector
     ensures counts { IsVectorOf replica.now result.now }
     ensures valid { IsVector result.now }
 {
