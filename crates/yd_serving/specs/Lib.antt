@@ -1,4 +1,5 @@
 pub mod Board
 pub mod Carried
 pub mod Reason
+pub mod Serving
 pub mod Settled

@@ -1,6 +1,7 @@
-//! That there was no memory.
+//! Why a loop did not come to its end, and that there was no memory.
 
 use std::alloc::{AllocError, AllocFailed};
+use yd_world::Outage;
 
 /// A growth found no memory.
 #[derive(Clone, Copy, Debug, PartialEq, Eq)]
@@ -53,5 +54,50 @@ impl From<yd_machines::NoMemory> for NoMemory {
 
     fn from(_refused: yd_machines::NoMemory) -> NoMemory {
         NoMemory
+    }
+}
+
+/// Why a server's loop did not make all its turns.
+#[derive(Clone, Copy, Debug, PartialEq, Eq)]
+pub enum ServeFault {
+    /// A growth found no memory.
+    NoMemory,
+    /// The network did not start, or told of no event.
+    NoLink,
+}
+
+impl From<Outage> for ServeFault {
+    ghost use Rattle.std.specs.Prelude.{◌≡◌};
+    ghost use Rattle.yd_serving.specs.Serving.{serve_fault};
+
+    ghost from_gives = { λ outage fault. fault ≡ serve_fault outage };
+
+    fn from(outage: Outage) -> ServeFault {
+        match outage {
+            Outage::NoMemory => ServeFault::NoMemory,
+            Outage::Failed => ServeFault::NoLink,
+        }
+    }
+}
+
+impl From<NoMemory> for ServeFault {
+    ghost use Rattle.std.specs.Prelude.{◌≡◌};
+    ghost use Rattle.yd_serving.specs.declared.fault.ServeFault.TheVariants.{NoMemory as NoRoom};
+
+    ghost from_gives = { λ _ fault. fault ≡ NoRoom };
+
+    fn from(_refused: NoMemory) -> ServeFault {
+        ServeFault::NoMemory
+    }
+}
+
+impl From<yd_machines::NoMemory> for ServeFault {
+    ghost use Rattle.std.specs.Prelude.{◌≡◌};
+    ghost use Rattle.yd_serving.specs.declared.fault.ServeFault.TheVariants.{NoMemory as NoRoom};
+
+    ghost from_gives = { λ _ fault. fault ≡ NoRoom };
+
+    fn from(_refused: yd_machines::NoMemory) -> ServeFault {
+        ServeFault::NoMemory
     }
 }

@@ -13,9 +13,11 @@
 mod carrying;
 mod fault;
 mod naming;
+mod serving;
 mod settling;
 
 pub use carrying::carry;
-pub use fault::NoMemory;
+pub use fault::{NoMemory, ServeFault};
 pub use naming::{name_of_cause, name_of_fault};
+pub use serving::serve;
 pub use settling::settle;
