@@ -41,3 +41,10 @@ pub record Trades (old new : Board) (events : List Event) (sent : List Sent) : T
 abbrev pub HasEvents : ℕ → Option Traffic → Type 0
 HasEvents count None = ⊥
 HasEvents count (Some traffic) = count ≤ length traffic.coming
+
+-- at most so many events were taken of it, and this was sent and closed
+pub record TradesFew (count : ℕ) (old new : Board) : Type 0 where
+  pub events : List Event
+  pub told : List Sent
+  pub few : length events ≤ count
+  pub trades : Trades old new events told

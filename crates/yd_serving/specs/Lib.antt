@@ -1,5 +1,7 @@
 pub mod Board
 pub mod Carried
+pub mod Exchange
 pub mod Reason
 pub mod Serving
 pub mod Settled
+pub mod Syncing

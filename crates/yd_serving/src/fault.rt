@@ -1,6 +1,7 @@
 //! Why a loop did not come to its end, and that there was no memory.
 
 use std::alloc::{AllocError, AllocFailed};
+use yd_sync::MessageFault;
 use yd_world::Outage;
 
 /// A growth found no memory.
@@ -99,5 +100,41 @@ impl From<yd_machines::NoMemory> for ServeFault {
 
     fn from(_refused: yd_machines::NoMemory) -> ServeFault {
         ServeFault::NoMemory
+    }
+}
+
+/// Why a client's loop did not come to its end.
+#[derive(Clone, Copy, Debug, PartialEq, Eq)]
+pub enum SyncFault {
+    /// A growth found no memory.
+    NoMemory,
+    /// The network did not start, or told of no event.
+    NoLink,
+    /// The message that came with this number, counted from 1, is none.
+    Refused(u64, MessageFault),
+}
+
+impl From<Outage> for SyncFault {
+    ghost use Rattle.std.specs.Prelude.{◌≡◌};
+    ghost use Rattle.yd_serving.specs.Syncing.{sync_fault};
+
+    ghost from_gives = { λ outage fault. fault ≡ sync_fault outage };
+
+    fn from(outage: Outage) -> SyncFault {
+        match outage {
+            Outage::NoMemory => SyncFault::NoMemory,
+            Outage::Failed => SyncFault::NoLink,
+        }
+    }
+}
+
+impl From<NoMemory> for SyncFault {
+    ghost use Rattle.std.specs.Prelude.{◌≡◌};
+    ghost use Rattle.yd_serving.specs.declared.fault.SyncFault.TheVariants.{NoMemory as NoRoom};
+
+    ghost from_gives = { λ _ fault. fault ≡ NoRoom };
+
+    fn from(_refused: NoMemory) -> SyncFault {
+        SyncFault::NoMemory
     }
 }

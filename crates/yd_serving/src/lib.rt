@@ -12,12 +12,15 @@
 
 mod carrying;
 mod fault;
+mod hearing;
 mod naming;
 mod serving;
 mod settling;
+mod syncing;
 
 pub use carrying::carry;
-pub use fault::{NoMemory, ServeFault};
+pub use fault::{NoMemory, ServeFault, SyncFault};
 pub use naming::{name_of_cause, name_of_fault};
 pub use serving::serve;
 pub use settling::settle;
+pub use syncing::sync;
