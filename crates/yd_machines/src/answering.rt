@@ -11,8 +11,9 @@ use yd_doc::Replica;
 use yd_doc::law::{own_document_is_defined, received_can_be_grouped, received_is_sound};
 use yd_ids::Vector;
 
-/// A replica can answer with each vector that counts what it holds.
-pub(crate) fn is_answering(replica: &Replica)
+/// A replica can answer with each vector that counts what it holds: a law, so the call does nothing
+/// (own).
+pub fn is_answering(replica: &Replica)
     ensures { IsAnswering replica.now }
 {
     received_is_sound(replica);

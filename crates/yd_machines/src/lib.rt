@@ -22,7 +22,7 @@ mod reading;
 mod serving;
 mod stating;
 
-pub use answering::vector_of;
+pub use answering::{is_answering, vector_of};
 pub use event::PeerEvent;
 pub use fault::{NoMemory, PeerFault};
 pub use hub::Hub;
