@@ -3,7 +3,7 @@ use Rattle.std.proofs.Common.{◌≡◌, ◌≢◌, ◌+◌, ◌<◌, ◌≤◌,
 use Rattle.std.proofs.lemmas.Result.{err_from_is_err_and}
 use Rattle.std.specs.Result.{IsErrAnd}
 use Rattle.yd_ids.specs.declared.id.Client.{Client}
-use Rattle.yd_updates.specs.Received.{Received}
+use Rattle.yd_meaning.specs.Deleted.{AreDeleteSet}
 use Rattle.yd_world.specs.Faults.{HasOutage}
 use Rattle.yd_world.specs.Traffic.{IsNoFault, TakesEvent}
 use Rattle.yd_world.specs.declared.board.Sent.{Sent}
@@ -17,12 +17,11 @@ use Rattle.yd_sync.specs.MessageWriting.{bytes_of_message}
 use Rattle.yd_sync.specs.Table.{is_due}
 use Rattle.yd_sync.proofs.PresenceLemmas.{tested}
 use Rattle.yd_doc.specs.Kept.{Kept, own_deletes, received_of}
-use Rattle.yd_hub.specs.Answers.{Answers, AreAnswersOf, TellsNews}
+use Rattle.yd_hub.specs.Answers.{Answers}
 use Rattle.yd_hub.specs.Peer.{PeerEventValue, PeerState, Refusal, after_heard, answer_to_heard, bad, clock_full, edited, is_clock_full, is_stuck, opened, peer_after, peer_answer, received, stated, tick}
 use Rattle.yd_hub.specs.Serving.{Turn}
 use Rattle.yd_hub.specs.Syncing.{PeerTurn, Said, Synced, behind, counted, done, ended, event_done, of_close, of_event, of_other, peer_after_turn, peer_turn, refused, said, turn_done}
-use Rattle.yd_hub.proofs.AnswerLemmas.{are_answers, tells_news}
-use Rattle.yd_machines.specs.Asked.{IsVectorOf, answers_in}
+use Rattle.yd_machines.specs.Asked.{answers_in}
 use Rattle.yd_machines.specs.PeerStep.{RefusesEvent, TakesEvent as StepTakes}
 use Rattle.yd_machines.specs.declared.fault.PeerFault.{PeerFault}
 use Rattle.yd_machines.specs.declared.fault.PeerFault.TheVariants as faults
@@ -31,6 +30,7 @@ use Rattle.yd_serving.specs.declared.fault.SyncFault.TheVariants.{NoLink, NoMemo
 use Rattle.yd_serving.specs.Board.{Board, Trades, TradesFew}
 use Rattle.yd_serving.specs.Exchange.{after_refusal, Exchanges, ExchangesOn, Says, TakesTurn, TakesTurnOn}
 use Rattle.yd_serving.specs.Syncing.{IsSyncLinked, sync_fault}
+use Rattle.yd_serving.proofs.AnsweringLemmas.{Speaks, has_answers}
 use Rattle.yd_serving.proofs.BoardLemmas.{trades_both, trades_none, trades_nothing}
 use Rattle.yd_serving.proofs.TurnLemmas.{takes_kept}
 
@@ -72,14 +72,6 @@ refused_stays answers peer (stated state now) refusal is = elim (tested (is_cloc
 
 -- ---- an event
 
--- what a replica answers
-is_answered : (replica : Kept) (peer : PeerState) (vector : List (Client × ℕ)) → peer.received ≡ received_of replica → IsVectorOf replica vector →
-    AreAnswersOf peer.received (answers_in replica vector) × TellsNews peer.received (answers_in replica vector)
-is_answered replica peer vector same counts = (
-  subst (λ (r : Received). AreAnswersOf r (answers_in replica vector)) (sym same) (are_answers (received_of replica) vector (own_deletes replica) counts),
-  subst (λ (r : Received). TellsNews r (answers_in replica vector)) (sym same) (tells_news (received_of replica) vector (own_deletes replica) counts.received),
-)
-
 -- behind messages, of which one failed or none
 abbrev behind_said : PeerEventValue → PeerState → (PeerState → Synced) → Said → Synced
 behind_said event peer_now rest s = behind (event ∷ []) s.told (if s.failed then ended peer_now done else rest peer_now)
@@ -95,29 +87,25 @@ said_outcome count event peer peer_now answers sent failed a b says after answer
 
 -- its messages went out
 pub exchanged : (replica : Kept) (count : ℕ) (event : PeerEventValue) (peer peer_now : PeerState) (sent messages : List MessageValue) (failed : Bool) (a b : Board) → peer.received ≡ received_of replica →
-    StepTakes replica peer peer_now event sent → messages ≡ sent → Says messages failed a b → ExchangesOn count event peer peer_now a b (Ok failed)
-exchanged replica count event peer peer_now sent messages false a b same takes are says_messages =
+    AreDeleteSet (own_deletes replica) (received_of replica) → StepTakes replica peer peer_now event sent → messages ≡ sent → Says messages failed a b → ExchangesOn count event peer peer_now a b (Ok failed)
+exchanged replica count event peer peer_now sent messages false a b same deletes takes are says_messages =
     let says : Says sent false a b = subst (λ (ms : List MessageValue). Says ms false a b) are says_messages in
-    let answered = is_answered replica peer takes.vector same takes.counts in
     record {
       answers = answers_in replica takes.vector;
       fails = says.fails;
       told = says.told;
-      are = answered.0;
-      news = answered.1;
+      are = has_answers replica peer.received takes.vector same (takes.counts, deletes);
       outcome = said_outcome count event peer peer_now (answers_in replica takes.vector) sent false a b says takes.after takes.answer;
       state = takes.after;
       trades = says.trades;
     }
-exchanged replica count event peer peer_now sent messages true a b same takes are says_messages =
+exchanged replica count event peer peer_now sent messages true a b same deletes takes are says_messages =
     let says : Says sent true a b = subst (λ (ms : List MessageValue). Says ms true a b) are says_messages in
-    let answered = is_answered replica peer takes.vector same takes.counts in
     record {
       answers = answers_in replica takes.vector;
       fails = says.fails;
       told = says.told;
-      are = answered.0;
-      news = answered.1;
+      are = has_answers replica peer.received takes.vector same (takes.counts, deletes);
       outcome = said_outcome count event peer peer_now (answers_in replica takes.vector) sent true a b says takes.after takes.answer;
       state = takes.after;
       trades = says.trades;
@@ -125,29 +113,25 @@ exchanged replica count event peer peer_now sent messages true a b same takes ar
 
 -- it was refused, and changed nothing
 refused_so : (replica : Kept) (vector : List (Client × ℕ)) (count : ℕ) (event : PeerEventValue) (peer peer_now : PeerState) (refusal : Refusal) (b : Board) (later : (PeerState → Synced) → Synced) →
-    peer.received ≡ received_of replica → IsVectorOf replica vector → peer_now ≡ peer → ((answers : Answers) → peer_answer message_reading answers peer event ≡ Err refusal) →
+    peer.received ≡ received_of replica → Speaks replica vector → peer_now ≡ peer → ((answers : Answers) → peer_answer message_reading answers peer event ≡ Err refusal) →
     ((rest : PeerState → Synced) → event_done message_reading bytes_of_message count peer_now event (Err refusal) [] rest ≡ behind (event ∷ []) [] (later rest)) →
     Exchanges count event peer peer_now b b later
 refused_so replica vector count event peer peer_now refusal b later same counts stays refuses ends = record {
   answers = answers_in replica vector;
   fails = [];
   told = [];
-  are = answered.0;
-  news = answered.1;
+  are = has_answers replica peer.received vector same counts;
   outcome = λ rest. ap (λ (answer : Result (List MessageValue) Refusal). event_done message_reading bytes_of_message count peer event answer [] rest) (refuses (answers_in replica vector))
       ∙ subst (λ (p : PeerState). event_done message_reading bytes_of_message count p event (Err refusal) [] rest ≡ behind (event ∷ []) [] (later rest)) stays (ends rest);
   state = stays ∙ sym (refused_stays (answers_in replica vector) peer event refusal (refuses (answers_in replica vector)));
   trades = trades_none b;
 }
-  where
-    answered : AreAnswersOf peer.received (answers_in replica vector) × TellsNews peer.received (answers_in replica vector)
-    answered = is_answered replica peer vector same counts
 
 still : (answers : Answers) (peer : PeerState) (event : PeerEventValue) (refusal : Refusal) → ((a : Answers) → peer_answer message_reading a peer event ≡ Err refusal) → peer_after message_reading peer event ≡ peer
 still answers peer event refusal refuses = refused_stays answers peer event refusal (refuses answers)
 
 pub refused_exchanges : (replica : Kept) (vector : List (Client × ℕ)) (count : ℕ) (event : PeerEventValue) (peer peer_now : PeerState) (fault : PeerFault) (b : Board) → peer.received ≡ received_of replica →
-    IsVectorOf replica vector → peer_now ≡ peer → RefusesEvent peer event fault → ExchangesOn count event peer peer_now b b (after_refusal count fault)
+    Speaks replica vector → peer_now ≡ peer → RefusesEvent peer event fault → ExchangesOn count event peer peer_now b b (after_refusal count fault)
 refused_exchanges replica vector count event peer peer_now faults.NoMemory b same counts stays refuses = record { events = []; told = []; few = omega arith; trades = trades_none b }
 refused_exchanges replica vector count event peer peer_now (faults.Bad fault) b same counts stays refuses =
     refused_so replica vector count event peer peer_now (bad fault) b (λ rest. ended peer_now (refused count fault)) same counts stays refuses
@@ -177,20 +161,18 @@ room_linked result is = let p = err_from_is_err_and result is in rw (p.1, p.2) t
 
 -- ---- a turn
 
-module _ (replica : Kept) (vector : List (Client × ℕ)) (event : Event) (heard : ℕ) (peer : PeerState) (same : peer.received ≡ received_of replica) (counts : IsVectorOf replica vector) where
+module _ (replica : Kept) (vector : List (Client × ℕ)) (event : Event) (heard : ℕ) (peer : PeerState) (same : peer.received ≡ received_of replica) (counts : Speaks replica vector) where
   abbrev turn_of : Turn
   turn_of = record { event = event; answers = answers_in replica vector; fails = [] }
 
   -- the event is of another session
   pub turn_passes : (a b : Board) → peer_turn event.now event.what ≡ of_other → Trades a b (event ∷ []) [] → TakesTurnOn heard heard peer peer a b (Ok false)
   turn_passes a b is next =
-      let answered = is_answered replica peer vector same counts in
       record {
         turn = turn_of;
         events = [];
         told = [];
-        are = answered.0;
-        news = answered.1;
+        are = has_answers replica peer.received vector same counts;
         outcome = λ rest. ap (λ (what : PeerTurn). turn_done message_reading bytes_of_message heard peer turn_of what rest) is;
         state = sym (ap (λ (what : PeerTurn). peer_after_turn message_reading bytes_of_message peer what) is);
         trades = next;
@@ -199,13 +181,11 @@ module _ (replica : Kept) (vector : List (Client × ℕ)) (event : Event) (heard
   -- the session ended
   pub turn_closes : (a b : Board) → peer_turn event.now event.what ≡ of_close → Trades a b (event ∷ []) [] → TakesTurnOn heard heard peer peer a b (Ok true)
   turn_closes a b is next =
-      let answered = is_answered replica peer vector same counts in
       record {
         turn = turn_of;
         events = [];
         told = [];
-        are = answered.0;
-        news = answered.1;
+        are = has_answers replica peer.received vector same counts;
         outcome = λ rest. ap (λ (what : PeerTurn). turn_done message_reading bytes_of_message heard peer turn_of what rest) is;
         state = sym (ap (λ (what : PeerTurn). peer_after_turn message_reading bytes_of_message peer what) is);
         trades = next;
@@ -219,7 +199,6 @@ turn_exchanges event ev heard peer peer_now a b c later is next so = record {
   events = ev ∷ [];
   told = so.told;
   are = so.are;
-  news = so.news;
   outcome = λ rest. ap (λ (what : PeerTurn). turn_done message_reading bytes_of_message heard peer turn what rest) is ∙ so.outcome (λ p. rest (counted ev heard) p);
   state = so.state ∙ sym (ap (λ (what : PeerTurn). peer_after_turn message_reading bytes_of_message peer what) is);
   trades = trades_both a b c (event ∷ []) [] [] so.told next so.trades;

@@ -1,3 +1,4 @@
+pub mod AnsweringLemmas
 pub mod BoardLemmas
 pub mod CarryLemmas
 pub mod ExchangeLemmas

@@ -10,10 +10,11 @@ use Rattle.yd_world.specs.declared.event.Event.{Event}
 use Rattle.yd_sync.specs.MessageReading.{message_reading}
 use Rattle.yd_sync.specs.MessageWriting.{bytes_of_message}
 use Rattle.yd_hub.specs.Hub.{HubState, hub_after, hub_after_all}
-use Rattle.yd_hub.specs.Serving.{AreAnswered, Turn, events_of_turn, events_served, hub_served, told_served, turn_after}
+use Rattle.yd_hub.specs.Serving.{Turn, events_of_turn, events_served, hub_served, told_served, turn_after}
 use Rattle.yd_hub.proofs.ServingLemmas.{served_is}
 use Rattle.yd_serving.specs.declared.fault.ServeFault.{ServeFault}
 use Rattle.yd_serving.specs.declared.fault.ServeFault.TheVariants.{NoLink, NoMemory}
+use Rattle.yd_serving.specs.Answering.{AnswersTurns}
 use Rattle.yd_serving.specs.Board.{Board, HasEvents, Passes, Trades}
 use Rattle.yd_serving.specs.Reason.{reason_of}
 use Rattle.yd_serving.specs.Serving.{IsLinked, LosesLink, ServesAll, ServesFront, ServesOn, ServesTurns, events_of}
@@ -48,10 +49,10 @@ events_append hub [] us = refl
 events_append hub (t ∷ ts) us = ap (λ (events : List Event). events_of_turn message_reading bytes_of_message reason_of hub t ++ events) (events_append (after hub t) ts us)
     ∙ sym (append_assoc (events_of_turn message_reading bytes_of_message reason_of hub t) (events_in (after hub t) ts) (events_in (served (after hub t) ts) us))
 
-answered_append : (hub : HubState) (ts us : List Turn) → AreAnswered message_reading bytes_of_message reason_of hub ts →
-    AreAnswered message_reading bytes_of_message reason_of (served hub ts) us → AreAnswered message_reading bytes_of_message reason_of hub (ts ++ us)
+answered_append : (hub : HubState) (ts us : List Turn) → AnswersTurns hub ts →
+    AnswersTurns (served hub ts) us → AnswersTurns hub (ts ++ us)
 answered_append hub [] us all more = more
-answered_append hub (t ∷ ts) us all more = (all.0, all.1, answered_append (after hub t) ts us all.2 more)
+answered_append hub (t ∷ ts) us all more = (all.0, answered_append (after hub t) ts us all.1 more)
 
 after_append : (hub : HubState) (es fs : List Event) → hub_after_all message_reading hub (es ++ fs) ≡ hub_after_all message_reading (hub_after_all message_reading hub es) fs
 after_append hub [] fs = refl
@@ -106,7 +107,7 @@ front_next count n hub mid now a b c lt so stops = record {
   later = stops.later;
   told = told_in hub so.turns ++ stops.told;
   rest = stops.rest;
-  answered = answered_append hub so.turns stops.turns so.served.answered (subst (λ (h : HubState). AreAnswered message_reading bytes_of_message reason_of h stops.turns) is stops.answered);
+  answered = answered_append hub so.turns stops.turns so.served.answered (subst (λ (h : HubState). AnswersTurns h stops.turns) is stops.answered);
   events = events_append hub so.turns stops.turns
       ∙ ap (λ (events : List Event). events_in hub so.turns ++ events) (subst (λ (h : HubState). events_in h stops.turns ≡ stops.got ++ stops.later) is stops.events)
       ∙ sym (append_assoc (events_in hub so.turns) stops.got stops.later);
@@ -189,6 +190,6 @@ event_left count n hub now a b lt so has =
     passed_event a.told b.told (events_of so.turns) (told_in hub so.turns) count so.served.trades.passes has (omega (arith, many, so.all, lt))
 
 -- an error that is passed on is none of the link, where that was none
-pub linked_on : (e : ServeFault) (result : Result (Unit {0}) ServeFault) → IsErrAnd result (λ fault. fault ≡ e) → IsLinked (Err e) → IsLinked result
+pub linked_on : (e : ServeFault) (result : Result (Unit {0}) ServeFault) → IsErrAnd result (λ fault. fault ≡ e) → IsLinked {X = Unit {0}} (Err e) → IsLinked result
 linked_on NoMemory result is linked = let p = err_from_is_err_and result is in rw (p.1, p.2) tt
 linked_on NoLink result is linked = absurd linked

@@ -13,9 +13,10 @@ use Rattle.yd_sync.specs.MessageReading.{message_reading}
 use Rattle.yd_sync.specs.MessageWriting.{bytes_of_message}
 use Rattle.yd_hub.specs.Peer.{PeerEventValue, PeerState}
 use Rattle.yd_hub.specs.Serving.{Turn}
-use Rattle.yd_hub.specs.Syncing.{Ending, IsPeerAnswered, Synced, behind, done, ended, is_in_step, no_link, peer_turn, refused, synced, turn_done}
+use Rattle.yd_hub.specs.Syncing.{Ending, Synced, behind, done, ended, is_in_step, no_link, peer_turn, refused, synced, turn_done}
 use Rattle.yd_serving.specs.declared.fault.SyncFault.{SyncFault}
 use Rattle.yd_serving.specs.declared.fault.SyncFault.TheVariants.{NoLink, NoMemory, Refused}
+use Rattle.yd_serving.specs.Answering.{AnswersPeer}
 use Rattle.yd_serving.specs.Board.{Board, HasEvents, Trades, TradesFew}
 use Rattle.yd_serving.specs.Exchange.{TakesTurn, TakesTurnOn}
 use Rattle.yd_serving.specs.Serving.{events_of}
@@ -72,7 +73,7 @@ pub record SyncsSoFar (first peer : PeerState) (heard index : ℕ) (a b : Board)
   pub turns : List Turn
   pub events : List PeerEventValue
   pub told : List Sent
-  pub answered : (more : List Turn) → IsPeerAnswered message_reading bytes_of_message peer more → IsPeerAnswered message_reading bytes_of_message first (turns ++ more)
+  pub answered : (more : List Turn) → AnswersPeer peer more → AnswersPeer first (turns ++ more)
   pub outcome : (n : ℕ) (more : List Turn) → from (length turns + n) 0 first (turns ++ more) ≡ led events told (length turns) (from n heard peer more)
   pub many : length turns ≡ index
   pub few : heard ≤ index
@@ -130,8 +131,8 @@ syncs_more first peer peer_now heard heard_now index a b c so not_yet le takes =
   turns = so.turns ++ takes.turn ∷ [];
   events = so.events ++ takes.events;
   told = so.told ++ takes.told;
-  answered = λ more all. subst (λ (turns : List Turn). IsPeerAnswered message_reading bytes_of_message first turns) (sym (behind_one so.turns takes.turn more))
-      (so.answered (takes.turn ∷ more) (takes.are, takes.news, subst (λ (p : PeerState). IsPeerAnswered message_reading bytes_of_message p more) takes.state all));
+  answered = λ more all. subst (λ (turns : List Turn). AnswersPeer first turns) (sym (behind_one so.turns takes.turn more))
+      (so.answered (takes.turn ∷ more) (takes.are, subst (λ (p : PeerState). AnswersPeer p more) takes.state all));
   outcome = outcome_one first peer peer_now heard index a b c (λ rest. rest heard_now peer_now) so not_yet takes;
   many = let one = length_one so.turns takes.turn in omega (arith, one, so.many);
   few = omega (arith, so.few, le);
@@ -151,12 +152,13 @@ ends_here count first peer heard index a b ending so le last = record {
   turns = so.turns;
   events = so.events;
   told = so.told;
-  answered = subst (λ (turns : List Turn). IsPeerAnswered message_reading bytes_of_message first turns) (append-nil so.turns) (so.answered [] tt);
+  answered = subst (λ (turns : List Turn). AnswersPeer first turns) (append-nil so.turns) (so.answered [] tt);
   outcome = ap (λ (k : ℕ). from k 0 first so.turns) (sym (left_of count index (length so.turns) so.many le))
       ∙ ap (λ (turns : List Turn). from (length so.turns + (count - index)) 0 first turns) (sym (append-nil so.turns))
       ∙ so.outcome (count - index) []
       ∙ ap (λ (s : Synced). led so.events so.told (length so.turns) s) last
       ∙ led_ended so.events so.told (length so.turns) peer ending;
+  few = omega (arith, so.many, le);
   trades = so.trades;
 }
 
@@ -187,11 +189,12 @@ ends_at count first peer peer_now heard index a b c ending so lt not_yet takes =
   turns = so.turns ++ takes.turn ∷ [];
   events = so.events ++ takes.events;
   told = so.told ++ takes.told;
-  answered = so.answered (takes.turn ∷ []) (takes.are, takes.news, tt);
+  answered = so.answered (takes.turn ∷ []) (takes.are, tt);
   outcome = ap (λ (k : ℕ). from k 0 first (so.turns ++ takes.turn ∷ [])) (sym (left_of count (index + 1) (length (so.turns ++ takes.turn ∷ [])) many (omega (arith, lt))))
       ∙ ap (λ (turns : List Turn). from (length (so.turns ++ takes.turn ∷ []) + (count - (index + 1))) 0 first turns) (sym (append-nil (so.turns ++ takes.turn ∷ [])))
       ∙ outcome_one first peer peer_now heard index a b c (λ rest. ended peer_now ending) so not_yet takes (count - (index + 1)) []
       ∙ led_ended (so.events ++ takes.events) (so.told ++ takes.told) (length (so.turns ++ takes.turn ∷ [])) peer_now ending;
+  few = omega (arith, many, lt);
   trades = trades_one first peer peer_now heard index a b c (λ rest. ended peer_now ending) so takes;
 }
   where
@@ -264,6 +267,7 @@ synced_behind count peer peer_now a b c ending start so = record {
   told = so.told;
   answered = so.answered;
   outcome = so.outcome;
+  few = so.few;
   trades = trades_both a b c [] (events_of so.turns) [] so.told start so.trades;
 }
 

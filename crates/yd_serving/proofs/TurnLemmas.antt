@@ -4,7 +4,6 @@ use Rattle.std.proofs.lemmas.List.{map-append}
 use Rattle.std.proofs.lemmas.Result.{err_from_is_err_and}
 use Rattle.std.specs.Result.{IsErrAnd}
 use Rattle.yd_ids.specs.declared.id.Client.{Client}
-use Rattle.yd_updates.specs.Received.{Received}
 use Rattle.yd_world.specs.Faults.{HasOutage}
 use Rattle.yd_world.specs.Traffic.{IsNoFault, Keeps, TakesEvent, Traffic}
 use Rattle.yd_world.specs.declared.board.Sent.{Sent}
@@ -13,22 +12,22 @@ use Rattle.yd_world.specs.declared.fault.Outage.{Outage}
 use Rattle.yd_world.specs.declared.fault.Outage.TheVariants.{NoMemory, Failed}
 use Rattle.yd_sync.specs.MessageReading.{message_reading}
 use Rattle.yd_sync.specs.MessageWriting.{bytes_of_message}
-use Rattle.yd_doc.specs.Kept.{Kept, own_deletes, received_of}
+use Rattle.yd_doc.specs.Kept.{Kept, received_of}
 use Rattle.yd_hub.specs.Actions.{ActionValue}
-use Rattle.yd_hub.specs.Answers.{AreAnswersOf, TellsNews}
 use Rattle.yd_hub.specs.Carrying.{Outcome, Settled, carried, settled, settled_after}
 use Rattle.yd_hub.specs.Hub.{HubState, hub_actions, hub_after}
-use Rattle.yd_hub.specs.Serving.{AreAnswered, Turn, closed_at, events_served, told_served, turn_after}
-use Rattle.yd_hub.proofs.AnswerLemmas.{are_answers, tells_news}
+use Rattle.yd_hub.specs.Serving.{Turn, closed_at, events_served, told_served, turn_after}
 use Rattle.yd_hub.proofs.OrderLemmas.{hub_orders}
-use Rattle.yd_machines.specs.Asked.{IsVectorOf, answers_in}
+use Rattle.yd_machines.specs.Asked.{answers_in}
 use Rattle.yd_serving.specs.declared.fault.ServeFault.{ServeFault}
 use Rattle.yd_serving.specs.declared.fault.ServeFault.TheVariants.{NoMemory as NoRoom}
+use Rattle.yd_serving.specs.Answering.{AnswersTurns}
 use Rattle.yd_serving.specs.Board.{Board, Trades}
 use Rattle.yd_serving.specs.Carried.{Carries, CarriesFront}
 use Rattle.yd_serving.specs.Reason.{reason_of}
 use Rattle.yd_serving.specs.Serving.{IsLinked, LosesLink, ServesAll, ServesFront, ServesOn, ServesTurns, serve_fault}
 use Rattle.yd_serving.specs.Settled.{AreEnding, Settles, SettlesFront}
+use Rattle.yd_serving.proofs.AnsweringLemmas.{Speaks, has_answers}
 use Rattle.yd_serving.proofs.BoardLemmas.{trades_both, trades_nothing}
 use Rattle.yd_serving.proofs.SettleLemmas.{order_ends}
 
@@ -37,13 +36,9 @@ abbrev turn_of : Kept → List (Client × ℕ) → Event → List Bool → Turn
 turn_of replica vector event fails = record { event = event; answers = answers_in replica vector; fails = fails }
 
 -- what was ordered is what the replica answers
-answered : (replica : Kept) (hub : HubState) (vector : List (Client × ℕ)) (event : Event) (fails : List Bool) → hub.received ≡ received_of replica → IsVectorOf replica vector →
-    AreAnswered message_reading bytes_of_message reason_of hub (turn_of replica vector event fails ∷ [])
-answered replica hub vector event fails same counts = (
-  subst (λ (r : Received). AreAnswersOf r (answers_in replica vector)) (sym same) (are_answers (received_of replica) vector (own_deletes replica) counts),
-  subst (λ (r : Received). TellsNews r (answers_in replica vector)) (sym same) (tells_news (received_of replica) vector (own_deletes replica) counts.received),
-  tt,
-)
+answered : (replica : Kept) (hub : HubState) (vector : List (Client × ℕ)) (event : Event) (fails : List Bool) → hub.received ≡ received_of replica → Speaks replica vector →
+    AnswersTurns hub (turn_of replica vector event fails ∷ [])
+answered replica hub vector event fails same counts = (has_answers replica hub.received vector same counts, tt)
 
 -- what came of an outcome: its sends that failed were settled
 abbrev through : HubState → Outcome → Settled
@@ -104,7 +99,7 @@ memory_linked result is = let p = err_from_is_err_and result is in rw (p.1, p.2)
 -- ---- an event
 
 -- memory ended before the hub took it
-pub turn_untaken : (replica : Kept) (hub hub_now : HubState) (vector : List (Client × ℕ)) (event : Event) (a b : Board) → hub.received ≡ received_of replica → IsVectorOf replica vector →
+pub turn_untaken : (replica : Kept) (hub hub_now : HubState) (vector : List (Client × ℕ)) (event : Event) (a b : Board) → hub.received ≡ received_of replica → Speaks replica vector →
     hub_now ≡ hub → Trades a b (event ∷ []) [] → ServesFront 1 hub hub_now a b
 turn_untaken replica hub hub_now vector event a b same counts stays next = record {
   turns = turn_of replica vector event [] ∷ [];
@@ -122,7 +117,7 @@ turn_untaken replica hub hub_now vector event a b same counts stays next = recor
 
 -- memory ended within what was ordered
 pub turn_cut : (replica : Kept) (hub hub_now : HubState) (vector : List (Client × ℕ)) (event : Event) (orders : List ActionValue) (a b c : Board) → hub.received ≡ received_of replica →
-    IsVectorOf replica vector → hub_now ≡ hub_after message_reading hub event → hub_actions message_reading (answers_in replica vector) hub event ≡ orders → Trades a b (event ∷ []) [] →
+    Speaks replica vector → hub_now ≡ hub_after message_reading hub event → hub_actions message_reading (answers_in replica vector) hub event ≡ orders → Trades a b (event ∷ []) [] →
     CarriesFront orders [] b c → ServesFront 1 hub hub_now a c
 turn_cut replica hub hub_now vector event orders a b c same counts after ordered next ordered_front = record {
   turns = turn ∷ [];
@@ -172,7 +167,7 @@ turn_through replica hub vector event failed fails b c carries = ap (λ (o : Out
 
 -- memory ended within what follows sends that failed
 front_settled : (replica : Kept) (hub hub_now : HubState) (vector : List (Client × ℕ)) (event : Event) (failed : List ℕ) (a b c d : Board) → hub.received ≡ received_of replica →
-    IsVectorOf replica vector → Trades a b (event ∷ []) [] → Carries (hub_actions message_reading (answers_in replica vector) hub event) [] failed b c →
+    Speaks replica vector → Trades a b (event ∷ []) [] → Carries (hub_actions message_reading (answers_in replica vector) hub event) [] failed b c →
     SettlesFront event.now (hub_after message_reading hub event) hub_now failed c d → ServesFront 1 hub hub_now a d
 front_settled replica hub hub_now vector event failed a b c d same counts next carries stops = record {
   turns = turn ∷ [];
@@ -205,7 +200,7 @@ front_settled replica hub hub_now vector event failed a b c d same counts next c
 
 -- all was carried out
 all_settled : (replica : Kept) (hub hub_now : HubState) (vector : List (Client × ℕ)) (event : Event) (failed : List ℕ) (a b c d : Board) → hub.received ≡ received_of replica →
-    IsVectorOf replica vector → Trades a b (event ∷ []) [] → Carries (hub_actions message_reading (answers_in replica vector) hub event) [] failed b c →
+    Speaks replica vector → Trades a b (event ∷ []) [] → Carries (hub_actions message_reading (answers_in replica vector) hub event) [] failed b c →
     Settles (hub_after message_reading hub event) hub_now failed c d → ServesAll 1 hub hub_now a d
 all_settled replica hub hub_now vector event failed a b c d same counts next carries settles = record {
   turns = turn ∷ [];
@@ -228,13 +223,13 @@ all_settled replica hub hub_now vector event failed a b c d same counts next car
 -- ---- as the code has it
 
 module _ (replica : Kept) (hub hub_then hub_now : HubState) (vector : List (Client × ℕ)) (event : Event) (orders : List ActionValue) (failed : List ℕ) (a b c d : Board) where
-  pub turn_settles : hub.received ≡ received_of replica → IsVectorOf replica vector → hub_then ≡ hub_after message_reading hub event →
+  pub turn_settles : hub.received ≡ received_of replica → Speaks replica vector → hub_then ≡ hub_after message_reading hub event →
       hub_actions message_reading (answers_in replica vector) hub event ≡ orders → Trades a b (event ∷ []) [] → Carries orders [] failed b c → Settles hub_then hub_now failed c d →
       ServesAll 1 hub hub_now a d
   turn_settles same counts after ordered next carries settles = all_settled replica hub hub_now vector event failed a b c d same counts next
       (subst (λ (actions : List ActionValue). Carries actions [] failed b c) (sym ordered) carries) (subst (λ (h : HubState). Settles h hub_now failed c d) after settles)
 
-  pub turn_stops : hub.received ≡ received_of replica → IsVectorOf replica vector → hub_then ≡ hub_after message_reading hub event →
+  pub turn_stops : hub.received ≡ received_of replica → Speaks replica vector → hub_then ≡ hub_after message_reading hub event →
       hub_actions message_reading (answers_in replica vector) hub event ≡ orders → Trades a b (event ∷ []) [] → Carries orders [] failed b c →
       SettlesFront event.now hub_then hub_now failed c d → ServesFront 1 hub hub_now a d
   turn_stops same counts after ordered next carries stops = front_settled replica hub hub_now vector event failed a b c d same counts next

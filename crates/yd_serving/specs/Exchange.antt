@@ -5,7 +5,7 @@ use Rattle.yd_world.specs.declared.board.Sent.{Sent}
 use Rattle.yd_sync.specs.Message.{MessageValue}
 use Rattle.yd_sync.specs.MessageReading.{message_reading}
 use Rattle.yd_sync.specs.MessageWriting.{bytes_of_message}
-use Rattle.yd_hub.specs.Answers.{Answers, AreAnswersOf, TellsNews}
+use Rattle.yd_hub.specs.Answers.{Answers}
 use Rattle.yd_hub.specs.Peer.{PeerEventValue, PeerState, peer_after, peer_answer}
 use Rattle.yd_hub.specs.Serving.{Turn}
 use Rattle.yd_hub.specs.Syncing.{PeerTurn, Synced, behind, done, ended, event_done, of_close, of_event, of_other, peer_after_turn, peer_turn, refused, said, turn_done}
@@ -16,6 +16,7 @@ use Rattle.yd_serving.specs.declared.hearing.Heard.{Heard}
 use Rattle.yd_serving.specs.declared.hearing.Heard.TheVariants.{Close, Event, Nothing}
 use Rattle.yd_serving.specs.declared.fault.SyncFault.{SyncFault}
 use Rattle.yd_serving.specs.declared.fault.SyncFault.TheVariants.{NoLink, NoMemory, Refused}
+use Rattle.yd_serving.specs.Answering.{HasAnswers}
 use Rattle.yd_serving.specs.Board.{Board, Trades, TradesFew}
 use Rattle.yd_serving.specs.Syncing.{StartsNot}
 
@@ -48,8 +49,7 @@ pub record Exchanges (count : ℕ) (event : PeerEventValue) (peer peer_now : Pee
   pub answers : Answers
   pub fails : List Bool
   pub told : List Sent
-  pub are : AreAnswersOf peer.received answers
-  pub news : TellsNews peer.received answers
+  pub are : HasAnswers peer.received answers
   pub outcome : (rest : PeerState → Synced) → event_done message_reading bytes_of_message count peer event (peer_answer message_reading answers peer event) fails rest
       ≡ behind (event ∷ []) told (later rest)
   pub state : peer_now ≡ peer_after message_reading peer event
@@ -74,8 +74,7 @@ pub record TakesTurn (heard : ℕ) (peer peer_now : PeerState) (old new : Board)
   pub turn : Turn
   pub events : List PeerEventValue
   pub told : List Sent
-  pub are : AreAnswersOf peer.received turn.answers
-  pub news : TellsNews peer.received turn.answers
+  pub are : HasAnswers peer.received turn.answers
   pub outcome : (rest : ℕ → PeerState → Synced) → turn_done message_reading bytes_of_message heard peer turn (peer_turn turn.event.now turn.event.what) rest
       ≡ behind events told (later rest)
   pub state : peer_now ≡ peer_after_turn message_reading bytes_of_message peer (peer_turn turn.event.now turn.event.what)

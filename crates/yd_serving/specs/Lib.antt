@@ -1,3 +1,4 @@
+pub mod Answering
 pub mod Board
 pub mod Carried
 pub mod Exchange

@@ -8,9 +8,10 @@ use Rattle.yd_world.specs.declared.fault.Outage.TheVariants as outages
 use Rattle.yd_sync.specs.MessageReading.{message_reading}
 use Rattle.yd_sync.specs.MessageWriting.{bytes_of_message}
 use Rattle.yd_hub.specs.Hub.{HubState, hub_after_all}
-use Rattle.yd_hub.specs.Serving.{AreAnswered, Turn, events_served, hub_served, told_served}
+use Rattle.yd_hub.specs.Serving.{Turn, events_served, hub_served, told_served}
 use Rattle.yd_serving.specs.declared.fault.ServeFault.{ServeFault}
 use Rattle.yd_serving.specs.declared.fault.ServeFault.TheVariants.{NoLink, NoMemory}
+use Rattle.yd_serving.specs.Answering.{AnswersTurns}
 use Rattle.yd_serving.specs.Board.{Board, Trades}
 use Rattle.yd_serving.specs.Reason.{reason_of}
 
@@ -21,7 +22,7 @@ events_of turns = map (λ (turn : Turn). turn.event) turns
 -- these turns were served: just their events were taken of the board, the hub is where they leave it, and the board was told what
 -- comes of them and nothing else; what a replica answers in them is that of one which received what the hub has
 pub record ServesTurns (turns : List Turn) (hub hub_now : HubState) (old new : Board) : Type 0 where
-  pub answered : AreAnswered message_reading bytes_of_message reason_of hub turns
+  pub answered : AnswersTurns hub turns
   pub state : hub_now ≡ hub_served message_reading bytes_of_message reason_of hub turns
   pub trades : Trades old new (events_of turns) (told_served message_reading bytes_of_message reason_of hub turns)
 
@@ -45,7 +46,7 @@ pub record ServesFront (count : ℕ) (hub hub_now : HubState) (old new : Board) 
   pub later : List Event
   pub told : List Sent
   pub rest : List Sent
-  pub answered : AreAnswered message_reading bytes_of_message reason_of hub turns
+  pub answered : AnswersTurns hub turns
   pub events : events_served message_reading bytes_of_message reason_of hub turns ≡ got ++ later
   pub front : told_served message_reading bytes_of_message reason_of hub turns ≡ told ++ rest
   pub few : length turns ≤ count
@@ -64,7 +65,7 @@ serve_fault outages.NoMemory = NoMemory
 serve_fault outages.Failed = NoLink
 
 -- the board did not fail
-abbrev pub IsLinked : Result (Unit {0}) ServeFault → Type 0
-IsLinked (Ok done) = Unit {0}
+abbrev pub IsLinked : {X : Type 0} → Result X ServeFault → Type 0
+IsLinked (Ok x) = Unit {0}
 IsLinked (Err NoMemory) = Unit {0}
 IsLinked (Err NoLink) = ⊥

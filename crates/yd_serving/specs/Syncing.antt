@@ -1,5 +1,5 @@
 -- A client's loop over a board: until it is in step, its session ends, a message is refused, or so many turns are taken (own).
-use Rattle.std.specs.Prelude.{◌≡◌, ◌⊎◌, ℕ, List, [], length, Result, Ok, Err}
+use Rattle.std.specs.Prelude.{◌≡◌, ◌≤◌, ◌⊎◌, ℕ, List, [], length, Result, Ok, Err}
 use Rattle.yd_world.specs.Faults.{Rose}
 use Rattle.yd_world.specs.declared.board.Sent.{Sent}
 use Rattle.yd_world.specs.declared.fault.Outage.{Outage}
@@ -8,9 +8,10 @@ use Rattle.yd_sync.specs.MessageReading.{message_reading}
 use Rattle.yd_sync.specs.MessageWriting.{bytes_of_message}
 use Rattle.yd_hub.specs.Peer.{PeerEventValue, PeerState}
 use Rattle.yd_hub.specs.Serving.{Turn}
-use Rattle.yd_hub.specs.Syncing.{Ending, IsPeerAnswered, Synced, done, no_link, refused, synced}
+use Rattle.yd_hub.specs.Syncing.{Ending, Synced, done, no_link, refused, synced}
 use Rattle.yd_serving.specs.declared.fault.SyncFault.{SyncFault}
 use Rattle.yd_serving.specs.declared.fault.SyncFault.TheVariants.{NoLink, NoMemory, Refused}
+use Rattle.yd_serving.specs.Answering.{AnswersPeer}
 use Rattle.yd_serving.specs.Board.{Board, Trades, TradesFew}
 use Rattle.yd_serving.specs.Serving.{events_of}
 
@@ -23,8 +24,9 @@ pub record Syncs (count : ℕ) (peer peer_now : PeerState) (old new : Board) (en
   pub turns : List Turn
   pub events : List PeerEventValue
   pub told : List Sent
-  pub answered : IsPeerAnswered message_reading bytes_of_message peer turns
+  pub answered : AnswersPeer peer turns
   pub outcome : synced_in count peer turns ≡ record { peer = peer_now; events = events; taken = length turns; told = told; ending = ending }
+  pub few : length turns ≤ count
   pub trades : Trades old new (events_of turns) told
 
 -- the board did not start: nothing was done

@@ -13,6 +13,7 @@
 mod carrying;
 mod fault;
 mod hearing;
+pub mod law;
 mod naming;
 mod serving;
 mod settling;

@@ -10,7 +10,7 @@ use crate::carrying::carry;
 use crate::fault::ServeFault;
 use crate::settling::settle;
 use std::alloc::Global;
-use yd_machines::{Hub, vector_of};
+use yd_machines::{Hub, is_answering, vector_of};
 use yd_world::{Switchboard, Way};
 
 /// Serves a hub at an address for so many turns (own). A turn takes one event of the board, steps
@@ -63,7 +63,9 @@ fn serve_turn<B: Switchboard>(alloc: Global, hub: &mut Hub, board: &mut B) -> Re
     ensures linked { B.is_calm board.old → HasEvent (B.told board.old)
         → IsLinked result × (B.faults board.new ≡ B.faults board.old) }
 {
-    let _vector = vector_of(hub.replica());
+    let replica = hub.replica();
+    is_answering(replica);
+    let _vector = vector_of(replica);
     let event = board.next()?;
     let actions = hub.step(&event)?;
     let mut failed = Vec::new(alloc);

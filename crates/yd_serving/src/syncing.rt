@@ -14,7 +14,7 @@ ghost use Rattle.yd_serving.specs.Syncing.{IsSyncLinked, SyncsOn};
 use crate::fault::{NoMemory, SyncFault};
 use crate::hearing::{Heard, count_heard, heard_of};
 use std::alloc::Global;
-use yd_machines::{Peer, PeerEvent, PeerFault, vector_of};
+use yd_machines::{Peer, PeerEvent, PeerFault, is_answering, vector_of};
 use yd_sync::{Message, write_message};
 use yd_world::{Outage, Session, Switchboard, Way};
 
@@ -90,7 +90,9 @@ fn sync_turn<B: Switchboard>(
     ensures linked { B.is_calm board.old → HasEvent (B.told board.old)
         → IsSyncLinked result × (B.faults board.new ≡ B.faults board.old) }
 {
-    let _vector = vector_of(peer.replica());
+    let replica = peer.replica();
+    is_answering(replica);
+    let _vector = vector_of(replica);
     let event = board.next()?;
     match heard_of(event) {
         Heard::Nothing => Ok(false),
@@ -119,7 +121,9 @@ fn exchange<B: Switchboard>(
     ensures calm { B.is_calm board.old → B.is_calm board.new }
     ensures faults { B.faults board.new ≡ B.faults board.old }
 {
-    let _vector = vector_of(peer.replica());
+    let replica = peer.replica();
+    is_answering(replica);
+    let _vector = vector_of(replica);
     match peer.step(event) {
         Ok(messages) => {
             let failed = say(alloc, board, messages.as_slice())?;

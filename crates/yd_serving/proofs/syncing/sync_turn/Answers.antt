@@ -18,13 +18,13 @@ returns-in_err-event-clause-linked g c = λ calm has.
 pub returns-in-Nothing-clause-taken : goal.returns-in-Nothing-clause-taken
 returns-in-Nothing-clause-taken g c =
     let came = c.in_ok-event.ensures in
-    turn_passes c.replica.result.now c.vector_of-vector.result.now c.in_ok-event.event c.args.heard.now _ (ap received_of (sym c.replica.ensures)) c.vector_of-vector.ensures.counts _ _
+    turn_passes c.replica-replica.result.now c.vector_of-vector.result.now c.in_ok-event.event c.args.heard.now _ (ap received_of (sym c.replica-replica.ensures)) (c.vector_of-vector.ensures.counts, c.is_answering.ensures.deletes) _ _
     (rw c.in-Nothing.is at c.heard_of.ensures.heard) (trades_next _ _ c.in_ok-event.event came.takes came.cause came.send_faults)
 
 pub returns-in-Close-clause-taken : goal.returns-in-Close-clause-taken
 returns-in-Close-clause-taken g c =
     let came = c.in_ok-event.ensures in
-    turn_closes c.replica.result.now c.vector_of-vector.result.now c.in_ok-event.event c.args.heard.now _ (ap received_of (sym c.replica.ensures)) c.vector_of-vector.ensures.counts _ _
+    turn_closes c.replica-replica.result.now c.vector_of-vector.result.now c.in_ok-event.event c.args.heard.now _ (ap received_of (sym c.replica-replica.ensures)) (c.vector_of-vector.ensures.counts, c.is_answering.ensures.deletes) _ _
     (rw c.in-Close.is at c.heard_of.ensures.heard) (trades_next _ _ c.in_ok-event.event came.takes came.cause came.send_faults)
 
 pub returns-in-Event-clause-taken : goal.returns-in-Event-clause-taken
