@@ -7,3 +7,4 @@ pub mod ServeLemmas
 pub mod SettleLemmas
 pub mod SyncLemmas
 pub mod TurnLemmas
+pub mod UpdateLemmas

@@ -6,3 +6,4 @@ pub mod Reason
 pub mod Serving
 pub mod Settled
 pub mod Syncing
+pub mod Updates

@@ -48,6 +48,16 @@ impl<T: Drop> From<AllocFailed<T>> for NoMemory {
     }
 }
 
+impl From<yd_doc::NoMemory> for NoMemory {
+    ghost use Rattle.std.specs.Prelude.{⊤};
+
+    ghost from_gives = { λ _ _. ⊤ };
+
+    fn from(_refused: yd_doc::NoMemory) -> NoMemory {
+        NoMemory
+    }
+}
+
 impl From<yd_machines::NoMemory> for NoMemory {
     ghost use Rattle.std.specs.Prelude.{⊤};
 
@@ -135,6 +145,17 @@ impl From<NoMemory> for SyncFault {
     ghost from_gives = { λ _ fault. fault ≡ NoRoom };
 
     fn from(_refused: NoMemory) -> SyncFault {
+        SyncFault::NoMemory
+    }
+}
+
+impl From<yd_machines::NoMemory> for SyncFault {
+    ghost use Rattle.std.specs.Prelude.{◌≡◌};
+    ghost use Rattle.yd_serving.specs.declared.fault.SyncFault.TheVariants.{NoMemory as NoRoom};
+
+    ghost from_gives = { λ _ fault. fault ≡ NoRoom };
+
+    fn from(_refused: yd_machines::NoMemory) -> SyncFault {
         SyncFault::NoMemory
     }
 }

@@ -18,6 +18,7 @@ mod naming;
 mod serving;
 mod settling;
 mod syncing;
+mod updates;
 
 pub use carrying::carry;
 pub use fault::{NoMemory, ServeFault, SyncFault};
@@ -25,3 +26,4 @@ pub use naming::{name_of_cause, name_of_fault};
 pub use serving::serve;
 pub use settling::settle;
 pub use syncing::sync;
+pub use updates::{serve_update, sync_update};
