@@ -2,8 +2,8 @@
 //!
 //! [`Names`] are seen as their list: the number of a name is its place. A name is found by its code,
 //! and so are all names of one parent, in time with the logarithm of how many there are.
-//! [`is_same_list`] and [`is_same_parent`] say
-//! when two names are one, and when two parents are. A call that finds no memory changes nothing.
+//! [`is_same_list`] and [`is_same_parent`] say when two names are one, and when two parents are. A
+//! call that finds no memory changes nothing.
 //!
 //! ```rust
 //! let mut names = Names::new(alloc);
