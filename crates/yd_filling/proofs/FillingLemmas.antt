@@ -274,7 +274,7 @@ filling_adds_lost = λ held w names old new stretch told lists fills begins lost
 
 -- ---- from a store to another
 
-slice_below : (names : List DocList) (n : ℕ) → n < length names → (x : DocList) × (slice_get names n ≡ Some x)
+pub slice_below : (names : List DocList) (n : ℕ) → n < length names → (x : DocList) × (slice_get names n ≡ Some x)
 slice_below [] n lt = absurd (omega (arith, lt))
 slice_below (y ∷ ys) zero lt = (y, refl)
 slice_below (y ∷ ys) (suc n) lt = slice_below ys n (omega (arith, lt))

@@ -1,3 +1,4 @@
+pub mod Back
 pub mod Filling
 pub mod Placing
 pub mod Rows
