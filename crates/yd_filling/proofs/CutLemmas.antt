@@ -1,5 +1,5 @@
 -- The rows of lists where a run is cut.
-use Rattle.std.proofs.Common.{◌≡◌, ℕ, zero, suc, ◌+◌, ◌-◌, ◌<◌, ◌≤◌, inl, inr, List, [], ◌∷◌, ◌++◌, Option, Some, length, refl, sym, ap, ap₂, ◌∙◌, subst, arith}
+use Rattle.std.proofs.Common.{◌≡◌, ℕ, zero, suc, ◌+◌, ◌-◌, ◌<◌, ◌≤◌, inl, inr, List, [], ◌∷◌, ◌++◌, Option, Some, length, get_or, refl, sym, ap, ap₂, ◌∙◌, subst, arith}
 use Rattle.std.proofs.lemmas.List.{append_assoc}
 use Rattle.yd_words.specs.Member.{IsIn, AreDistinct}
 use Rattle.yd_ids.specs.declared.id.Client.{Client}
@@ -10,10 +10,10 @@ use Rattle.yd_scan.specs.declared.stretch.Stretch.{Stretch}
 use Rattle.yd_scan.specs.Stretches.{stretch_at}
 use Rattle.yd_index.specs.Holding.{front_of, rest_of, cut_stretches}
 use Rattle.yd_index.proofs.CuttingLemmas.{cut_front, cut_rest, cut_other}
-use Rattle.yd_arena.specs.Lists.{list_at}
-use Rattle.yd_arena.specs.Arena.{runs_of, places_in}
+use Rattle.yd_arena.specs.Lists.{AreLists, list_at}
+use Rattle.yd_arena.specs.Arena.{Placed, runs_of, places_in, IsSame, CutsRun}
 use Rattle.yd_filling.specs.Rows.{rows_of_units, rows_of_run, rows_at}
-use Rattle.yd_filling.specs.Placing.{CutsKeepRows}
+use Rattle.yd_filling.specs.Placing.{KeepsRows, RowsAreKept}
 
 -- ---- one run
 
@@ -63,9 +63,10 @@ module _ (runs : List Stretch) (i n : ℕ) (lt : i < length runs) where
         ap₂ (λ us vs. us ++ vs) (ap rows_of_run (cut_other runs i n lt x (within x (inl refl)) t.1)) (rows_kept some le xs (λ j m. within j (inr m)) d.1 (elim h [ inl e ↦ absurd (t.1 (sym e)) | inr m ↦ m ])))
   ]
 
--- ---- lemmas for callers
+-- ---- what keeps all rows
 
-pub cuts_keep_rows : CutsKeepRows
+cuts_keep_rows : (old new : Placed) (place n : ℕ) → AreLists old.linked → place < length (runs_of old) → 0 < n → n ≤ (stretch_at (runs_of old) place).len →
+    CutsRun old new place n → KeepsRows old new
 cuts_keep_rows = λ old new place n lists lt some le cuts. record {
   count = cuts.lists.count;
   rows = λ k kl. ap (λ runs. rows_at runs (places_in new k)) cuts.runs
@@ -77,3 +78,22 @@ cuts_keep_rows = λ old new place n lists lt some le cuts. record {
       ];
   nexts = cuts.nexts;
 }
+
+room_keeps_rows : (old new : Placed) → IsSame old new → KeepsRows old new
+room_keeps_rows old new same = record {
+  count = ap length same.lists;
+  rows = λ k kl. ap₂ rows_at same.runs (ap (λ ls. get_or ls k []) same.lists);
+  nexts = same.nexts;
+}
+
+rows_kept_twice : (old mid new : Placed) → KeepsRows old mid → KeepsRows mid new → KeepsRows old new
+rows_kept_twice old mid new a b = record {
+  count = b.count ∙ a.count;
+  rows = λ k kl. b.rows k (omega (arith, kl, a.count)) ∙ a.rows k kl;
+  nexts = λ client. b.nexts client ∙ a.nexts client;
+}
+
+-- ---- lemmas for callers
+
+pub rows_are_kept : RowsAreKept
+rows_are_kept = record { by_cuts = cuts_keep_rows; by_room = room_keeps_rows; twice = rows_kept_twice }

@@ -7,7 +7,7 @@ use Rattle.yd_origins.specs.Growing.{GrowsByScan, IsClosed}
 use Rattle.yd_scan.specs.declared.stretch.Stretch.{Stretch}
 use Rattle.yd_scan.specs.Stretches.{stretch_at, units_of}
 use Rattle.yd_arena.specs.Lists.{AreLists}
-use Rattle.yd_arena.specs.Arena.{Placed, runs_of, count_of, places_in, units_in, next_clock, CutsRun, GrowsByRun}
+use Rattle.yd_arena.specs.Arena.{Placed, runs_of, count_of, places_in, units_in, next_clock, IsSame, CutsRun, GrowsByRun}
 use Rattle.yd_filling.specs.Rows.{rows_of_run, rows_in}
 
 -- a row is the table's: it has the left and the right that the table has of its id
@@ -46,10 +46,12 @@ pub record KeepsRows (old new : Placed) : Type 0 where
 
 -- ---- the laws
 
--- a cut leaves all rows as they are
-abbrev pub CutsKeepRows : Type 0
-CutsKeepRows = (old new : Placed) (place n : ℕ) → AreLists old.linked → place < length (runs_of old) → 0 < n → n ≤ (stretch_at (runs_of old) place).len →
-    CutsRun old new place n → KeepsRows old new
+-- all rows stay where a run is cut, where nothing changes but room, and where they stay twice
+pub record RowsAreKept : Type 0 where
+  pub by_cuts : (old new : Placed) (place n : ℕ) → AreLists old.linked → place < length (runs_of old) → 0 < n → n ≤ (stretch_at (runs_of old) place).len →
+      CutsRun old new place n → KeepsRows old new
+  pub by_room : (old new : Placed) → IsSame old new → KeepsRows old new
+  pub twice : (old mid new : Placed) → KeepsRows old mid → KeepsRows mid new → KeepsRows old new
 
 -- where all rows are as they were, a list has those of a table as before
 abbrev pub SameRowsStay : Type 0

@@ -3,9 +3,9 @@
 //!
 //! There are definitions and laws, and no code: whoever holds units in a store cites `specs/`. The
 //! units of a list as the order sees them stand in `specs/Rows.antt`, what a list has while runs
-//! come in `specs/Placing.antt`, all lists by their names in `specs/Filling.antt`, and the document
-//! that a filled store tells in `specs/Telling.antt`. The laws are contracts of empty functions: of
-//! one list in [`placing`], of all in [`law`].
+//! come in `specs/Placing.antt`, all lists by their names in `specs/Filling.antt`, how a store goes
+//! back in `specs/Back.antt`, and the document that a filled store tells in `specs/Telling.antt`.
+//! The laws are contracts of empty functions: of one list in [`placing`], of all in [`law`].
 //!
 //! ```rust
 //! law::filling_adds_run();

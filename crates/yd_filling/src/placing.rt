@@ -1,10 +1,10 @@
 //! The laws of lists in an arena while their operations come, each the contract of an empty function.
 
-ghost use Rattle.yd_filling.specs.Placing.{CutsKeepRows, SameRowsStay, RunsGrow, OtherListsStay};
+ghost use Rattle.yd_filling.specs.Placing.{RowsAreKept, SameRowsStay, RunsGrow, OtherListsStay};
 
-/// A cut leaves all rows of each list as they are.
-pub fn cuts_keep_rows()
-    ensures { CutsKeepRows }
+/// All rows of each list stay where a run is cut, and where nothing changes but room.
+pub fn rows_are_kept()
+    ensures { RowsAreKept }
 {}
 
 /// A list whose rows are the same has the rows of its table as before.

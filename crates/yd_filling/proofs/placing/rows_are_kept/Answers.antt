@@ -1,0 +1,5 @@
+use Rattle.yd_filling.proofs.CutLemmas.{rows_are_kept}
+use Rattle.yd_filling.proofs.placing.rows_are_kept.Goals as goal
+
+pub returns : goal.returns
+returns c = rows_are_kept
