@@ -1,0 +1,3 @@
+pub mod BelowLemmas
+pub mod CutLemmas
+pub mod PartLemmas
