@@ -1,0 +1,3 @@
+pub mod Content
+pub mod Mending
+pub mod Piece
