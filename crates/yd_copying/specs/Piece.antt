@@ -1,7 +1,6 @@
 -- Units of a content, some of them in a row, and what is asked of them.
 use Rattle.std.specs.Prelude.{◌≡◌, ◌<◌, ◌≤◌, ◌+◌, ℕ, Bool, true, false, List, [], ◌∷◌, ◌++◌, take, drop}
 use Rattle.yd_words.specs.Each.{Each}
-use Rattle.yd_ids.specs.Id.{IsClock}
 use Rattle.yd_ops.specs.Operation.{UnitContent, units_of_content}
 use Rattle.yd_ops.specs.Value.{ContentValue, json, binary, string, embed, format, nested, any, deleted, len_of}
 use Rattle.yd_ops.specs.View.{content_value}
@@ -43,7 +42,6 @@ pieces_units (piece ∷ pieces) = piece_units piece ++ pieces_units pieces
 pub record IsPiece (kind : ℕ) (piece : Piece) : Type 0 where
   pub some : 0 < piece.len
   pub within : piece.offset + piece.len ≤ len_of (content_value piece.content.now)
-  pub fits : IsClock (piece.offset + piece.len)
   pub kind_is : content_kind (content_value piece.content.now) ≡ kind
   pub makeable : can_make (content_value piece.content.now) ≡ true
   pub valid : Each IsValidUnitContent (piece_units piece)

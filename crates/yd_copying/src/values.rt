@@ -3,7 +3,6 @@
 ghost use Rattle.std.specs.Prelude.{◌≡◌, ◌<◌, ◌≤◌, ◌+◌, ◌++◌, [], ◌∷◌, map, length, take, drop, slice_get, unwrap_or, IfOk, OnOk};
 ghost use Rattle.yd_words.specs.Each.{Each};
 ghost use Rattle.yd_any.specs.AnyView.{any_trees, items_trees};
-ghost use Rattle.yd_ids.specs.Id.{IsClock};
 ghost use Rattle.yd_any.specs.Rows.{first_trees, other_trees, trees_and};
 ghost use Rattle.yd_ops.specs.Valid.{AreValidTrees, IsValidUnit};
 ghost use Rattle.yd_ops.specs.View.{unit_value};
@@ -87,11 +86,12 @@ fn add_values(all: &mut AnyList, piece: &Piece<'_>) -> Result<(), NoMemory>
 /// Appends copies of so many values, from one on.
 fn add_items(all: &mut AnyList, values: &[Any], from: u64, len: u64) -> Result<(), NoMemory>
     requires within { from + len ≤ length values.now }
-    requires fits { IsClock (from + len) }
     requires valid { AreValidTrees (first_trees len (other_trees from (items_trees values.now))) }
     ensures { OnOk result (any_trees all.new
         ≡ trees_and (any_trees all.old) (first_trees len (other_trees from (items_trees values.now)))) }
 {
+    // The length is in range, and so is each place.
+    let _len = values.len();
     add_all(all, &values[from as usize..(from + len) as usize])?;
     Ok(())
 }
@@ -138,11 +138,12 @@ fn add_json(all: &mut JsonUnits, piece: &Piece<'_>) -> Result<(), NoMemory>
 /// Appends copies of so many JSON units, from one on.
 fn add_each(all: &mut JsonUnits, units: &[JsonUnit], from: u64, len: u64) -> Result<(), NoMemory>
     requires within { from + len ≤ length units.now }
-    requires fits { IsClock (from + len) }
     requires valid { Each IsValidUnit (take len (drop from (map unit_value units.now))) }
     ensures { OnOk result (map unit_value all.new
         ≡ map unit_value all.old ++ take len (drop from (map unit_value units.now))) }
 {
+    // The length is in range, and so is each place.
+    let _len = units.len();
     add_each_of(all, &units[from as usize..(from + len) as usize])?;
     Ok(())
 }

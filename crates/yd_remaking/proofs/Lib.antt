@@ -1,0 +1,4 @@
+pub mod FoundLemmas
+pub mod GroupLemmas
+pub mod KindLemmas
+pub mod RowLemmas

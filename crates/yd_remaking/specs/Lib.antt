@@ -1,0 +1,4 @@
+pub mod Found
+pub mod Group
+pub mod Parts
+pub mod Rows
