@@ -1,0 +1,19 @@
+use Rattle.std.proofs.Common.{length, get_or, map, refl, ap, ◌∙◌, arith}
+use Rattle.yd_ops.specs.Valid.{IsValidBlock}
+use Rattle.yd_ops.specs.View.{block_value, struct_value}
+use Rattle.yd_ops.proofs.EachLemmas.{each_read}
+use Rattle.yd_merge.proofs.NamedLemmas.{note_next}
+use Rattle.yd_undo.specs.Entry.{blocks_ids, structs_ids}
+use Rattle.yd_undo.proofs.entry.add_update.Goals as goal
+
+pub add_block-requires : goal.add_block-requires
+add_block-requires c = each_read block_value IsValidBlock c.args.update.now.blocks c.loop-block.block-index c.block-item.result c.requires.blocks
+    (omega (arith, c.loop-block-test.true, ap length c.as_slice-block-items.ensures)) (c.block-item.is ∙ ap (λ bs. get_or bs c.loop-block.block-index
+    c.block-item.result) c.as_slice-block-items.ensures)
+
+pub loop-block-preserved : goal.loop-block-preserved
+loop-block-preserved c = note_next (λ bs. blocks_ids (map block_value bs)) (λ b. structs_ids b.client b.clock (map struct_value b.structs)) c.args.update.now.blocks
+    c.loop-block.block-index c.block-item.result c.loop-block.spans.items c.add_block.new.spans.items (λ rest. refl)
+    (omega (arith, c.loop-block-test.true, ap length c.as_slice-block-items.ensures)) (c.block-item.is ∙ ap (λ bs. get_or bs c.loop-block.block-index
+    c.block-item.result) c.as_slice-block-items.ensures) c.in_ok-add_block.ensures
+    ∙ c.loop-block.invariant

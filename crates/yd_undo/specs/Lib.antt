@@ -1,0 +1,5 @@
+pub mod Entry
+pub mod Law
+pub mod Remade
+pub mod Stacks
+pub mod Steps

@@ -1,0 +1,20 @@
+//! Undo and redo of one's own edits.
+//!
+//! [`Undo`] keeps an entry for each update that is noted: the ids that it inserted, and those that it
+//! deleted outside what was noted before. What an undo removes and makes again, and where, is said by
+//! `specs/Steps.antt` and `specs/Remade.antt`: it removes nothing that its entry did not insert
+//! ([`law`]).
+//!
+//! ```rust
+//! let mut undo = Undo::new(alloc, 100);
+//! undo.note(&update)?;
+//! ```
+#![tactic(auto)]
+
+mod entry;
+pub mod law;
+mod stacks;
+
+pub use entry::Entry;
+pub use stacks::Undo;
+pub use yd_making::NoMemory;
