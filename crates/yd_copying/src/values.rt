@@ -1,6 +1,6 @@
 //! Texts, any-values and JSON units of pieces, one after another.
 
-ghost use Rattle.std.specs.Prelude.{◌≡◌, ◌<◌, ◌≤◌, ◌+◌, ◌++◌, [], ◌∷◌, map, length, take, drop, slice_get, unwrap_or, IfOk, OnOk};
+ghost use Rattle.std.specs.Prelude.{◌≡◌, ◌≤◌, ◌+◌, ◌++◌, map, length, take, drop, IfOk, OnOk};
 ghost use Rattle.yd_words.specs.Each.{Each};
 ghost use Rattle.yd_any.specs.AnyView.{any_trees, items_trees};
 ghost use Rattle.yd_any.specs.Rows.{first_trees, other_trees, trees_and};
@@ -87,8 +87,8 @@ fn add_values(all: &mut AnyList, piece: &Piece<'_>) -> Result<(), NoMemory>
 fn add_items(all: &mut AnyList, values: &[Any], from: u64, len: u64) -> Result<(), NoMemory>
     requires within { from + len ≤ length values.now }
     requires valid { AreValidTrees (first_trees len (other_trees from (items_trees values.now))) }
-    ensures { OnOk result (any_trees all.new
-        ≡ trees_and (any_trees all.old) (first_trees len (other_trees from (items_trees values.now)))) }
+    ensures { OnOk result (any_trees all.new ≡ trees_and (any_trees all.old)
+        (first_trees len (other_trees from (items_trees values.now)))) }
 {
     // The length is in range, and so is each place.
     let _len = values.len();

@@ -28,9 +28,9 @@ pub struct Group<'a> {
     pub len: u64,
 }
 
-/// The group that begins with a unit among those that are still to come, no longer than so many units, and none where the unit
-/// cannot be made or is none of them. It takes time as reading the list by pieces does, up to
-/// the end of the group.
+/// The group that begins with a unit among those that are still to come, no longer than so many
+/// units. There is none where the unit cannot be made, or is not among them. It takes time as reading
+/// the list by pieces does, up to the end of the group.
 pub fn group_at<'a>(
     alloc: Global,
     view: ListView<'a>,
