@@ -70,10 +70,7 @@ pub fn cut_stretch(stretches: &mut Vec<Stretch>, place: usize, n: u64)
 }
 
 /// Puts a place behind another in its list, if it is in one.
-#[tactic(
-    auto,
-    using(crate::proofs::ListsLemmas::puts_behind, crate::proofs::ListsLemmas::puts_none)
-)]
+#[tactic(auto, using(crate::proofs::ListsLemmas::puts_behind, crate::proofs::ListsLemmas::puts_none))]
 pub fn put_part(chains: &mut Chains, place: usize, more: usize)
     requires place { place < chains.old.count }
     requires more { more < chains.old.count }
@@ -89,10 +86,7 @@ pub fn put_part(chains: &mut Chains, place: usize, more: usize)
 }
 
 /// Takes a place out of its list, if it is in one.
-#[tactic(
-    auto,
-    using(crate::proofs::TakingLemmas::takes_out, crate::proofs::TakingLemmas::takes_none)
-)]
+#[tactic(auto, using(crate::proofs::TakingLemmas::takes_out, crate::proofs::TakingLemmas::takes_none))]
 pub fn take_part(chains: &mut Chains, place: usize)
     requires { place < chains.old.count }
     ensures taken { TakesOut chains.old.chains chains.new.chains place }

@@ -12,8 +12,7 @@ use crate::writing::write_line;
 use yd_world::{Outage, Sink};
 
 /// How the program is used.
-const USAGE: &str =
-    "usage: ydoc show|merge|cut|vector|convert|edit|serve|sync|check|generate|pack";
+const USAGE: &str = "usage: ydoc show|merge|cut|vector|convert|edit|serve|sync|check|generate|pack";
 
 /// Writes the ending's line, and answers the status. Where memory ends before the line does, the
 /// status says so; a fault of err changes none.

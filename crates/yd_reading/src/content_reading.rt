@@ -31,10 +31,7 @@ pub fn read_any_field<'a, R: FieldReader<'a>>(
 }
 
 /// The content of an item that began at a spot.
-#[tactic(
-    auto,
-    unfolding(yd_parts::specs::Plan::read_by, yd_fields::specs::StructPlan::content_plan)
-)]
+#[tactic(auto, unfolding(yd_parts::specs::Plan::read_by, yd_fields::specs::StructPlan::content_plan))]
 pub fn read_content<'a, R: FieldReader<'a>>(
     alloc: Global,
     reader: &mut R,
@@ -83,10 +80,7 @@ pub fn empty_struct(begin: Spot) -> ReadError
     }
 }
 
-#[tactic(
-    auto,
-    unfolding(yd_parts::specs::Plan::read_by, yd_fields::specs::StructPlan::deleted_plan)
-)]
+#[tactic(auto, unfolding(yd_parts::specs::Plan::read_by, yd_fields::specs::StructPlan::deleted_plan))]
 fn read_deleted<'a, R: FieldReader<'a>>(reader: &mut R, begin: Spot) -> Result<Content, ReadError>
     ensures { Gives content_value result reader.new
         (read_by R.field_at R.spot_of (deleted_plan begin) reader.old) }

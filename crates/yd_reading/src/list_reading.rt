@@ -61,10 +61,7 @@ fn read_list_key<'a, R: FieldReader<'a>>(
     Ok(None)
 }
 
-#[tactic(
-    auto,
-    unfolding(yd_parts::specs::Plan::read_by, yd_fields::specs::StructPlan::parent_plan)
-)]
+#[tactic(auto, unfolding(yd_parts::specs::Plan::read_by, yd_fields::specs::StructPlan::parent_plan))]
 fn read_parent<'a, R: FieldReader<'a>>(alloc: Global, reader: &mut R) -> Result<Parent, ReadError>
     ensures { Gives (λ parent. parent) result reader.new
         (read_by R.field_at R.spot_of parent_plan reader.old) }

@@ -32,10 +32,7 @@ pub fn read_struct<'a, R: FieldReader<'a>>(
     read_kinded(alloc, reader, id, info, begin)
 }
 
-#[tactic(
-    auto,
-    unfolding(yd_parts::specs::Plan::read_by, yd_fields::specs::StructPlan::kinded_plan)
-)]
+#[tactic(auto, unfolding(yd_parts::specs::Plan::read_by, yd_fields::specs::StructPlan::kinded_plan))]
 fn read_kinded<'a, R: FieldReader<'a>>(
     alloc: Global,
     reader: &mut R,
