@@ -1,12 +1,12 @@
-//! What a server orders, carried out over a network.
+//! The loops of a server and of a client over a network.
 //!
-//! [`carry`] sends and closes what a hub orders, in its order. A session whose send fails is closed
-//! at once, and nothing more is done for it. Then [`settle`] tells the hub that it closed, and
-//! carries out what that orders in the same way. What is told so is defined in `yd_hub`
-//! (`specs/Carrying.antt`), for whatever sends fail.
+//! [`serve`] takes so many events and carries out what a hub orders, with all that follows sends
+//! that fail; [`sync`] brings a peer in step with a server. Their contracts say which events were
+//! taken and what the network was told, for whatever sends fail, and how it ended. [`serve_update`]
+//! and [`sync_update`] begin with an update, and answer all that there is at the end.
 //!
 //! ```rust
-//! carry(alloc, &mut board, actions.as_slice(), &mut failed)?;
+//! let reply = serve_update(alloc, &update, &mut board, "127.0.0.1:1234", 9)?;
 //! ```
 #![tactic(auto)]
 
