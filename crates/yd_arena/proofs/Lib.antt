@@ -4,3 +4,5 @@ pub mod ArenaLemmas
 pub mod GrowthLemmas
 pub mod BesideLemmas
 pub mod TakingLemmas
+pub mod CutLemmas
+pub mod RowLemmas

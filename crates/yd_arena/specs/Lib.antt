@@ -1,3 +1,4 @@
 pub mod Lists
 pub mod Arena
 pub mod Law
+pub mod Rows

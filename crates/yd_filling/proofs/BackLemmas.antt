@@ -23,12 +23,12 @@ use Rattle.yd_growing.specs.Grown.{table_in}
 use Rattle.yd_growing.specs.Staying.{StaysHeld}
 use Rattle.yd_growing.proofs.GrowthLemmas.{news_are_rows, nothing_closed}
 use Rattle.yd_growing.proofs.StayingLemmas.{back, same_list, is_front}
-use Rattle.yd_filling.specs.Rows.{rows_in}
+use Rattle.yd_arena.specs.Rows.{rows_in}
 use Rattle.yd_filling.specs.Placing.{IsRowOf, HasRowsBelow}
 use Rattle.yd_filling.specs.Filling.{FillsLists, GrowsFrom}
 use Rattle.yd_filling.specs.Back.{is_below, GoesBack, IsFilledAgain, GoingBackIsAgain}
 use Rattle.yd_filling.proofs.FillingLemmas.{within_names, slice_below}
-use Rattle.yd_filling.proofs.RowLemmas.{ids-rows}
+use Rattle.yd_arena.proofs.RowLemmas.{ids-rows}
 
 -- ---- what a filter leaves after scans
 
@@ -72,10 +72,10 @@ news_are_new table [] l a x i j = i
 news_are_new table (n ∷ ns) l a x (inl e) j = a.0 (subst (λ y. IsIn y l) e j)
 news_are_new table (n ∷ ns) l a x (inr i) j = news_are_new table ns (n ∷ l) a.5 x i (inr j)
 
-below_is : (placed : Placed) (x : Id) → is_below placed x ≡ true → x.clock < next_clock placed x.client.0
+pub below_is : (placed : Placed) (x : Id) → is_below placed x ≡ true → x.clock < next_clock placed x.client.0
 below_is placed x e = elim (nat_lt_says x.clock (next_clock placed x.client.0)) [ inl y ↦ y.1 | inr y ↦ absurd (true≢false (sym e ∙ y.0)) ]
 
-is_below-true : (placed : Placed) (x : Id) → x.clock < next_clock placed x.client.0 → is_below placed x ≡ true
+pub is_below-true : (placed : Placed) (x : Id) → x.clock < next_clock placed x.client.0 → is_below placed x ≡ true
 is_below-true placed x lt = elim (nat_lt_says x.clock (next_clock placed x.client.0)) [ inl y ↦ y.0 | inr y ↦ absurd (omega (arith, lt, y.1)) ]
 
 not_below : (placed : Placed) (x : Id) → (x.clock < next_clock placed x.client.0 → ⊥) → is_below placed x ≡ false

@@ -24,13 +24,13 @@ use Rattle.yd_meaning.specs.Order.{operation_set, list_of}
 use Rattle.yd_meaning.proofs.RowLemmas.{has_row, row_has}
 use Rattle.yd_meaning.proofs.StandingTableLemmas.{standing_table}
 use Rattle.yd_growing.specs.Grown.{table_in, IsGrown}
-use Rattle.yd_filling.specs.Rows.{rows_at, rows_in, rows_of_run}
+use Rattle.yd_arena.specs.Rows.{rows_at, rows_in, rows_of_run}
 use Rattle.yd_filling.specs.Placing.{HasRowsBelow, IsNextRun, ComesElsewhere, GrowsInto}
 use Rattle.yd_filling.specs.Filling.{FillsLists, AddsName, FillingGoesOn, FillsOn, ComesNext, FillingStarts, FillingStays, FillingIsKept, FillingAddsList, FillingAddsRun, FillingAddsLost, FillingEnds}
 use Rattle.yd_growing.proofs.GrowthLemmas.{nothing_closed, grows_on}
 use Rattle.yd_filling.proofs.NextLemmas.{is_next}
 use Rattle.yd_filling.proofs.PlacingLemmas.{units_same, rows_below, grows_into, same_rows_stay, other_lists_stay, rows_in_front}
-use Rattle.yd_filling.proofs.RowLemmas.{ids-from, row_with}
+use Rattle.yd_arena.proofs.RowLemmas.{ids-from, row_with}
 use Rattle.yd_growing.proofs.StayingLemmas.{stands_held, back, same_list, is_front, lists_grown}
 
 -- ---- names by number
@@ -298,6 +298,18 @@ filling_goes_on = record {
     made = λ n x e le. elim (named_or_last more name n x e) [
       | inl f ↦ subst (GrowsByScan (table_in (standing held) x) []) (sym (adds.same n x f)) (from.made n x f le)
       | inr f ↦ stays_grown (table_in (standing held) x) [] (units_in new n) (ap (units_in new) f.0 ∙ adds.none)
+    ];
+  };
+  both = λ held names old more mid most new a b. record {
+    kept = λ n x e. b.kept n x (a.kept n x e);
+    grows = λ n x e. grows_on (table_in (standing held) x) (units_in old n) (units_in mid n) (units_in new n) (a.grows n x e) (b.grows n x (a.kept n x e));
+    made = λ n x e le. elim (split (length more) n) [
+      | inl above ↦ b.made n x e above
+      | inr lt ↦
+          let (y, f) = slice_below more n lt in
+          let same : y ≡ x = some_is y x (sym (b.kept n y f) ∙ e) in
+          subst (λ l. IsGrown (standing held) l (units_in new n)) same
+          (grows_on (table_in (standing held) y) [] (units_in mid n) (units_in new n) (a.made n y f le) (b.grows n y f))
     ];
   };
   end = λ part held w stays names old more new grown from n name e. elim (split (length names) n) [

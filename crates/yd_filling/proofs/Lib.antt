@@ -1,6 +1,7 @@
 pub mod BackLemmas
-pub mod CutLemmas
+pub mod KeepingLemmas
 pub mod FillingLemmas
+pub mod GoingLemmas
 pub mod NextLemmas
 pub mod PlacingLemmas
 pub mod RowLemmas

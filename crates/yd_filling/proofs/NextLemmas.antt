@@ -29,7 +29,7 @@ use Rattle.yd_meaning.proofs.RowLemmas.{one_row, has_row, left_of-row, right_of-
 use Rattle.yd_meaning.proofs.StandingLemmas.{standing_sources}
 use Rattle.yd_meaning.proofs.StandingTableLemmas.{standing_table}
 use Rattle.yd_growing.specs.Grown.{table_in}
-use Rattle.yd_filling.specs.Rows.{rows_of_units, rows_of_run}
+use Rattle.yd_arena.specs.Rows.{rows_of_units, rows_of_run}
 use Rattle.yd_filling.specs.Placing.{IsRowOf, HasRowsBelow, IsNextRun}
 use Rattle.yd_filling.specs.Filling.{ComesNext}
 use Rattle.yd_filling.proofs.RowLemmas.{right_is}

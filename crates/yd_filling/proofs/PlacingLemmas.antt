@@ -19,10 +19,11 @@ use Rattle.yd_index.proofs.RowLemmas.{from_says, from_in}
 use Rattle.yd_arena.specs.Lists.{AreLists}
 use Rattle.yd_arena.specs.Arena.{Placed, runs_of, count_of, places_in, units_in, next_clock, GrowsByRun}
 use Rattle.yd_arena.proofs.ListsLemmas.{in_put}
-use Rattle.yd_filling.specs.Rows.{rows_of_units, rows_of_run, rows_at, rows_in}
+use Rattle.yd_arena.specs.Rows.{rows_of_units, rows_of_run, rows_at, rows_in}
 use Rattle.yd_filling.specs.Placing.{IsRowOf, HasRowsBelow, IsNextRun, GrowsInto, SameRowsStay, OtherListsStay}
 use Rattle.yd_growing.proofs.GrowthLemmas.{in_scans, scans_have, grown_closed, IsFrontOf}
-use Rattle.yd_filling.proofs.RowLemmas.{ids-from, ids-rows, row_with, in_rows, rows_there, rows_same, IsRunOfTable, run_of_table}
+use Rattle.yd_filling.proofs.RowLemmas.{IsRunOfTable, run_of_table}
+use Rattle.yd_arena.proofs.RowLemmas.{ids-from, ids-rows, row_with, in_rows, rows_there, rows_same}
 
 -- ---- the units of a run, in turn
 

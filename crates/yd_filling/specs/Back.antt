@@ -5,9 +5,11 @@ use Rattle.yd_ops.specs.declared.lists.List.{List as DocList}
 use Rattle.yd_ops.specs.Operation.{Operation}
 use Rattle.yd_origins.specs.Table.{Row}
 use Rattle.yd_arena.specs.Arena.{Placed, count_of, units_in, next_clock}
+use Rattle.yd_store.specs.Store.{Stored}
+use Rattle.yd_store.specs.Taking.{TakesBack}
 use Rattle.yd_updates.specs.Received.{has_operation, IsWritten}
 use Rattle.yd_growing.specs.Staying.{StaysHeld}
-use Rattle.yd_filling.specs.Rows.{rows_in}
+use Rattle.yd_arena.specs.Rows.{rows_in}
 use Rattle.yd_filling.specs.Filling.{FillsLists, GrowsFrom}
 
 -- whether an id is below the next clock of its client
@@ -31,3 +33,15 @@ abbrev pub GoingBackIsAgain : Type 0
 GoingBackIsAgain = (part held : List Operation) → IsWritten held → StaysHeld part held → (names more : List DocList) (start mid back : Placed) →
     ((x : Id) → x.clock < next_clock start x.client.0 → has_operation part x ≡ true) → FillsLists part names start → FillsLists held more mid →
     GrowsFrom held names start more mid → GoesBack start mid back → IsFilledAgain part names start more back
+
+-- a store has gone back from another: of each list the rows below its own next clocks are left, in their order
+pub record HasGoneBack (mid back : Placed) : Type 0 where
+  pub count : count_of back ≡ count_of mid
+  pub rows : (list : ℕ) → list < count_of mid → rows_in back list ≡ filter (λ (row : Row). is_below back row.id) (rows_in mid list)
+
+-- so it is at the start, and where one more client's units are taken back; and at the next clocks of another it has gone back to it
+pub record GoingBackGoesOn : Type 0 where
+  pub start : (held : List Operation) (names : List DocList) (placed : Placed) → FillsLists held names placed → HasGoneBack placed placed
+  pub on : (from : Placed) (mid new : Stored) (client clock : ℕ) → HasGoneBack from mid.placed → clock ≤ next_clock mid.placed client →
+      TakesBack mid new client clock → HasGoneBack from new.placed
+  pub end : (start mid back : Placed) → HasGoneBack mid back → ((client : ℕ) → next_clock back client ≡ next_clock start client) → GoesBack start mid back

@@ -92,14 +92,16 @@ pub record GrowsFrom (held : List Operation) (names : List DocList) (old : Place
   pub grows : ListsGrowOn held names old new
   pub made : (n : ℕ) (name : DocList) → slice_get more n ≡ Some name → length names ≤ n → IsGrown (standing held) name (units_in new n)
 
--- so it is at the start, and goes on where lists grow, and where one is added; and what grew in a part that stays held is
--- grown in the whole at the end
+-- so it is at the start, and goes on where lists grow, where one is added, and where they have grown so once more; and what
+-- grew in a part that stays held is grown in the whole at the end
 pub record FillingGoesOn : Type 0 where
   pub start : (held : List Operation) (names : List DocList) (placed : Placed) → GrowsFrom held names placed names placed
   pub on : (held : List Operation) (names : List DocList) (old : Placed) (more : List DocList) (mid new : Placed) →
       GrowsFrom held names old more mid → FillsOn held more mid new → GrowsFrom held names old more new
   pub list : (held : List Operation) (names : List DocList) (old : Placed) (more : List DocList) (mid : Placed) (name : DocList) (new : Placed) →
       GrowsFrom held names old more mid → AddsName held more name mid new → GrowsFrom held names old (more ++ name ∷ []) new
+  pub both : (held : List Operation) (names : List DocList) (old : Placed) (more : List DocList) (mid : Placed) (most : List DocList) (new : Placed) →
+      GrowsFrom held names old more mid → GrowsFrom held more mid most new → GrowsFrom held names old most new
   pub end : (part held : List Operation) → IsWritten held → StaysHeld part held → (names : List DocList) (old : Placed) (more : List DocList) (new : Placed) →
       ((n : ℕ) (name : DocList) → slice_get names n ≡ Some name → IsGrown (standing part) name (units_in old n)) → GrowsFrom held names old more new →
       (n : ℕ) (name : DocList) → slice_get more n ≡ Some name → IsGrown (standing held) name (units_in new n)

@@ -8,7 +8,7 @@ use Rattle.yd_scan.specs.declared.stretch.Stretch.{Stretch}
 use Rattle.yd_scan.specs.Stretches.{stretch_at, units_of}
 use Rattle.yd_arena.specs.Lists.{AreLists}
 use Rattle.yd_arena.specs.Arena.{Placed, runs_of, count_of, places_in, units_in, next_clock, IsSame, CutsRun, GrowsByRun}
-use Rattle.yd_filling.specs.Rows.{rows_of_run, rows_in}
+use Rattle.yd_arena.specs.Rows.{rows_of_run, rows_in}
 
 -- a row is the table's: it has the left and the right that the table has of its id
 pub record IsRowOf (table : OriginTable) (row : Row) : Type 0 where

@@ -1,7 +1,7 @@
 //! The laws of a store while held operations come into it, each the contract of an empty function.
 
 ghost use Rattle.yd_filling.specs.Filling.{FillingStarts, FillingStays, FillingIsKept, FillingAddsList, FillingAddsRun, FillingAddsLost, FillingGoesOn, FillingEnds};
-ghost use Rattle.yd_filling.specs.Back.{GoingBackIsAgain};
+ghost use Rattle.yd_filling.specs.Back.{GoingBackGoesOn, GoingBackIsAgain};
 ghost use Rattle.yd_filling.specs.Telling.{ListsTellUnits, FilledListsAreGrown};
 
 /// A store without lists and units is a start, whatever is held.
@@ -37,6 +37,11 @@ pub fn filling_adds_lost()
 /// From step to step the lists have grown by scans, and new ones from nothing.
 pub fn filling_goes_on()
     ensures { FillingGoesOn }
+{}
+
+/// Clients whose units are taken back, one after another, let a store go back.
+pub fn going_back_goes_on()
+    ensures { GoingBackGoesOn }
 {}
 
 /// A store that goes back to earlier clocks has the lists of that time again, in their order.

@@ -20,6 +20,7 @@ deletes_units old mid new span k arena front back held marks placed contents =
     (record {
       count = k.count;
       lists = k.lists;
+      rows = k.rows;
       operations = λ o. ((λ h. (k.operations o).0 (record { place = h.place; within = h.within; member = h.member })), (λ h. (let g = (k.operations o).1 h in record { place = g.place; within = g.within; member = g.member })));
       marks = λ id. (let law = marks_are_units mid.placed.lines (runs_of mid.placed) mid.marks.rows new.marks.rows span arena front back held_now marks id in (
         (λ h. elim (law.0 h) [ inl x ↦ inl ((k.marks id).0 x) | inr x ↦ inr x ]),

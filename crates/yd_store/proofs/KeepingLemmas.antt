@@ -19,6 +19,7 @@ use Rattle.yd_index.proofs.LinesLemmas.{eq_says}
 use Rattle.yd_index.proofs.CuttingLemmas.{cut_len, cut_front, cut_rest, cut_other}
 use Rattle.yd_arena.specs.Lists.{AreLists}
 use Rattle.yd_arena.specs.Arena.{runs_of, count_of, places_in, CutsRun}
+use Rattle.yd_arena.proofs.CutLemmas.{cuts_keep_rows, same_has_rows}
 use Rattle.yd_marks.specs.Marks.{mark_at}
 use Rattle.yd_marks.proofs.MarkLemmas.{cuts_keep_marks}
 use Rattle.yd_marks.proofs.BorderLemmas.{cut_border}
@@ -154,6 +155,7 @@ module _ (old new : Stored) (store : IsStore old.placed old.marks old.contents) 
     count = cuts.lists.count;
     lists = list_kept;
     units = cuts.units;
+    rows = cuts_keep_rows old.placed new.placed place n lists within some (omega (arith, inside)) cuts;
     operations = λ o. (operations_back o, operations_on o);
     marks = λ id. rw (cuts.runs, rows) (cuts_keep_marks were old.marks.rows place n store.counted.each within (omega (arith, inside)) id);
     live = live;
@@ -170,6 +172,7 @@ kept_keeps old new kept = record {
       ap₂ (λ (rs : List Stretch) (ts : List (Option RunValue)). flat_map (operations_at rs ts) (places_in new.placed list)) kept.placed.runs kept.runs
       ∙ ap (λ (ls : List (List ℕ)). flat_map (operations_at (runs_of old.placed) (told_of old.contents)) (get_or ls list [])) kept.placed.lists);
   units = λ list lt. ap₂ (λ (rs : List Stretch) (ls : List (List ℕ)). units_at rs (get_or ls list [])) kept.placed.runs kept.placed.lists;
+  rows = λ list lt. same_has_rows old.placed new.placed kept.placed list;
   operations = λ o. (
     (λ h. record { place = h.place; within = omega (arith, h.within, ap length kept.placed.runs); member = (rw (kept.placed.runs, kept.runs) at h.member) }),
     (λ h. record { place = h.place; within = omega (arith, h.within, ap length kept.placed.runs); member = rw (kept.placed.runs, kept.runs) h.member }),

@@ -41,6 +41,7 @@ maps_kept old mid new f k m = record {
   count = m.count ∙ k.count;
   lists = λ list lt. m.lists list (omega (arith, lt, k.count)) ∙ ap (map f) (k.lists list lt);
   units = λ list lt. m.units list (omega (arith, lt, k.count)) ∙ k.units list lt;
+  rows = λ list lt. m.rows list (omega (arith, lt, k.count)) ∙ k.rows list lt;
   was = λ o h. (let r = m.was o h in (r.0, (k.operations r.0).0 r.1, r.2));
   is = λ p h. m.is p ((k.operations p).1 h);
   marks = λ id. ((λ h. (k.marks id).0 ((m.marks id).0 h)), (λ h. (m.marks id).1 ((k.marks id).1 h)));
@@ -54,6 +55,7 @@ maps_both old mid new f g a b = record {
   count = b.count ∙ a.count;
   lists = λ list lt. b.lists list (omega (arith, lt, a.count)) ∙ ap (map g) (a.lists list lt) ∙ map_twice f g (operations_in old list);
   units = λ list lt. b.units list (omega (arith, lt, a.count)) ∙ a.units list lt;
+  rows = λ list lt. b.rows list (omega (arith, lt, a.count)) ∙ a.rows list lt;
   was = λ o h. (let r = b.was o h in let s = a.was r.0 r.1 in (s.0, s.1, r.2 ∙ ap g s.2));
   is = λ p h. b.is (f p) (a.is p h);
   marks = λ id. ((λ h. (a.marks id).0 ((b.marks id).0 h)), (λ h. (b.marks id).1 ((a.marks id).1 h)));
@@ -68,6 +70,7 @@ maps_none it f same = record {
   count = refl;
   lists = λ list lt. sym (map_none f (operations_in it list) (λ o h. same o));
   units = λ list lt. refl;
+  rows = λ list lt. refl;
   was = λ o h. (o, h, sym (same o));
   is = λ p h. subst (HasOperation it) (sym (same p)) h;
   marks = λ id. ((λ h. h), (λ h. h));
@@ -92,6 +95,7 @@ module _ (it : Stored) (contents : Contented) (f : Operation → Operation) (lis
     count = refl;
     lists = λ list lt. lists_same (λ i. map f (was i)) now (places_in it.placed list) (λ i h. each i (lists.within list i lt h)) ∙ each_mapped f was (places_in it.placed list);
     units = λ list lt. refl;
+    rows = λ list lt. refl;
     was = λ o h. (let r = in_map f (was h.place) o (subst (IsIn o) (each h.place h.within) h.member) in
         (r.0, record { place = h.place; within = h.within; member = r.1 }, r.2));
     is = λ p h. record { place = h.place; within = h.within; member = subst (IsIn (f p)) (sym (each h.place h.within)) (map_in f (was h.place) p h.member) };

@@ -8,6 +8,7 @@ use Rattle.yd_words.specs.Member.{IsIn}
 use Rattle.yd_chains.specs.Chain.{before, behind}
 use Rattle.yd_chains.proofs.ChainLemmas.{has_place, around}
 use Rattle.yd_ops.specs.Operation.{Operation}
+use Rattle.yd_origins.specs.Table.{Row}
 use Rattle.yd_scan.specs.declared.stretch.Stretch.{Stretch}
 use Rattle.yd_scan.specs.Stretches.{stretch_at}
 use Rattle.yd_index.proofs.LineLemmas.{lt_says}
@@ -21,13 +22,13 @@ use Rattle.yd_marks.proofs.MarkLemmas.{marks_are_units}
 use Rattle.yd_marks.proofs.TotalLemmas.{total_append, total_same}
 use Rattle.yd_store.specs.Contents.{Contented, told_of, run_at}
 use Rattle.yd_store.specs.Store.{Stored, IsRunOf, IsStore}
-use Rattle.yd_store.specs.Taking.{is_left, IsLeft, TakesBack, AreDead}
-use Rattle.yd_store.proofs.TakingLemmas.{left_passes, taken_len, other_run, this_run, other_told, this_told}
+use Rattle.yd_store.specs.Taking.{is_id_left, is_left, IsLeft, TakesBack, AreDead}
+use Rattle.yd_store.proofs.TakingLemmas.{id_passes, left_passes, taken_len, other_run, this_run, other_told, this_told}
 
 -- ---- one after another
 
 -- what passes the second test passes the first
-filter_both : (test wider : Operation → Bool) → ((o : Operation) → test o ≡ true → wider o ≡ true) → (os : List Operation) → filter test (filter wider os) ≡ filter test os
+filter_both : {X : Type 0} (test wider : X → Bool) → ((o : X) → test o ≡ true → wider o ≡ true) → (os : List X) → filter test (filter wider os) ≡ filter test os
 filter_both test wider widens [] = refl
 filter_both test wider widens (o ∷ os) = go (test o) (wider o) refl refl (filter_both test wider widens os)
   where
@@ -41,10 +42,10 @@ left_below : (client low high : ℕ) (id : Id) → low ≤ high → IsLeft clien
 left_below client low high id le (inl x) = inl x
 left_below client low high id le (inr x) = inr (omega (arith, x, le))
 
-left_says : (client clock : ℕ) (o : Operation) → is_left client clock o ≡ true → IsLeft client clock o.id
-left_says client clock o e = elim (eq_says o.id.client.0 client) [
+pub left_says : (client clock : ℕ) (id : Id) → is_id_left client clock id ≡ true → IsLeft client clock id
+left_says client clock id e = elim (eq_says id.client.0 client) [
   | inr x ↦ inl x.1
-  | inl x ↦ elim (lt_says o.id.clock clock) [
+  | inl x ↦ elim (lt_says id.clock clock) [
     | inl y ↦ inr y.1
     | inr y ↦ (let no : false ≡ true = rw (x.0, y.0) at e in absurd cc)
   ]
@@ -54,7 +55,10 @@ pub takes_both : (old mid new : Stored) (client high low : ℕ) → low ≤ high
 takes_both old mid new client high low le a b = record {
   count = b.count ∙ a.count;
   lists = λ list lt. b.lists list (omega (arith, lt, a.count)) ∙ ap (filter (is_left client low)) (a.lists list lt)
-      ∙ filter_both (is_left client low) (is_left client high) (λ o e. left_passes client high o (left_below client low high o.id le (left_says client low o e))) _;
+      ∙ filter_both (is_left client low) (is_left client high) (λ o e. left_passes client high o (left_below client low high o.id le (left_says client low o.id e))) _;
+  rows = λ list lt. b.rows list (omega (arith, lt, a.count)) ∙ ap (filter (λ (row : Row). is_id_left client low row.id)) (a.rows list lt)
+      ∙ filter_both (λ (row : Row). is_id_left client low row.id) (λ row. is_id_left client high row.id)
+      (λ row e. id_passes client high row.id (left_below client low high row.id le (left_says client low row.id e))) _;
   operations = λ o. (
     (λ h. (let r = (b.operations o).0 h in (((a.operations o).0 r.0).0, r.1))),
     (λ h. (b.operations o).1 ((a.operations o).1 (h.0, left_below client low high o.id le h.1), h.1)),
@@ -80,6 +84,7 @@ takes_marked old mid new span arena front back held marks placed contents t =
     record {
       count = same.count;
       lists = same.lists;
+      rows = same.rows;
       operations = λ o. (
         (λ h. (let r = (same.operations o).0 h in (record { place = r.0.place; within = r.0.within; member = r.0.member }, r.1))),
         (λ h. (same.operations o).1 (record { place = h.0.place; within = h.0.within; member = h.0.member }, h.1)),

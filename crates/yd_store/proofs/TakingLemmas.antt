@@ -12,41 +12,52 @@ use Rattle.yd_chains.proofs.ChainLemmas.{has_place, around}
 use Rattle.yd_ops.specs.Value.{RunValue}
 use Rattle.yd_ops.specs.Operation.{Operation}
 use Rattle.yd_scan.specs.declared.stretch.Stretch.{Stretch}
-use Rattle.yd_scan.specs.Stretches.{stretch_at, no_stretch}
+use Rattle.yd_origins.specs.Table.{Row}
+use Rattle.yd_origins.proofs.PartLemmas.{row_id_in}
+use Rattle.yd_scan.specs.Stretches.{stretch_at, no_stretch, units_from}
 use Rattle.yd_index.specs.Holding.{front_of}
 use Rattle.yd_index.proofs.LineLemmas.{lt_says}
 use Rattle.yd_index.proofs.LinesLemmas.{eq_says}
+use Rattle.yd_index.proofs.RowLemmas.{from_says}
 use Rattle.yd_arena.specs.Lists.{AreLists}
 use Rattle.yd_arena.specs.Arena.{IsArena, HasUnit, runs_of, count_of, places_in, next_clock, TakesLast}
+use Rattle.yd_arena.specs.Rows.{rows_of_run, rows_in}
 use Rattle.yd_arena.proofs.ArenaLemmas.{unit_below}
+use Rattle.yd_arena.proofs.RowLemmas.{ids-from}
 use Rattle.yd_marks.specs.Marks.{IsBorder, IsMarked}
 use Rattle.yd_marks.proofs.BorderLemmas.{one_run}
 use Rattle.yd_store.specs.Contents.{told_of, run_at}
 use Rattle.yd_store.specs.Store.{Stored, AreTold}
 use Rattle.yd_store.specs.Units.{operations_told, operations_at, operations_in, HasOperation}
-use Rattle.yd_store.specs.Taking.{is_left, IsLeft, TakesBack}
+use Rattle.yd_store.specs.Taking.{is_id_left, is_left, IsLeft, TakesBack}
 use Rattle.yd_store.proofs.LoweringLemmas.{told_among}
 
 -- ---- what is left, as a test
 
-pub left_passes : (client clock : ℕ) (o : Operation) → IsLeft client clock o.id → is_left client clock o ≡ true
-left_passes client clock o (inl ne) = elim (eq_says o.id.client.0 client) [ inl x ↦ absurd (ne x.1) | inr x ↦ rw x.0 refl ]
-left_passes client clock o (inr lt) = elim (eq_says o.id.client.0 client) [
+pub id_passes : (client clock : ℕ) (id : Id) → IsLeft client clock id → is_id_left client clock id ≡ true
+id_passes client clock id (inl ne) = elim (eq_says id.client.0 client) [ inl x ↦ absurd (ne x.1) | inr x ↦ rw x.0 refl ]
+id_passes client clock id (inr lt) = elim (eq_says id.client.0 client) [
   | inr x ↦ rw x.0 refl
-  | inl x ↦ elim (lt_says o.id.clock clock) [ inl y ↦ rw (x.0, y.0) refl | inr y ↦ absurd (omega (arith, lt, y.1)) ]
+  | inl x ↦ elim (lt_says id.clock clock) [ inl y ↦ rw (x.0, y.0) refl | inr y ↦ absurd (omega (arith, lt, y.1)) ]
 ]
+
+pub id_fails : (client clock : ℕ) (id : Id) → (IsLeft client clock id → ⊥) → is_id_left client clock id ≡ false
+id_fails client clock id out = elim (eq_says id.client.0 client) [
+  | inr x ↦ absurd (out (inl x.1))
+  | inl x ↦ elim (lt_says id.clock clock) [ inl y ↦ absurd (out (inr y.1)) | inr y ↦ rw (x.0, y.0) refl ]
+]
+
+pub left_passes : (client clock : ℕ) (o : Operation) → IsLeft client clock o.id → is_left client clock o ≡ true
+left_passes client clock o is_in = id_passes client clock o.id is_in
 
 pub left_fails : (client clock : ℕ) (o : Operation) → (IsLeft client clock o.id → ⊥) → is_left client clock o ≡ false
-left_fails client clock o out = elim (eq_says o.id.client.0 client) [
-  | inr x ↦ absurd (out (inl x.1))
-  | inl x ↦ elim (lt_says o.id.clock clock) [ inl y ↦ absurd (out (inr y.1)) | inr y ↦ rw (x.0, y.0) refl ]
-]
+left_fails client clock o out = id_fails client clock o.id out
 
-pub filter_none : (test : Operation → Bool) (os : List Operation) → ((o : Operation) → IsIn o os → test o ≡ false) → filter test os ≡ []
+pub filter_none : {X : Type 0} (test : X → Bool) (os : List X) → ((o : X) → IsIn o os → test o ≡ false) → filter test os ≡ []
 filter_none test [] fails = refl
 filter_none test (o ∷ os) fails = rw (fails o (inl refl)) (filter_none test os (λ p h. fails p (inr h)))
 
-pub filter_append : (test : Operation → Bool) (os ps : List Operation) → filter test (os ++ ps) ≡ filter test os ++ filter test ps
+pub filter_append : {X : Type 0} (test : X → Bool) (os ps : List X) → filter test (os ++ ps) ≡ filter test os ++ filter test ps
 filter_append test [] ps = refl
 filter_append test (o ∷ os) ps = go (test o) refl (filter_append test os ps)
   where
@@ -54,18 +65,28 @@ filter_append test (o ∷ os) ps = go (test o) refl (filter_append test os ps)
     go true e rest = rw e (ap (λ xs. o ∷ xs) rest)
     go false e rest = rw e rest
 
-filter_each : (test : Operation → Bool) (f g : ℕ → List Operation) (places : List ℕ) → ((i : ℕ) → IsIn i places → filter test (f i) ≡ g i) → filter test (flat_map f places) ≡ flat_map g places
+filter_each : {X : Type 0} (test : X → Bool) (f g : ℕ → List X) (places : List ℕ) → ((i : ℕ) → IsIn i places → filter test (f i) ≡ g i) → filter test (flat_map f places) ≡ flat_map g places
 filter_each test f g [] same = refl
 filter_each test f g (i ∷ is) same = filter_append test (f i) (flat_map f is) ∙ ap₂ (λ os ps. os ++ ps) (same i (inl refl)) (filter_each test f g is (λ j h. same j (inr h)))
 
 -- a place that has nothing can be left out
-without_one : (f : ℕ → List Operation) (p : ℕ) (xs : List ℕ) → IsIn p xs → f p ≡ [] → flat_map f (before p xs ++ behind (Some p) xs) ≡ flat_map f xs
+without_one : {X : Type 0} (f : ℕ → List X) (p : ℕ) (xs : List ℕ) → IsIn p xs → f p ≡ [] → flat_map f (before p xs ++ behind (Some p) xs) ≡ flat_map f xs
 without_one f p xs h none =
     let front = before p xs in
     let back = behind (Some p) xs in
     let less : flat_map f (p ∷ back) ≡ flat_map f back = ap (λ os. os ++ flat_map f back) none in
     let same : flat_map f front ++ flat_map f (p ∷ back) ≡ flat_map f front ++ flat_map f back = ap (λ os. flat_map f front ++ os) less in
     flat_map-append f front back ∙ sym same ∙ sym (flat_map-append f front (p ∷ back)) ∙ ap (flat_map f) (around p xs h)
+
+-- ---- rows
+
+-- the row of a run is that of one of its units
+row_unit : (runs : List Stretch) (i : ℕ) (row : Row) → i < length runs → IsIn row (rows_of_run (stretch_at runs i)) → HasUnit runs i (row.id.clock - (stretch_at runs i).id.clock) row.id
+row_unit runs i row lt h =
+    let run = stretch_at runs i in
+    let u : IsIn row.id (units_from run.id.client run.id.clock run.len) = subst (IsIn row.id) (ids-from run.id.client run.left run.right run.id.clock run.len) (row_id_in row (rows_of_run run) h) in
+    let s = from_says run.id.client run.len run.id.clock row.id u in
+    record { within = lt; inside = omega (arith, s.1, s.2); client = sym s.0; clock = omega (arith, s.1) }
 
 -- ---- where nothing is taken out
 
@@ -84,11 +105,16 @@ below_left it client id lt = elim (eq_says id.client.0 client) [ inl x ↦ inr (
 pub takes_nothing : (it : Stored) (client : ℕ) → IsArena it.placed.lines (runs_of it.placed) → AreTold (runs_of it.placed) (told_of it.contents) → AreLists it.placed.linked → TakesBack it it client (next_clock it.placed client)
 takes_nothing it client arena told lists =
     let now = operations_at (runs_of it.placed) (told_of it.contents) in
+    let rows_now : ℕ → List Row = λ i. rows_of_run (stretch_at (runs_of it.placed) i) in
+    let row_left : Row → Bool = λ row. is_id_left client (next_clock it.placed client) row.id in
     let left : (i : ℕ) (o : Operation) → i < length (runs_of it.placed) → IsIn o (now i) → IsLeft client (next_clock it.placed client) o.id = λ i o lt h. below_left it client o.id (at_below it i o arena told lt h) in
     record {
       count = refl;
       lists = λ list lt. sym (filter_each (is_left client (next_clock it.placed client)) now now (places_in it.placed list)
           (λ i h. filter-all (is_left client (next_clock it.placed client)) (now i) (λ o m. left_passes client (next_clock it.placed client) o (left i o (lists.within list i lt h) m))));
+      rows = λ list lt. sym (filter_each row_left rows_now rows_now (places_in it.placed list)
+          (λ i h. filter-all row_left (rows_now i) (λ row m. id_passes client (next_clock it.placed client) row.id (below_left it client row.id
+          (unit_below it.placed.lines (runs_of it.placed) arena.holds i _ row.id (row_unit (runs_of it.placed) i row (lists.within list i lt h) m))))));
       operations = λ o. ((λ h. (h, left h.place o h.within h.member)), (λ h. h.0));
       marks = λ id. ((λ m. (m, below_left it client id (unit_below it.placed.lines (runs_of it.placed) arena.holds m.place m.before id m.has))), (λ m. m.0));
       next = refl;
@@ -172,6 +198,31 @@ module _ (old new : Stored) (client place : ℕ) (arena : IsArena old.placed.lin
       ]
       ∙ sym (filter_each (is_left client first) was now xs (λ i h. kept_at i (lists.within list i lt h)))
 
+  -- the rows of a place, before and after
+  abbrev rows_was : ℕ → List Row
+  rows_was = λ i. rows_of_run (stretch_at were i)
+
+  abbrev rows_now : ℕ → List Row
+  rows_now = λ i. rows_of_run (stretch_at (runs_of new.placed) i)
+
+  abbrev row_left : Row → Bool
+  row_left = λ row. is_id_left client first row.id
+
+  rows_kept_at : (i : ℕ) → i < length were → filter row_left (rows_was i) ≡ rows_now i
+  rows_kept_at i lt = elim (eq_says i place) [
+    | inl y ↦ filter_none row_left (rows_was i) (λ row h. id_fails client first row.id ((unit_or i _ row.id (row_unit were i row lt h)).1 y.1)) ∙ sym (ap rows_now y.1 ∙ ap rows_of_run this_run)
+    | inr y ↦ filter-all row_left (rows_was i) (λ row h. id_passes client first row.id ((unit_or i _ row.id (row_unit were i row lt h)).0 y.1)) ∙ sym (ap rows_of_run (other_run i y.1))
+  ]
+
+  rows_left : (list : ℕ) → list < count_of old.placed → rows_in new.placed list ≡ filter row_left (rows_in old.placed list)
+  rows_left list lt =
+      let xs = places_in old.placed list in
+      elim (has_place place xs) [
+        | inl h ↦ ap (flat_map rows_now) (takes.lists.own list lt h) ∙ without_one rows_now place xs h (ap rows_of_run this_run)
+        | inr h ↦ ap (flat_map rows_now) (takes.lists.others list lt h)
+      ]
+      ∙ sym (filter_each row_left rows_was rows_now xs (λ i h. rows_kept_at i (lists.within list i lt h)))
+
   operations_back : (o : Operation) → HasOperation new o → HasOperation old o × IsLeft client first o.id
   operations_back o h = elim (eq_says h.place place) [
     | inl y ↦ absurd (subst (IsIn o) (ap now y.1 ∙ at_this) h.member)
@@ -233,6 +284,7 @@ module _ (old new : Stored) (client place : ℕ) (arena : IsArena old.placed.lin
   takes_back = record {
     count = takes.lists.count;
     lists = in_list;
+    rows = rows_left;
     operations = λ o. (operations_back o, operations_on o);
     marks = λ id. rw rows (marked_back id, marked_on id);
     next = takes.next;

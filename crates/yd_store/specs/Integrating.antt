@@ -3,6 +3,7 @@ use Rattle.std.specs.Prelude.{◌≡◌, ◌+◌, ◌<◌, ◌≤◌, ℕ, Optio
 use Rattle.yd_ids.specs.declared.id.Id.{Id}
 use Rattle.yd_ids.specs.Id.{IsClock}
 use Rattle.yd_ops.specs.Value.{RunValue, len_of}
+use Rattle.yd_arena.specs.Lists.{AreLists}
 use Rattle.yd_arena.specs.Arena.{Placed, runs_of, next_clock, HasUnit}
 use Rattle.yd_marks.specs.Marks.{IsBorder}
 use Rattle.yd_store.specs.Store.{Stored, StandsIn, AddsRun}
@@ -26,6 +27,7 @@ IsPlaceOf placed (Some id) (Some p) = (before : ℕ) × HasUnit (runs_of placed)
 pub record Integrates (old new : Stored) (list : ℕ) (run : RunValue) : Type 0 where
   pub parted : Stored
   pub kept : KeepsUnits old parted
+  pub lists : AreLists parted.placed.linked
   pub adds : AddsRun parted new list run
 
 -- a run can go into a list: it is not empty, its clocks are the next ones of its client, and its left origin stands in the list, if it has one

@@ -8,6 +8,7 @@ use Rattle.yd_ops.specs.Operation.{Operation, level_of, as_level}
 use Rattle.yd_scan.specs.declared.stretch.Stretch.{Stretch}
 use Rattle.yd_scan.specs.Stretches.{stretch_at}
 use Rattle.yd_arena.specs.Arena.{runs_of, count_of, units_in, next_clock}
+use Rattle.yd_arena.specs.Rows.{rows_in}
 use Rattle.yd_marks.specs.Marks.{BeginsIn, IsBorder}
 use Rattle.yd_store.specs.declared.level.Level.{Level}
 use Rattle.yd_store.specs.declared.level.Level.TheVariants.{Gone, Deleted}
@@ -49,11 +50,12 @@ is_in_span span id = nat_eq span.client.0 id.client.0 && (not (nat_lt id.clock s
 abbrev pub lowered_in : Span → ℕ → Operation → Operation
 lowered_in span level o = if is_in_span span o.id then lowered_to level o else o
 
--- each operation is told anew, at its place in its list; marks, counts and clocks are the old ones; and where no run was parted, none is
+-- each operation is told anew, at its place in its list; what the order sees, marks, counts and clocks are the old ones; and where no run was parted, none is
 pub record MapsUnits (old new : Stored) (told : Operation → Operation) : Type 0 where
   pub count : count_of new.placed ≡ count_of old.placed
   pub lists : (list : ℕ) → list < count_of old.placed → operations_in new list ≡ map told (operations_in old list)
   pub units : (list : ℕ) → list < count_of old.placed → units_in new.placed list ≡ units_in old.placed list
+  pub rows : (list : ℕ) → list < count_of old.placed → rows_in new.placed list ≡ rows_in old.placed list
   pub was : (o : Operation) → HasOperation new o → (p : Operation) × HasOperation old p × (o ≡ told p)
   pub is : (p : Operation) → HasOperation old p → HasOperation new (told p)
   pub marks : (id : Id) → HasMarked new id ↔ HasMarked old id

@@ -7,6 +7,7 @@ use Rattle.yd_ops.specs.Operation.{Operation, operations_of_run, gone_from}
 use Rattle.yd_scan.specs.declared.stretch.Stretch.{Stretch}
 use Rattle.yd_scan.specs.Stretches.{stretch_at, units_of}
 use Rattle.yd_arena.specs.Arena.{runs_of, count_of, places_in, units_in, next_clock}
+use Rattle.yd_arena.specs.Rows.{rows_in}
 use Rattle.yd_marks.specs.Marks.{IsMarked, IsBorder}
 use Rattle.yd_store.specs.Contents.{told_of, run_at}
 use Rattle.yd_store.specs.Store.{Stored}
@@ -34,12 +35,13 @@ pub record HasOperation (it : Stored) (o : Operation) : Type 0 where
 abbrev pub HasMarked : Stored → Id → Type 0
 HasMarked it id = IsMarked (runs_of it.placed) it.marks.rows id
 
--- each list has the operations that it had, in their order, and so has the whole store; each unit keeps its mark, and no clock is added;
--- and where no run was parted, none is
+-- each list has the operations that it had, in their order, with the rights that the order sees, and so has the whole store; each unit keeps its mark,
+-- and no clock is added; and where no run was parted, none is
 pub record KeepsUnits (old new : Stored) : Type 0 where
   pub count : count_of new.placed ≡ count_of old.placed
   pub lists : (list : ℕ) → list < count_of old.placed → operations_in new list ≡ operations_in old list
   pub units : (list : ℕ) → list < count_of old.placed → units_in new.placed list ≡ units_in old.placed list
+  pub rows : (list : ℕ) → list < count_of old.placed → rows_in new.placed list ≡ rows_in old.placed list
   pub operations : (o : Operation) → HasOperation new o ↔ HasOperation old o
   pub marks : (id : Id) → HasMarked new id ↔ HasMarked old id
   pub live : new.marks.live ≡ old.marks.live

@@ -108,7 +108,7 @@ impl Store {
     }
 
     /// That the index finds the runs, and no list has a place twice, as facts for callers.
-    pub(crate) fn is_sound(&self)
+    pub fn is_sound(&self)
         ensures arena { IsArena self.now.placed.lines (runs_of self.now.placed) }
         ensures lists { AreLists self.now.placed.linked }
         ensures told { AreTold (runs_of self.now.placed) (told_of self.now.contents) }

@@ -1,4 +1,4 @@
-use Rattle.yd_filling.proofs.CutLemmas.{rows_are_kept}
+use Rattle.yd_filling.proofs.KeepingLemmas.{rows_are_kept}
 use Rattle.yd_filling.proofs.placing.rows_are_kept.Goals as goal
 
 pub returns : goal.returns

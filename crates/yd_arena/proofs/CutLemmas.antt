@@ -11,9 +11,8 @@ use Rattle.yd_scan.specs.Stretches.{stretch_at}
 use Rattle.yd_index.specs.Holding.{front_of, rest_of, cut_stretches}
 use Rattle.yd_index.proofs.CuttingLemmas.{cut_front, cut_rest, cut_other}
 use Rattle.yd_arena.specs.Lists.{AreLists, list_at}
-use Rattle.yd_arena.specs.Arena.{Placed, runs_of, places_in, IsSame, CutsRun}
-use Rattle.yd_filling.specs.Rows.{rows_of_units, rows_of_run, rows_at}
-use Rattle.yd_filling.specs.Placing.{KeepsRows, RowsAreKept}
+use Rattle.yd_arena.specs.Arena.{Placed, runs_of, count_of, places_in, IsSame, CutsRun}
+use Rattle.yd_arena.specs.Rows.{rows_of_units, rows_of_run, rows_at, rows_in}
 
 -- ---- one run
 
@@ -63,37 +62,17 @@ module _ (runs : List Stretch) (i n : ℕ) (lt : i < length runs) where
         ap₂ (λ us vs. us ++ vs) (ap rows_of_run (cut_other runs i n lt x (within x (inl refl)) t.1)) (rows_kept some le xs (λ j m. within j (inr m)) d.1 (elim h [ inl e ↦ absurd (t.1 (sym e)) | inr m ↦ m ])))
   ]
 
--- ---- what keeps all rows
-
-cuts_keep_rows : (old new : Placed) (place n : ℕ) → AreLists old.linked → place < length (runs_of old) → 0 < n → n ≤ (stretch_at (runs_of old) place).len →
-    CutsRun old new place n → KeepsRows old new
-cuts_keep_rows = λ old new place n lists lt some le cuts. record {
-  count = cuts.lists.count;
-  rows = λ k kl. ap (λ runs. rows_at runs (places_in new k)) cuts.runs
-      ∙ elim (chain.has_place place (list_at old.linked k)) [
-        | inl h ↦ ap (rows_at (cut_stretches (runs_of old) place n)) (cuts.lists.own k kl h)
-            ∙ rows_kept (runs_of old) place n lt some le (list_at old.linked k) (λ j m. lists.within k j kl m) (lists.distinct k kl) h
-        | inr h ↦ ap (rows_at (cut_stretches (runs_of old) place n)) (cuts.lists.others k kl h)
-            ∙ others_kept (runs_of old) place n lt (list_at old.linked k) (λ j m. lists.within k j kl m) h
-      ];
-  nexts = cuts.nexts;
-}
-
-room_keeps_rows : (old new : Placed) → IsSame old new → KeepsRows old new
-room_keeps_rows old new same = record {
-  count = ap length same.lists;
-  rows = λ k kl. ap₂ rows_at same.runs (ap (λ ls. get_or ls k []) same.lists);
-  nexts = same.nexts;
-}
-
-rows_kept_twice : (old mid new : Placed) → KeepsRows old mid → KeepsRows mid new → KeepsRows old new
-rows_kept_twice old mid new a b = record {
-  count = b.count ∙ a.count;
-  rows = λ k kl. b.rows k (omega (arith, kl, a.count)) ∙ a.rows k kl;
-  nexts = λ client. b.nexts client ∙ a.nexts client;
-}
-
 -- ---- lemmas for callers
 
-pub rows_are_kept : RowsAreKept
-rows_are_kept = record { by_cuts = cuts_keep_rows; by_room = room_keeps_rows; twice = rows_kept_twice }
+pub cuts_keep_rows : (old new : Placed) (place n : ℕ) → AreLists old.linked → place < length (runs_of old) → 0 < n → n ≤ (stretch_at (runs_of old) place).len →
+    CutsRun old new place n → (k : ℕ) → k < count_of old → rows_in new k ≡ rows_in old k
+cuts_keep_rows = λ old new place n lists lt some le cuts k kl. (ap (λ runs. rows_at runs (places_in new k)) cuts.runs
+    ∙ elim (chain.has_place place (list_at old.linked k)) [
+      | inl h ↦ ap (rows_at (cut_stretches (runs_of old) place n)) (cuts.lists.own k kl h)
+          ∙ rows_kept (runs_of old) place n lt some le (list_at old.linked k) (λ j m. lists.within k j kl m) (lists.distinct k kl) h
+      | inr h ↦ ap (rows_at (cut_stretches (runs_of old) place n)) (cuts.lists.others k kl h)
+          ∙ others_kept (runs_of old) place n lt (list_at old.linked k) (λ j m. lists.within k j kl m) h
+    ])
+
+pub same_has_rows : (old new : Placed) → IsSame old new → (k : ℕ) → rows_in new k ≡ rows_in old k
+same_has_rows old new same k = ap₂ rows_at same.runs (ap (λ ls. get_or ls k []) same.lists)
