@@ -5,19 +5,16 @@ use Rattle.yd_words.specs.Member.{IsIn}
 use Rattle.yd_words.proofs.FilterLemmas.{filter-all, filter_alike}
 use Rattle.yd_words.proofs.TestLemmas.{same_or_other, test_fails}
 use Rattle.yd_ids.specs.declared.id.Id.{Id}
-use Rattle.yd_ops.specs.declared.lists.List.{List as DocList}
-use Rattle.yd_ops.specs.Operation.{Operation}
 use Rattle.yd_origins.specs.Table.{Row}
 use Rattle.yd_origins.proofs.PartLemmas.{row_id_in}
-use Rattle.yd_arena.specs.Arena.{Placed, runs_of, count_of, places_in, next_clock}
+use Rattle.yd_arena.specs.Arena.{Placed, runs_of, places_in, next_clock}
 use Rattle.yd_arena.specs.Rows.{rows_in}
 use Rattle.yd_arena.proofs.RowLemmas.{ids-rows}
 use Rattle.yd_store.specs.Store.{Stored}
 use Rattle.yd_store.specs.Taking.{is_id_left, IsLeft, TakesBack}
 use Rattle.yd_store.proofs.TakingLemmas.{id_passes}
 use Rattle.yd_store.proofs.TakenLemmas.{left_says}
-use Rattle.yd_filling.specs.Filling.{FillsLists}
-use Rattle.yd_filling.specs.Back.{is_below, HasGoneBack, GoesBack, GoingBackGoesOn}
+use Rattle.yd_filling.specs.Back.{is_below, HasGoneBack, GoingBackGoesOn}
 use Rattle.yd_filling.proofs.BackLemmas.{below_is, is_below-true}
 use Rattle.yd_filling.proofs.FillingLemmas.{slice_below}
 

@@ -1,5 +1,5 @@
 -- What keeps all rows of an arena.
-use Rattle.std.proofs.Common.{◌≡◌, ℕ, length, ap, ◌∙◌, arith}
+use Rattle.std.proofs.Common.{length, ap, ◌∙◌, arith}
 use Rattle.yd_arena.specs.Arena.{Placed, IsSame}
 use Rattle.yd_arena.proofs.CutLemmas.{cuts_keep_rows, same_has_rows}
 use Rattle.yd_filling.specs.Placing.{KeepsRows, RowsAreKept}
