@@ -45,7 +45,7 @@ in_names [] n x e = absurd cc
 in_names (y ∷ ys) zero x e = inl (sym (some_is y x e))
 in_names (y ∷ ys) (suc n) x e = inr (in_names ys n x e)
 
-still_named : (names : List DocList) (name : DocList) (n : ℕ) (x : DocList) → slice_get names n ≡ Some x → slice_get (names ++ name ∷ []) n ≡ Some x
+pub still_named : (names : List DocList) (name : DocList) (n : ℕ) (x : DocList) → slice_get names n ≡ Some x → slice_get (names ++ name ∷ []) n ≡ Some x
 still_named [] name n x e = absurd cc
 still_named (y ∷ ys) name zero x e = e
 still_named (y ∷ ys) name (suc n) x e = still_named ys name n x e

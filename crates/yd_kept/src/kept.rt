@@ -1,0 +1,80 @@
+//! The store with the names of its lists.
+
+ghost use Rattle.std.specs.Prelude.{◌≡◌, ◌≢◌, ◌<◌, [], ℕ, Some, slice_get, IfSome, IfNone};
+ghost use Rattle.yd_arena.specs.Lists.{AreLists};
+ghost use Rattle.yd_arena.specs.Arena.{IsArena, runs_of, count_of, next_clock};
+ghost use Rattle.yd_store.specs.Contents.{told_of};
+ghost use Rattle.yd_store.specs.Store.{AreTold};
+
+use std::alloc::Global;
+use std::marker::Model;
+use yd_names::Names;
+use yd_ops::List;
+use yd_store::Store;
+
+/// The runs that are held, in lists that have names.
+///
+/// Contracts see the store and the names, each under the number of its list.
+#[derive(Drop)]
+pub struct Kept {
+    pub(crate) store: Store,
+    pub(crate) names: Names,
+}
+
+impl Model for Kept {
+    ghost use Rattle.yd_kept.specs.Kept.{KeptValue, HaveNames};
+    ghost use Rattle.yd_any.specs.contracts.any_value.AnyList as any_list;
+    ghost use Rattle.yd_any.specs.contracts.json_value.Json as json;
+    ghost use Rattle.std.specs.Coded.{codes};
+
+    ghost Value = { KeptValue };
+
+    ghost coded = { Prim.hlevel (codes, json.the_row.coded, any_list.the_row.coded) };
+
+    ghost view = { λ it. record { store = it.store; names = it.names } };
+
+    ghost invariant = { λ it. HaveNames it.store it.names };
+}
+
+impl Kept {
+    /// No run, and no list. It takes no memory.
+    pub fn new(alloc: Global) -> Kept
+        ensures names { result.names ≡ [] }
+        ensures runs { runs_of result.store.placed ≡ [] }
+        ensures lists { count_of result.store.placed ≡ 0 }
+        ensures clocks { (client : ℕ) → next_clock result.store.placed client ≡ 0 }
+    {
+        Kept {
+            store: Store::new(alloc),
+            names: Names::new(alloc),
+        }
+    }
+
+    /// The store, and that it is sound.
+    pub fn store(&self) -> &Store
+        ensures value { result.now ≡ self.now.store }
+        ensures arena { IsArena self.now.store.placed.lines (runs_of self.now.store.placed) }
+        ensures lists { AreLists self.now.store.placed.linked }
+        ensures told { AreTold (runs_of self.now.store.placed) (told_of self.now.store.contents) }
+    {
+        self.store.is_sound();
+        &self.store
+    }
+
+    /// The names of the lists, by number.
+    pub fn names(&self) -> &[List]
+        ensures { result.now ≡ self.now.names }
+    {
+        self.names.as_slice()
+    }
+
+    /// The number of the list with a name, and none where there is no such list. It takes time with
+    /// the logarithm of how many lists there are.
+    pub fn number_of(&self, name: &List) -> Option<usize>
+        ensures there { IfSome result (λ n. slice_get self.now.names n ≡ Some name.now) }
+        ensures within { IfSome result (λ n. n < count_of self.now.store.placed) }
+        ensures none { IfNone result ((n : ℕ) → slice_get self.now.names n ≢ Some name.now) }
+    {
+        self.names.number_of(name)
+    }
+}
