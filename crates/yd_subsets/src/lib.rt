@@ -13,6 +13,6 @@ mod below;
 pub mod law;
 mod parting;
 
-pub use below::part_below;
+pub use below::{part_below, span_below};
 pub use parting::difference;
 pub use yd_ids::NoMemory;

@@ -54,6 +54,11 @@ step_of_group seen None x group = []
 step_of_group seen (Some name) x [] = []
 step_of_group seen (Some name) x (u ∷ us) = make name (unit_before x None (units_in seen name)) (content_of (contents_of (u ∷ us))) ∷ []
 
+-- how many ids are done with a group: those of the group, and where there is none the one
+abbrev pub taken_by : List Lent → ℕ
+taken_by [] = 1
+taken_by (u ∷ us) = length (u ∷ us)
+
 -- what is made of so many ids of a client in a row, of which some first are in a group already
 abbrev pub steps_from : Seen → Id → ℕ → ℕ → List Step
 steps_from seen x taken zero = []

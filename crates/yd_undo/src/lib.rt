@@ -13,8 +13,10 @@
 
 mod entry;
 pub mod law;
+mod remaking;
 mod stacks;
 
 pub use entry::Entry;
+pub use remaking::add_groups;
 pub use stacks::Undo;
 pub use yd_making::NoMemory;
