@@ -1,4 +1,5 @@
 pub mod FoundLemmas
 pub mod GroupLemmas
 pub mod KindLemmas
+pub mod LastLemmas
 pub mod RowLemmas

@@ -1,4 +1,5 @@
 pub mod Found
 pub mod Group
+pub mod Last
 pub mod Parts
 pub mod Rows

@@ -90,7 +90,7 @@ fn before_place(piece: &RunView<'_>, skipped: u64, before: Option<Id>) -> Option
 }
 
 /// Units of the content can be made again.
-fn can_make(content: &Content) -> bool
+pub(crate) fn can_make(content: &Content) -> bool
     ensures { result ≡ can_make (content_value content.now) }
 {
     match content {

@@ -12,5 +12,7 @@
 #![tactic(auto)]
 
 mod finding;
+mod last;
 
 pub use finding::{Group, group_at};
+pub use last::last_made;
