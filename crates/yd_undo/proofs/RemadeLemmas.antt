@@ -1,12 +1,11 @@
 -- What is made again of ids in a row, group by group.
-use Rattle.std.proofs.Common.{◌≡◌, ℕ, zero, suc, ◌+◌, ◌-◌, ◌<◌, ◌≤◌, ◌&&◌, not, Bool, true, false, List, [], ◌∷◌, ◌++◌, map, length, take, drop, Option, None, Some, inl, inr, refl, sym, ap, ◌∙◌, subst, arith, append_assoc, append-nil}
+use Rattle.std.proofs.Common.{◌≡◌, ℕ, zero, suc, ◌+◌, ◌-◌, ◌<◌, ◌≤◌, ◌&&◌, not, Bool, true, false, List, [], ◌∷◌, ◌++◌, map, length, drop, None, Some, inl, inr, refl, sym, ap, ◌∙◌, subst, arith, append_assoc}
 use Rattle.std.specs.Prelude.{if◌then◌else◌}
 use Rattle.std.proofs.lemmas.List.{length-append, length-map, length-take-le, length-drop, map-append}
 use Rattle.yd_words.specs.Each.{Each}
 use Rattle.yd_words.specs.Member.{IsIn}
 use Rattle.yd_words.proofs.MemberLemmas.{each_in}
 use Rattle.yd_ids.specs.declared.id.Id.{Id}
-use Rattle.yd_ids.specs.declared.id.Span.{Span}
 use Rattle.yd_ops.specs.declared.lists.List.{List as DocList}
 use Rattle.yd_ops.specs.Operation.{Operation, later_id, units_of_content}
 use Rattle.yd_ops.specs.declared.contents.Content.{Content}
@@ -19,7 +18,6 @@ use Rattle.yd_editing.specs.Step.{Step, make}
 use Rattle.yd_making.specs.declared.step.Step.{Step as StepGiven}
 use Rattle.yd_making.specs.declared.step.Step.TheVariants.{Make}
 use Rattle.yd_making.specs.Steps.{step_value, steps_value}
-use Rattle.yd_subsets.specs.Below.{span_below}
 use Rattle.yd_copying.specs.Content.{can_be_made, kind_of, content_of}
 use Rattle.yd_copying.specs.Piece.{IsPiece, piece_units, pieces_units}
 use Rattle.yd_copying.specs.declared.pieces.Piece.{Piece}
@@ -28,7 +26,7 @@ use Rattle.yd_remaking.specs.declared.finding.Group.{Group}
 use Rattle.yd_remaking.specs.Group.{goes_on, row_behind, units_from, group_from}
 use Rattle.yd_remaking.specs.Parts.{contents_of, IsFound}
 use Rattle.yd_remaking.specs.Rows.{unit_before, HoldValid}
-use Rattle.yd_undo.specs.Remade.{Seen, units_in, is_place, group_in, step_of_group, taken_by, steps_from, steps_of_groups}
+use Rattle.yd_undo.specs.Remade.{Seen, units_in, is_place, group_in, step_of_group, taken_by, steps_from}
 
 -- ---- validity
 
@@ -81,7 +79,7 @@ step_there : (seen : Seen) (name : DocList) (x : Id) (g : List Lent) → 0 < len
 step_there seen name x [] some = absurd (omega (arith, some))
 step_there seen name x (u ∷ us) some = refl
 
-some_found : (us : List Lent) (x : Id) (most : ℕ) (group : Group) → IsFound us x most group → 0 < length (group_from most (units_from x us))
+pub some_found : (us : List Lent) (x : Id) (most : ℕ) (group : Group) → IsFound us x most group → 0 < length (group_from most (units_from x us))
 some_found us x most group is = let n = some_units _ group.pieces.items is.some is.pieces in
     omega (arith, n, ap length is.units, length-map (group_from most (units_from x us)) (λ (u : Lent). u.content))
 
@@ -159,7 +157,3 @@ pub span_next : (seen : Seen) (x : Id) (len n : ℕ) (old new : List Step) → 0
 span_next seen x len n old new some e le is = ap (λ ss. ss ++ steps_from seen (later_id x n) 0 (len - n)) is
     ∙ append_assoc old (step_of_group seen (seen.list_of x) x (group_in seen (seen.list_of x) x len)) (steps_from seen (later_id x n) 0 (len - n))
     ∙ ap (λ ss. old ++ ss) (sym (row_next seen x len n (group_in seen (seen.list_of x) x len) refl some e le))
-
-pub span_ends : (seen : Seen) (x : Id) (len : ℕ) (all total : List Step) → len ≤ 0 → all ++ steps_from seen x 0 len ≡ total → all ≡ total
-span_ends seen x zero all total le e = sym (append-nil all) ∙ e
-span_ends seen x (suc len) all total le e = absurd (omega (arith, le))

@@ -4,13 +4,12 @@
 -- group begins, and it is as long as it can be. It is made as one run directly before its first unit. Of the ids in one list
 -- with a key the one that stands last of those that can be made is made, at the end of that list. What is not held or lost is left
 -- out, and so are types, units of which nothing is told, and units of an item that is no type.
-use Rattle.std.specs.Prelude.{ℕ, zero, suc, ◌-◌, Bool, true, ◌&&◌, not, List, [], ◌∷◌, ◌++◌, filter, length, Option, Some, None, if◌then◌else◌}
+use Rattle.std.specs.Prelude.{ℕ, zero, suc, ◌-◌, Bool, true, ◌&&◌, not, List, [], ◌∷◌, ◌++◌, length, Option, Some, None, if◌then◌else◌}
 use Rattle.yd_ids.specs.declared.id.Id.{Id}
 use Rattle.yd_ids.specs.declared.id.Span.{Span}
-use Rattle.yd_ids.specs.Ids.{is_same}
+use Rattle.yd_ids.specs.Ids.{is_same_neighbour}
 use Rattle.yd_ops.specs.declared.lists.List.{List as DocList}
 use Rattle.yd_ops.specs.Operation.{later_id}
-use Rattle.yd_meaning.specs.Held.{is_named}
 use Rattle.yd_meaning.specs.Names.{item_of_list, has_key}
 use Rattle.yd_state.specs.Lent.{Lent, lent_units, last_unit}
 use Rattle.yd_standing.specs.Standing.{list_where, stands_in}
@@ -20,8 +19,9 @@ use Rattle.yd_doc.specs.Editing.{own_basis}
 use Rattle.yd_doc.specs.Kept.{Kept, received_of}
 use Rattle.yd_remaking.specs.Rows.{unit_before}
 use Rattle.yd_subsets.specs.Below.{span_below}
-use Rattle.yd_copying.specs.Content.{can_be_made, content_of}
+use Rattle.yd_copying.specs.Content.{content_of}
 use Rattle.yd_remaking.specs.Group.{units_from, group_from}
+use Rattle.yd_remaking.specs.Last.{last_made}
 use Rattle.yd_remaking.specs.Parts.{contents_of}
 
 -- what an undo reads: what an edit reads, and the list that each unit is in
@@ -75,26 +75,20 @@ steps_of_groups seen (span ∷ spans) =
 
 -- ---- lists with a key
 
--- the unit that stands last
-abbrev pub last_lent : List Lent → Option Lent
-last_lent [] = None
-last_lent (u ∷ []) = Some u
-last_lent (u ∷ v ∷ us) = last_lent (v ∷ us)
+-- an id is made in a list with a key, where of the named units that can be made it stands last
+abbrev pub is_made_in : Seen → List Span → DocList → Id → Bool
+is_made_in seen deleted name x = has_key name && (is_place seen name && is_same_neighbour (Some x) (last_made deleted None (units_in seen name)))
 
--- the last of the units that are named and can be made
-abbrev pub last_made : List Span → List Lent → Option Lent
-last_made deleted us = last_lent (filter (λ u. is_named deleted u.id && can_be_made u.content) us)
-
--- it is made at the end of its list, where it is the one with the id
-abbrev pub step_at_end : DocList → Option Id → Id → Option Lent → List Step
-step_at_end name end x None = []
-step_at_end name end x (Some u) = if is_same u.id x then make name end (content_of (u.content ∷ [])) ∷ [] else []
+-- its unit is made at the end of the list
+abbrev pub step_at_end : DocList → Option Id → List Lent → List Step
+step_at_end name end [] = []
+step_at_end name end (u ∷ us) = make name end (content_of (contents_of (u ∷ us))) ∷ []
 
 -- what is made of an id in a list with a key
 abbrev pub step_of_key : Seen → List Span → Option DocList → Id → List Step
 step_of_key seen deleted None x = []
 step_of_key seen deleted (Some name) x =
-    if has_key name && is_place seen name then step_at_end name (last_unit seen.basis.document name) x (last_made deleted (units_in seen name)) else []
+    if is_made_in seen deleted name x then step_at_end name (last_unit seen.basis.document name) (group_from 1 (units_from x (units_in seen name))) else []
 
 -- of so many ids in a row
 abbrev pub key_steps_from : Seen → List Span → Id → ℕ → List Step

@@ -12,11 +12,13 @@
 #![tactic(auto)]
 
 mod entry;
+mod keys;
 pub mod law;
 mod remaking;
 mod stacks;
+mod steps;
 
 pub use entry::Entry;
-pub use remaking::add_groups;
 pub use stacks::Undo;
+pub use steps::undo_steps;
 pub use yd_making::NoMemory;

@@ -18,7 +18,7 @@ use yd_subsets::span_below;
 
 /// Adds the steps that make deleted ids in lists without a key again. It takes a look-up for each held
 /// id that is in no group, and for each group time as reading its list by pieces does up to its end.
-pub fn add_groups(
+pub(crate) fn add_groups(
     alloc: Global,
     replica: &Replica,
     deleted: &IdSet,
