@@ -26,7 +26,7 @@ use Rattle.yd_app.specs.Run.{TakesAllOf, Writes}
 use Rattle.yd_app.specs.Stopping.{Makes, MakesOf, MakesOn, StopsFor, StopsMaking, StopsOver}
 use Rattle.yd_app.specs.Words.{Asks, AsksFor}
 use Rattle.yd_ending.specs.declared.stop.Stop.{Stop}
-use Rattle.yd_ending.specs.declared.stop.Stop.TheVariants.{Usage, Refused, ReadFault, TooLarge, NoMemory, WriteFault}
+use Rattle.yd_ending.specs.declared.stop.Stop.TheVariants.{Usage, Refused, ReadFault, TooLarge, NoMemory, WriteFault, LinkFault, NoStep2}
 
 -- ---- what is made of inputs
 
@@ -54,6 +54,8 @@ asks_none Calm words told told_now reads (Err other) (Refused what) is asking = 
 asks_none Calm words told told_now reads (Err other) (ReadFault file) is asking = absurd asking
 asks_none Calm words told told_now reads (Err other) (TooLarge file) is asking = absurd asking
 asks_none Calm words told told_now reads (Err other) WriteFault is asking = absurd asking
+asks_none Calm words told told_now reads (Err other) LinkFault is asking = absurd asking
+asks_none Calm words told told_now reads (Err other) NoStep2 is asking = absurd asking
 
 -- files of which the command made nothing
 pub makes_stopped : (Calm : Type 0) (words : List (List ℕ)) (command : Command) (files : List File) (told told_now : Option Shelf) (reads : Count) (result : Result (Vec ℕ) Stop) (stop : Stop) → IsErr result × IsErrAnd result (λ s. s ≡ stop)
@@ -110,6 +112,8 @@ refused_made Calm words told told_now traffic reads writes taken now Usage same 
 refused_made Calm words told told_now traffic reads writes taken now (ReadFault file) same command files asks over = absurd over.2
 refused_made Calm words told told_now traffic reads writes taken now (TooLarge file) same command files asks over = absurd over.2
 refused_made Calm words told told_now traffic reads writes taken now WriteFault same command files asks over = absurd over.2
+refused_made Calm words told told_now traffic reads writes taken now LinkFault same command files asks over = absurd over.2
+refused_made Calm words told told_now traffic reads writes taken now NoStep2 same command files asks over = absurd over.2
 
 -- what stopped before anything was written
 unwritten : (Calm : Type 0) (words : List (List ℕ)) (told told_now : Option Shelf) (traffic : Option Traffic) (reads writes : Count) (taken now : Option (List ℕ)) (stop : Stop) → now ≡ taken
@@ -163,6 +167,8 @@ no_write_fault Calm words told told_now reads writes taken now (Err stop) e m d 
     by_stop WriteFault (inr (inr (inl asks))) same = no_fault asks.holds.0 asks.holds.1
     by_stop WriteFault (inr (inr (inr asks))) same = absurd asks.holds.2
     by_stop (Refused what) made same = omega (arith, same)
+    by_stop LinkFault made same = omega (arith, same)
+    by_stop NoStep2 made same = omega (arith, same)
     by_stop Usage made same = omega (arith, same)
     by_stop (ReadFault file) made same = omega (arith, same)
     by_stop NoMemory made same = omega (arith, same)

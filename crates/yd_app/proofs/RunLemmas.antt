@@ -18,7 +18,7 @@ use Rattle.yd_app.specs.Words.{AreOfNoForm, AsksFor}
 use Rattle.yd_ending.specs.Status.{IsOneOf}
 use Rattle.yd_ending.specs.Writing.{TakesAll, TakesFront, TakesPart}
 use Rattle.yd_ending.specs.declared.stop.Stop.{Stop}
-use Rattle.yd_ending.specs.declared.stop.Stop.TheVariants.{Usage, Refused, ReadFault, TooLarge, NoMemory, WriteFault}
+use Rattle.yd_ending.specs.declared.stop.Stop.TheVariants.{Usage, Refused, ReadFault, TooLarge, NoMemory, WriteFault, LinkFault, NoStep2}
 
 -- ---- endings that say what is due
 
@@ -36,6 +36,8 @@ as_due Calm words told told_now traffic reads writes taken now (Err (Refused wha
 as_due Calm words told told_now traffic reads writes taken now (Err Usage) h one = record { due = usage; is_due = h; status_is = refl; line_is = refl }
 as_due Calm words told told_now traffic reads writes taken now (Err (ReadFault file)) h one = absurd (omega (arith, one))
 as_due Calm words told told_now traffic reads writes taken now (Err WriteFault) h one = absurd (omega (arith, one))
+as_due Calm words told told_now traffic reads writes taken now (Err LinkFault) h one = absurd h
+as_due Calm words told told_now traffic reads writes taken now (Err NoStep2) h one = absurd h
 as_due Calm words told told_now traffic reads writes taken now (Err NoMemory) h one = absurd (omega (arith, one))
 as_due Calm words told told_now traffic reads writes taken now (Err (TooLarge file)) h one = record { due = over_limit file.name.now; is_due = h; status_is = refl; line_is = refl }
 
@@ -54,6 +56,8 @@ read_failed Calm words told told_now traffic reads writes taken now (Err (ReadFa
       (λ command files x. (x.0, x.1, ap read_fault_line x.2)) h.1,
 )
 read_failed Calm words told told_now traffic reads writes taken now (Err WriteFault) h n = absurd (omega (arith, n))
+read_failed Calm words told told_now traffic reads writes taken now (Err LinkFault) h n = absurd h
+read_failed Calm words told told_now traffic reads writes taken now (Err NoStep2) h n = absurd h
 read_failed Calm words told told_now traffic reads writes taken now (Err NoMemory) h n = absurd (omega (arith, n))
 read_failed Calm words told told_now traffic reads writes taken now (Err (TooLarge file)) h n = absurd (omega (arith, n))
 
@@ -65,6 +69,8 @@ write_failed Calm words told told_now traffic reads writes taken now (Err (Refus
 write_failed Calm words told told_now traffic reads writes taken now (Err Usage) h n = absurd (omega (arith, n))
 write_failed Calm words told told_now traffic reads writes taken now (Err (ReadFault file)) h n = absurd (omega (arith, n))
 write_failed Calm words told told_now traffic reads writes taken now (Err WriteFault) h n = (h.0, h.1, refl)
+write_failed Calm words told told_now traffic reads writes taken now (Err LinkFault) h n = absurd h
+write_failed Calm words told told_now traffic reads writes taken now (Err NoStep2) h n = absurd h
 write_failed Calm words told told_now traffic reads writes taken now (Err NoMemory) h n = absurd (omega (arith, n))
 write_failed Calm words told told_now traffic reads writes taken now (Err (TooLarge file)) h n = absurd (omega (arith, n))
 
@@ -76,18 +82,23 @@ memory_wanted Calm words told told_now traffic reads writes taken now (Err (Refu
 memory_wanted Calm words told told_now traffic reads writes taken now (Err Usage) h n = absurd (omega (arith, n))
 memory_wanted Calm words told told_now traffic reads writes taken now (Err (ReadFault file)) h n = absurd (omega (arith, n))
 memory_wanted Calm words told told_now traffic reads writes taken now (Err WriteFault) h n = absurd (omega (arith, n))
+memory_wanted Calm words told told_now traffic reads writes taken now (Err LinkFault) h n = absurd h
+memory_wanted Calm words told told_now traffic reads writes taken now (Err NoStep2) h n = absurd h
 memory_wanted Calm words told told_now traffic reads writes taken now (Err NoMemory) h n = (h, refl)
 memory_wanted Calm words told told_now traffic reads writes taken now (Err (TooLarge file)) h n = absurd (omega (arith, n))
 
 -- there is no other ending
-status_is_one : (e : Result (Unit {0}) Stop) → IsOneOf (status_of e) (0 ∷ 1 ∷ 2 ∷ 3 ∷ 4 ∷ 5 ∷ 7 ∷ [])
-status_is_one (Ok done) = inl refl
-status_is_one (Err (Refused what)) = inr (inl refl)
-status_is_one (Err Usage) = inr (inr (inl refl))
-status_is_one (Err (ReadFault file)) = inr (inr (inr (inl refl)))
-status_is_one (Err WriteFault) = inr (inr (inr (inr (inl refl))))
-status_is_one (Err NoMemory) = inr (inr (inr (inr (inr (inl refl)))))
-status_is_one (Err (TooLarge file)) = inr (inr (inr (inr (inr (inr (inl refl))))))
+status_is_one : (Calm : Type 0) (words : List (List ℕ)) (told told_now : Option Shelf) (traffic : Option Traffic) (reads writes : Count) (taken now : Option (List ℕ)) (e : Result (Unit {0}) Stop) → Ends Calm words told told_now traffic reads writes taken now e
+    → IsOneOf (status_of e) (0 ∷ 1 ∷ 2 ∷ 3 ∷ 4 ∷ 5 ∷ 7 ∷ [])
+status_is_one Calm words told told_now traffic reads writes taken now (Ok done) h = inl refl
+status_is_one Calm words told told_now traffic reads writes taken now (Err (Refused what)) h = inr (inl refl)
+status_is_one Calm words told told_now traffic reads writes taken now (Err Usage) h = inr (inr (inl refl))
+status_is_one Calm words told told_now traffic reads writes taken now (Err (ReadFault file)) h = inr (inr (inr (inl refl)))
+status_is_one Calm words told told_now traffic reads writes taken now (Err WriteFault) h = inr (inr (inr (inr (inl refl))))
+status_is_one Calm words told told_now traffic reads writes taken now (Err NoMemory) h = inr (inr (inr (inr (inr (inl refl)))))
+status_is_one Calm words told told_now traffic reads writes taken now (Err (TooLarge file)) h = inr (inr (inr (inr (inr (inr (inl refl))))))
+status_is_one Calm words told told_now traffic reads writes taken now (Err LinkFault) h = absurd h
+status_is_one Calm words told told_now traffic reads writes taken now (Err NoStep2) h = absurd h
 
 -- ---- which statuses can come where this is due
 
@@ -156,6 +167,8 @@ ends_no_form Calm words told told_now traffic reads writes taken now (Err (Refus
 ends_no_form Calm words told told_now traffic reads writes taken now (Err Usage) h never = inl refl
 ends_no_form Calm words told told_now traffic reads writes taken now (Err (ReadFault file)) h never = absurd (never h.1.command h.1.files h.1.asks)
 ends_no_form Calm words told told_now traffic reads writes taken now (Err WriteFault) h never = absurd (never h.1.1.command h.1.1.files h.1.1.asks)
+ends_no_form Calm words told told_now traffic reads writes taken now (Err LinkFault) h never = absurd h
+ends_no_form Calm words told told_now traffic reads writes taken now (Err NoStep2) h never = absurd h
 ends_no_form Calm words told told_now traffic reads writes taken now (Err NoMemory) h never = inr (inl refl)
 ends_no_form Calm words told told_now traffic reads writes taken now (Err (TooLarge file)) h never = absurd (never h.command h.files h.asks)
 
@@ -176,13 +189,15 @@ ends_told Calm words told told_now traffic reads writes taken now e h due is_tol
     by_ending (Err Usage) ends = same usage ends
     by_ending (Err (ReadFault other)) ends = three_comes words told traffic (λ command files. (file : File) × FailsAt Calm told told_now files file × (other.name.now ≡ file.name)) due is ends.1
     by_ending (Err WriteFault) ends = cut ends.1.0 ends.1.1
+    by_ending (Err LinkFault) ends = absurd ends
+    by_ending (Err NoStep2) ends = absurd ends
     by_ending (Err NoMemory) ends = five_comes due
     by_ending (Err (TooLarge file)) ends = same (over_limit file.name.now) ends
 
 ends_comes : (Calm : Type 0) (words : List (List ℕ)) (told told_now : Option Shelf) (traffic : Option Traffic) (reads writes : Count) (taken now : Option (List ℕ)) (e : Result (Unit {0}) Stop) → Ends Calm words told told_now traffic reads writes taken now e
     → Comes words told traffic (status_of e)
 ends_comes Calm words told told_now traffic reads writes taken now e h = record {
-  is_status = status_is_one e;
+  is_status = status_is_one Calm words told told_now traffic reads writes taken now e h;
   no_form = ends_no_form Calm words told told_now traffic reads writes taken now e h;
   where_told = ends_told Calm words told told_now traffic reads writes taken now e h;
 }
@@ -262,6 +277,8 @@ reported_cuts Calm words told told_now traffic reads writes taken now e status e
     by_ending (Err Usage) h n same = inl (same (inr (inl refl)))
     by_ending (Err (ReadFault file)) h n same = inl (same (inr (inr (inl refl))))
     by_ending (Err WriteFault) h n same = inr h.1
+    by_ending (Err LinkFault) h n same = absurd h
+    by_ending (Err NoStep2) h n same = absurd h
     by_ending (Err NoMemory) h n same = h
     by_ending (Err (TooLarge file)) h n same = inl (same (inr (inr (inr (inr (inl refl))))))
 
@@ -293,6 +310,8 @@ tells_err Calm words told told_now traffic reads writes taken now e status errs 
     by_ending (Err Usage) h n same = other 2 (Err Usage) refl (inr (inl refl)) h same
     by_ending (Err (ReadFault file)) h n same = other 3 (Err (ReadFault file)) refl (inr (inr (inl refl))) h same
     by_ending (Err WriteFault) h n same = other 4 (Err WriteFault) refl (inr (inr (inr (inl refl)))) h same
+    by_ending (Err LinkFault) h n same = absurd h
+    by_ending (Err NoStep2) h n same = absurd h
     by_ending (Err (TooLarge file)) h n same = other 7 (Err (TooLarge file)) refl (inr (inr (inr (inr (inl refl))))) h same
 
 -- what was written where the run is done
@@ -306,5 +325,7 @@ reported_writes Calm words told told_now traffic reads writes taken now e status
     by_ending (Err Usage) h same = absurd (omega (arith, same))
     by_ending (Err (ReadFault file)) h same = absurd (omega (arith, same))
     by_ending (Err WriteFault) h same = absurd (omega (arith, same))
+    by_ending (Err LinkFault) h same = absurd h
+    by_ending (Err NoStep2) h same = absurd h
     by_ending (Err NoMemory) h same = absurd (omega (arith, same))
     by_ending (Err (TooLarge file)) h same = absurd (omega (arith, same))

@@ -4,7 +4,7 @@ use Rattle.yd_words.specs.Each.{Each}
 use Rattle.yd_files.specs.Files.{File, IsNamed, file_word}
 use Rattle.yd_app.specs.Words.{AreOfNoForm}
 use Rattle.yd_ending.specs.declared.stop.Stop.{Stop}
-use Rattle.yd_ending.specs.declared.stop.Stop.TheVariants.{Usage, Refused, ReadFault, TooLarge, NoMemory, WriteFault}
+use Rattle.yd_ending.specs.declared.stop.Stop.TheVariants.{Usage, Refused, ReadFault, TooLarge, NoMemory, WriteFault, LinkFault, NoStep2}
 
 -- no files have these words
 abbrev pub NameNoFiles : List (List ℕ) → Type 0
@@ -18,6 +18,8 @@ IsUsage Said (Refused what) = ⊥
 IsUsage Said (ReadFault file) = ⊥
 IsUsage Said (TooLarge file) = ⊥
 IsUsage Said WriteFault = ⊥
+IsUsage Said LinkFault = ⊥
+IsUsage Said NoStep2 = ⊥
 
 -- the words are of no form, or memory is wanted
 abbrev pub StopsAsking : List (List ℕ) → Stop → Type 0

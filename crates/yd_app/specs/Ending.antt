@@ -4,7 +4,7 @@ use Rattle.yd_world.specs.Shelf.{Shelf}
 use Rattle.yd_world.specs.Traffic.{Traffic}
 use Rattle.yd_ending.specs.Lines.{refusal_line}
 use Rattle.yd_ending.specs.declared.stop.Stop.{Stop}
-use Rattle.yd_ending.specs.declared.stop.Stop.TheVariants.{Usage, Refused, ReadFault, TooLarge, NoMemory, WriteFault}
+use Rattle.yd_ending.specs.declared.stop.Stop.TheVariants.{Usage, Refused, ReadFault, TooLarge, NoMemory, WriteFault, LinkFault, NoStep2}
 use Rattle.yd_files.specs.Counts.{Count, RoseIn}
 use Rattle.yd_files.specs.Files.{File}
 use Rattle.yd_files.specs.Reading.{FailsAt}
@@ -21,4 +21,6 @@ Ends Calm words told told_now traffic reads writes taken now (Err (ReadFault oth
     RoseIn reads × AsksFor words (λ command files. (file : File) × FailsAt Calm told told_now files file × (other.name.now ≡ file.name))
 Ends Calm words told told_now traffic reads writes taken now (Err (TooLarge file)) = IsDue words told traffic (over_limit file.name.now)
 Ends Calm words told told_now traffic reads writes taken now (Err WriteFault) = RoseIn writes × WritesPart words told traffic taken now
+Ends Calm words told told_now traffic reads writes taken now (Err LinkFault) = ⊥
+Ends Calm words told told_now traffic reads writes taken now (Err NoStep2) = ⊥
 Ends Calm words told told_now traffic reads writes taken now (Err NoMemory) = (now ≡ taken) ⊎ WritesPart words told traffic taken now

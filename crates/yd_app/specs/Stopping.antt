@@ -13,7 +13,7 @@ use Rattle.yd_app.specs.Command.{Command}
 use Rattle.yd_app.specs.Output.{IsMadeOf, IsRefusalOf}
 use Rattle.yd_app.specs.Words.{AreOfNoForm, Asks, AsksFor}
 use Rattle.yd_ending.specs.declared.stop.Stop.{Stop}
-use Rattle.yd_ending.specs.declared.stop.Stop.TheVariants.{Usage, Refused, ReadFault, TooLarge, NoMemory, WriteFault}
+use Rattle.yd_ending.specs.declared.stop.Stop.TheVariants.{Usage, Refused, ReadFault, TooLarge, NoMemory, WriteFault, LinkFault, NoStep2}
 
 -- the bytes are what the command makes of what the files stand for
 abbrev pub MakesOf : Command → List File → Option Shelf → List ℕ → Type 0
@@ -31,6 +31,8 @@ StopsMaking command inputs Usage = ⊥
 StopsMaking command inputs (ReadFault file) = ⊥
 StopsMaking command inputs (TooLarge file) = ⊥
 StopsMaking command inputs WriteFault = ⊥
+StopsMaking command inputs LinkFault = ⊥
+StopsMaking command inputs NoStep2 = ⊥
 
 -- so it is of what the files stand for
 abbrev pub StopsOver : Command → List File → Option Shelf → Stop → Type 0

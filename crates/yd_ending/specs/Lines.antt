@@ -3,10 +3,11 @@ use Rattle.std.specs.Prelude.{ℕ, List, ◌++◌, codes}
 use Rattle.yd_parts.specs.Fault.{Fault}
 use Rattle.yd_files.specs.Files.{File, file_word}
 use Rattle.yd_files.specs.Seen.{file_of}
+use Rattle.yd_ending.specs.Message.{refused_message_line}
 use Rattle.yd_ending.specs.Script.{refused_script_line}
 use Rattle.yd_ending.specs.Reason.{fault_text}
 use Rattle.yd_ending.specs.declared.refusal.Refusal.{Refusal}
-use Rattle.yd_ending.specs.declared.refusal.Refusal.TheVariants.{OfFile, OfLine}
+use Rattle.yd_ending.specs.declared.refusal.Refusal.TheVariants.{OfFile, OfLine, OfMessage}
 
 -- how the program is used
 abbrev pub usage_line : List ℕ
@@ -20,6 +21,7 @@ refused_line file fault = codes "refused " ++ file_word file ++ codes " " ++ fau
 abbrev pub refusal_line : Refusal → List ℕ
 refusal_line (OfFile file cause spot) = refused_line (file_of file) (record { cause = cause; spot = spot })
 refusal_line (OfLine script number cause) = refused_script_line script.now number cause
+refusal_line (OfMessage number fault) = refused_message_line number fault
 
 -- the library failed at the name
 abbrev pub read_fault_line : List ℕ → List ℕ

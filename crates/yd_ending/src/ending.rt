@@ -63,6 +63,8 @@ fn tell_stop<S: Sink>(stop: Stop<'_>, err: &mut S) -> Result<(), Outage>
         Stop::TooLarge(file) => write_line(err, "limit ", file.name, " TooLarge\n"),
         Stop::NoMemory => write_line(err, "no memory", "", "\n"),
         Stop::WriteFault => write_line(err, "write fault", "", "\n"),
+        Stop::LinkFault => write_line(err, "link fault", "", "\n"),
+        Stop::NoStep2 => write_line(err, "no step 2", "", "\n"),
     }
 }
 
@@ -76,6 +78,8 @@ fn status_of_ending(ending: Result<(), Stop<'_>>) -> u8
         Err(Stop::ReadFault(_)) => status::READ_FAULT,
         Err(Stop::WriteFault) => status::WRITE_FAULT,
         Err(Stop::NoMemory) => status::NO_MEMORY,
+        Err(Stop::LinkFault) => status::LINK_FAULT,
         Err(Stop::TooLarge(_)) => status::TOO_LARGE,
+        Err(Stop::NoStep2) => status::NO_STEP_2,
     }
 }

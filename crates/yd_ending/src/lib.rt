@@ -12,6 +12,7 @@
 
 mod delivery;
 mod ending;
+mod message;
 mod refusal;
 mod script;
 mod status;

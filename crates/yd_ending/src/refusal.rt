@@ -1,17 +1,19 @@
 //! What is refused, and why: the line on err of each kind.
 
-ghost use Rattle.std.specs.Prelude.{◌≡◌, OnErr, OnOk};
+ghost use Rattle.std.specs.Prelude.{◌≡◌, ◌++◌, OnErr, OnOk, codes};
 ghost use Rattle.yd_files.specs.Seen.{file_of as seen};
-ghost use Rattle.yd_ending.specs.Reason.{cause_name, column_prefix};
+ghost use Rattle.yd_ending.specs.Reason.{cause_name, column_prefix, fault_text};
 ghost use Rattle.yd_ending.specs.Lines.{refusal_line, refused_line};
 ghost use Rattle.yd_ending.specs.Writing.{TakesAll, TakesPart, CountsFault};
 
+use crate::message::tell_message;
 use crate::script::tell_line;
 use crate::writing::write_line;
 use itoa::Buffer;
 use yd_files::{File, prefix};
 use yd_parts::{Cause, Column, Spot};
 use yd_playing::LineCause;
+use yd_sync::MessageFault;
 use yd_world::{Outage, Sink};
 
 /// What is refused, and why.
@@ -29,6 +31,8 @@ pub enum Refusal<'a> {
         number: u64,
         cause: LineCause,
     },
+    /// The message that came with this number, counted from 1, is none.
+    OfMessage { number: u64, fault: MessageFault },
 }
 
 /// Writes the line of what is refused. After an error a part of it was written.
@@ -46,6 +50,7 @@ pub fn tell_refusal<S: Sink>(err: &mut S, refusal: Refusal<'_>) -> Result<(), Ou
             number,
             cause,
         } => tell_line(err, script, number, cause),
+        Refusal::OfMessage { number, fault } => tell_message(err, number, fault),
     }
 }
 
@@ -57,9 +62,21 @@ fn tell_file<S: Sink>(err: &mut S, file: File<'_>, cause: Cause, spot: Spot) -> 
         (refused_line (seen file.entry) (record { cause = cause; spot = spot }))) }
     ensures cause { CountsFault (S.faults err.old) (S.faults err.new) result }
 {
-    let mut digits = Buffer::new();
     write_line(err, "refused ", prefix(file.kind), file.name)?;
-    write_line(err, " ", name_of_cause(cause), " ")?;
+    write_line(err, " ", "", "")?;
+    tell_fault(err, cause, spot)
+}
+
+/// Writes a cause and its place, and a line feed.
+pub fn tell_fault<S: Sink>(err: &mut S, cause: Cause, spot: Spot) -> Result<(), Outage>
+    ensures whole { OnOk result (TakesAll (S.bytes_taken err.old) (S.bytes_taken err.new)
+        (fault_text (record { cause = cause; spot = spot }) ++ codes "\n")) }
+    ensures part { OnErr result (TakesPart (S.bytes_taken err.old) (S.bytes_taken err.new)
+        (fault_text (record { cause = cause; spot = spot }) ++ codes "\n")) }
+    ensures cause { CountsFault (S.faults err.old) (S.faults err.new) result }
+{
+    let mut digits = Buffer::new();
+    write_line(err, name_of_cause(cause), " ", "")?;
     write_line(
         err,
         prefix_of_column(spot.column),

@@ -66,8 +66,8 @@ fn tell_edit<S: Sink>(err: &mut S, fault: EditFault) -> Result<(), Outage>
     }
 }
 
-// Writes a name and a number, and a line feed.
-fn tell_number<S: Sink>(err: &mut S, name: &str, number: u64) -> Result<(), Outage>
+/// Writes a name and a number, and a line feed.
+pub fn tell_number<S: Sink>(err: &mut S, name: &str, number: u64) -> Result<(), Outage>
     ensures whole { OnOk result (TakesAll (S.bytes_taken err.old) (S.bytes_taken err.new)
         (with_number name.now number ++ codes "\n")) }
     ensures part { OnErr result (TakesPart (S.bytes_taken err.old) (S.bytes_taken err.new)

@@ -18,5 +18,11 @@ pub const WRITE_FAULT: u8 = 4;
 /// Memory is wanted.
 pub const NO_MEMORY: u8 = 5;
 
+/// The network failed.
+pub const LINK_FAULT: u8 = 6;
+
 /// A file has too many bytes.
 pub const TOO_LARGE: u8 = 7;
+
+/// No step 2 came.
+pub const NO_STEP_2: u8 = 8;

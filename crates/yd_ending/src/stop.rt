@@ -24,6 +24,10 @@ pub enum Stop<'a> {
     NoMemory,
     /// The output could not be written.
     WriteFault,
+    /// The network did not start, or told of no event.
+    LinkFault,
+    /// No step 2 came.
+    NoStep2,
 }
 
 impl<'a, T: Drop> From<AllocFailed<T>> for Stop<'a> {
