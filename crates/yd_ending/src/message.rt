@@ -12,11 +12,7 @@ use yd_sync::MessageFault;
 use yd_world::{Outage, Sink};
 
 /// Writes that the message that came with this number is refused.
-pub fn tell_message<S: Sink>(
-    err: &mut S,
-    number: u64,
-    fault: MessageFault,
-) -> Result<(), Outage>
+pub fn tell_message<S: Sink>(err: &mut S, number: u64, fault: MessageFault) -> Result<(), Outage>
     ensures whole { OnOk result (TakesAll (S.bytes_taken err.old) (S.bytes_taken err.new)
         (refused_message_line number fault)) }
     ensures part { OnErr result (TakesPart (S.bytes_taken err.old) (S.bytes_taken err.new)

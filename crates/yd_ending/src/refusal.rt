@@ -32,7 +32,10 @@ pub enum Refusal<'a> {
         cause: LineCause,
     },
     /// The message that came with this number, counted from 1, is none.
-    OfMessage { number: u64, fault: MessageFault },
+    OfMessage {
+        number: u64,
+        fault: MessageFault,
+    },
 }
 
 /// Writes the line of what is refused. After an error a part of it was written.

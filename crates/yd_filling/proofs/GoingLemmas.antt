@@ -52,10 +52,13 @@ module _ (mid new : Stored) (client clock : ℕ) (le : clock ≤ next_clock mid.
   was_below : (x : Id) → x.clock < next_clock new.placed x.client.0 → (x.clock < next_clock mid.placed x.client.0) × IsLeft client clock x
   was_below x low = elim (new_clock x.client.0) [
     | inl h ↦ (omega (arith, low, h.1, le, ap (next_clock mid.placed) h.0), inr (omega (arith, low, h.1)))
-    | inr e ↦ (omega (arith, low, e), elim (same_or_other x.client.0 client) [
-      | inl s ↦ inr (omega (arith, low, ap (next_clock new.placed) s, takes.next))
-      | inr ne ↦ inl ne
-    ])
+    | inr e ↦ (
+      omega (arith, low, e),
+      elim (same_or_other x.client.0 client) [
+        | inl s ↦ inr (omega (arith, low, ap (next_clock new.placed) s, takes.next))
+        | inr ne ↦ inl ne
+      ],
+    )
   ]
 
   test_is : (x : Id) → is_below mid.placed x && is_id_left client clock x ≡ is_below new.placed x
@@ -78,7 +81,7 @@ going_back_goes_on = record {
     count = refl;
     rows = λ n lt. let (name, e) = slice_below names n (omega (arith, lt, fills.count)) in
         sym (filter-all (λ (row : Row). is_below placed row.id) (rows_in placed n) (λ row i. is_below-true placed row.id (((fills.rows n name e).each row.id).0
-            (subst (IsIn row.id) (ids-rows (runs_of placed) (places_in placed n)) (row_id_in row (rows_in placed n) i))).1));
+        (subst (IsIn row.id) (ids-rows (runs_of placed) (places_in placed n)) (row_id_in row (rows_in placed n) i))).1));
   };
   on = λ from mid new client clock gone le takes. taken_on mid new client clock le takes from gone;
   end = λ start mid back gone nexts. record {

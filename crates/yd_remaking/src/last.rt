@@ -35,7 +35,7 @@ fn last_in(piece: &RunView<'_>, named: &IdSet, before: Option<Id>) -> Option<Id>
 
 /// The last of so many ids in a row that is in a set, and where there is none, what was before.
 fn last_named(named: &IdSet, first: Id, len: u64, before: Option<Id>) -> Option<Id>
-    requires { IsSpan (record { client = first.client; clock = first.clock; len = len; }) }
+    requires { IsSpan (record { client = first.client; clock = first.clock; len = len }) }
     ensures { result ≡ last_named named.now before first len }
 {
     let mut at = first;

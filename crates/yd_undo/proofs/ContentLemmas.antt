@@ -45,9 +45,10 @@ pair_before u v us e w = go (is_high u) refl (is_low v) refl e
     go : (h : Bool) → is_high u ≡ h → (l : Bool) → is_low v ≡ l → (h && l) ≡ true → WholeAfter 0 (u ∷ v ∷ us)
     go true f true g d =
         let high : IsHigh u = (high_unit (text_unit u)).0 f in
-        let low : IsLow v = (low_unit (text_unit v)).0 g in
-        (((λ k. absurd (omega (arith, k.0))), (λ k. absurd (omega (arith, k.0, high.1)))),
-        (((λ k. low), (λ k. high)), quiet_after v us (λ k. omega (arith, k.1, low.0)) w))
+        let low : IsLow v = (low_unit (text_unit v)).0 g in (
+          ((λ k. absurd (omega (arith, k.0))), (λ k. absurd (omega (arith, k.0, high.1)))),
+          (((λ k. low), (λ k. high)), quiet_after v us (λ k. omega (arith, k.1, low.0)) w),
+        )
     go true f false g d = absurd (true≢false (sym d))
     go false f l g d = absurd (true≢false (sym d))
 

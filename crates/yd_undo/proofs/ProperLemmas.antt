@@ -142,9 +142,11 @@ parent_in_range seen is name e = go name.parent e
 -- the content of a group can be made
 group_made : (u : Lent) (us : List Lent) (most : ℕ) → can_be_made u.content ≡ true → HoldValid (u ∷ us) →
     CanMake (content_of (contents_of (u ∷ row_behind (kind_of u.content) (later_id u.id 1) (most - 1) us)))
-group_made u us most made valid = content_made u.content (contents_of (row_behind (kind_of u.content) (later_id u.id 1) (most - 1) us)) made
-    (valid.0, contents_valid (row_behind (kind_of u.content) (later_id u.id 1) (most - 1) us)
-    (row_each (λ (v : Lent). IsValidUnitContent v.content) (kind_of u.content) (later_id u.id 1) (most - 1) us valid.1))
+group_made u us most made valid = content_made u.content (contents_of (row_behind (kind_of u.content) (later_id u.id 1) (most - 1) us)) made (
+  valid.0,
+  contents_valid (row_behind (kind_of u.content) (later_id u.id 1) (most - 1) us)
+      (row_each (λ (v : Lent). IsValidUnitContent v.content) (kind_of u.content) (later_id u.id 1) (most - 1) us valid.1),
+)
 
 is_proper : (name : DocList) (after : Option Id) (us : List UnitContent) → CanMake (content_of us) → IsParent name.parent → IfSome after IsId → IsProper (make name after (content_of us))
 is_proper name after us can parent place = (can.valid, can.some, can.makeable, parent, place)
@@ -156,8 +158,11 @@ group_step seen name x most (u ∷ us) valid parent place = go (can_be_made u.co
   where
     go : (t : Bool) → can_be_made u.content ≡ t →
         Each IsProper (step_of_group seen (Some name) x (if t then u ∷ row_behind (kind_of u.content) (later_id u.id 1) (most - 1) us else []))
-    go true e = (is_proper name (unit_before x None (units_in seen name)) (contents_of (u ∷ row_behind (kind_of u.content) (later_id u.id 1) (most - 1) us))
-        (group_made u us most e valid) parent place, tt)
+    go true e = (
+      is_proper name (unit_before x None (units_in seen name)) (contents_of (u ∷ row_behind (kind_of u.content) (later_id u.id 1) (most - 1) us))
+          (group_made u us most e valid) parent place,
+      tt,
+    )
     go false e = tt
 
 end_step : (name : DocList) (end : Option Id) (us : List Lent) → HoldValid us → IsParent name.parent → IfSome end IsId → Each IsProper (step_at_end name end (group_from 1 us))

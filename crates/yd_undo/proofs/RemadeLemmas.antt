@@ -43,8 +43,14 @@ hold_valid document name received valid among = go (document.units name) among
 
 pub some_units : (kind : ℕ) (ps : List Piece) → 0 < length ps → Each (IsPiece kind) ps → 0 < length (pieces_units ps)
 some_units kind [] some each = absurd (omega (arith, some))
-some_units kind (p ∷ ps) some each = omega (arith, each.0.some, each.0.within, length-append (piece_units p) (pieces_units ps), length-take-le p.len (drop p.offset (units_of_content (content_value p.content.now)))
-    (omega (arith, each.0.within, length-units_of_content (content_value p.content.now), length-drop p.offset (units_of_content (content_value p.content.now)))))
+some_units kind (p ∷ ps) some each = omega (
+  arith,
+  each.0.some,
+  each.0.within,
+  length-append (piece_units p) (pieces_units ps),
+  length-take-le p.len (drop p.offset (units_of_content (content_value p.content.now)))
+      (omega (arith, each.0.within, length-units_of_content (content_value p.content.now), length-drop p.offset (units_of_content (content_value p.content.now)))),
+)
 
 row_bound : (k : ℕ) (x : Id) (most : ℕ) (us : List Lent) → length (row_behind k x most us) ≤ most
 row_bound k x zero us = omega arith

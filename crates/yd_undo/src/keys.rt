@@ -46,7 +46,7 @@ fn add_span(
     requires { IsSpan span }
     ensures { OnOk result (steps_value steps.new ≡ steps_value steps.old
         ++ key_steps_from (seen_of replica.now) deleted.now
-        (record { client = span.client; clock = span.clock; }) span.len) }
+        (record { client = span.client; clock = span.clock }) span.len) }
 {
     let mut at = Id {
         client: span.client,
@@ -119,9 +119,7 @@ fn add_key_in(
 fn is_made(replica: &Replica, deleted: &IdSet, list: &List, id: Id) -> bool
     ensures { result ≡ is_made_in (seen_of replica.now) deleted.now list.now id }
 {
-    has_key(list)
-        && is_place(replica, list)
-        && is_unit(last_made(replica.list(list), deleted), id)
+    has_key(list) && is_place(replica, list) && is_unit(last_made(replica.list(list), deleted), id)
 }
 
 /// It is this unit.

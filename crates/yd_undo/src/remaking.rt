@@ -43,7 +43,7 @@ fn add_span(
 ) -> Result<(), NoMemory>
     requires { IsSpan span }
     ensures { OnOk result (steps_value steps.new ≡ steps_value steps.old
-        ++ steps_from (seen_of replica.now) (record { client = span.client; clock = span.clock; }) 0
+        ++ steps_from (seen_of replica.now) (record { client = span.client; clock = span.clock }) 0
         span.len) }
 {
     let mut at = Id {

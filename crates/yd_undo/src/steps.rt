@@ -16,11 +16,7 @@ use yd_making::NoMemory;
 use yd_subsets::{difference, part_below};
 
 /// The steps that undo an entry on a replica.
-pub fn undo_steps(
-    alloc: Global,
-    replica: &Replica,
-    entry: &Entry,
-) -> Result<StepList, NoMemory>
+pub fn undo_steps(alloc: Global, replica: &Replica, entry: &Entry) -> Result<StepList, NoMemory>
     ensures { IfOk result (λ steps.
         steps_value steps ≡ undo_steps (seen_of replica.now) entry.now) }
 {
