@@ -11,9 +11,11 @@
 //! ```
 #![tactic(auto)]
 
+mod last;
 pub mod law;
 mod lent;
 mod walking;
 
+pub use last::last_run;
 pub use lent::LentRun;
 pub use walking::{walk, ListWalk};
