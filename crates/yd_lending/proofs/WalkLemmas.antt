@@ -83,7 +83,7 @@ pub told_len : (it : Stored) (place : ℕ) (run : RunValue) (len : ℕ) → AreT
     Some run ≡ run_at (told_of it.contents) place → len ≡ len_of run.content → len ≡ (stretch_at (runs_of it.placed) place).len
 told_len it place run len told within e f =
     let of : IsRunOf (stretch_at (runs_of it.placed) place) run =
-        subst (λ z. IfSome z (λ r. IsRunOf (stretch_at (runs_of it.placed) place) r)) (sym e) (told.fits place within) in
+    subst (λ z. IfSome z (λ r. IsRunOf (stretch_at (runs_of it.placed) place) r)) (sym e) (told.fits place within) in
     f ∙ of.len_is
 
 -- ---- a walk

@@ -6,7 +6,7 @@ ghost use Rattle.yd_ops.specs.View.{content_value};
 ghost use Rattle.yd_arena.specs.Arena.{count_of};
 ghost use Rattle.yd_lending.specs.Lending.{Lent, HasNoGone, units_of_run, lent_in};
 
-use crate::lent::{lent_run, LentRun};
+use crate::lent::{LentRun, lent_run};
 use yd_store::Store;
 
 /// The last run of a list of which no unit is gone, or None where the list has no unit. It takes no

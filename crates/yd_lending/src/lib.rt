@@ -18,4 +18,4 @@ mod walking;
 
 pub use last::last_run;
 pub use lent::LentRun;
-pub use walking::{walk, ListWalk};
+pub use walking::{ListWalk, walk};

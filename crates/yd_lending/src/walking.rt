@@ -6,7 +6,7 @@ ghost use Rattle.yd_ops.specs.Value.{len_of};
 ghost use Rattle.yd_arena.specs.Arena.{count_of};
 ghost use Rattle.yd_lending.specs.Lending.{HasNoGone, units_of_run, lent_in, units_left};
 
-use crate::lent::{lent_run, LentRun};
+use crate::lent::{LentRun, lent_run};
 use std::marker::Model;
 use yd_store::Store;
 
