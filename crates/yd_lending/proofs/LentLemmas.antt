@@ -1,5 +1,5 @@
 -- What is lent of a list is its operations, with what the store has marked.
-use Rattle.std.proofs.Common.{◌≡◌, ℕ, ◌-◌, ◌<◌, ◌⊎◌, inl, inr, Bool, true, false, List, [], ◌∷◌, ◌++◌, map, length, refl, sym, ap, ap₂, ◌∙◌, subst, true≢false}
+use Rattle.std.proofs.Common.{◌≡◌, ℕ, ◌-◌, ◌<◌, inl, inr, Bool, true, List, [], ◌∷◌, ◌++◌, map, length, refl, sym, ap, ap₂, ◌∙◌, true≢false}
 use Rattle.std.proofs.lemmas.Bool.{cases_Bool}
 use Rattle.std.proofs.lemmas.List.{map-append}
 use Rattle.std.specs.Prelude.{◌↔◌, flat_map}
@@ -7,15 +7,14 @@ use Rattle.yd_words.specs.Member.{IsIn}
 use Rattle.yd_ids.specs.declared.id.Id.{Id}
 use Rattle.yd_ops.specs.Operation.{Operation}
 use Rattle.yd_scan.specs.Stretches.{stretch_at}
-use Rattle.yd_arena.specs.Lists.{AreLists}
-use Rattle.yd_arena.specs.Arena.{runs_of, count_of, places_in, IsArena, HasUnit}
+use Rattle.yd_arena.specs.Arena.{runs_of, places_in, IsArena, HasUnit}
 use Rattle.yd_arena.proofs.ArenaLemmas.{units_stand_once}
 use Rattle.yd_marks.specs.Marks.{mark_at}
 use Rattle.yd_store.specs.Contents.{told_of}
 use Rattle.yd_store.specs.Store.{Stored, AreTold}
-use Rattle.yd_store.specs.Units.{operations_at, operations_in, HasOperation, HasMarked}
+use Rattle.yd_store.specs.Units.{operations_at, HasOperation, HasMarked}
 use Rattle.yd_store.proofs.HalvesLemmas.{has_unit}
-use Rattle.yd_lending.specs.Lending.{Lent, lent, lent_at, lent_in, ListsLendUnits}
+use Rattle.yd_lending.specs.Lending.{Lent, lent, lent_at, ListsLendUnits}
 
 lent_same : (deleted : Id → Bool) (os : List Operation) (mark : Bool) → ((o : Operation) → IsIn o os → deleted o.id ≡ mark) →
     map (lent mark) os ≡ map (λ (o : Operation). lent (deleted o.id) o) os

@@ -1,5 +1,5 @@
 -- A walk through a list: which place is next, and what is lent.
-use Rattle.std.proofs.Common.{◌≡◌, ◌≢◌, ℕ, zero, suc, ◌-◌, ◌<◌, ◌⊎◌, inl, inr, Bool, List, [], ◌∷◌, ◌++◌, Option, Some, None, map, length, refl, sym, ap, ◌∙◌, subst, arith, append-nil}
+use Rattle.std.proofs.Common.{◌≡◌, ◌≢◌, ℕ, suc, ◌-◌, ◌<◌, inl, inr, Bool, List, [], ◌∷◌, ◌++◌, Option, Some, None, map, length, refl, sym, ap, ◌∙◌, subst, arith, append-nil}
 use Rattle.std.proofs.lemmas.List.{append_assoc}
 use Rattle.std.proofs.lemmas.Grind.{flat_map-append}
 use Rattle.std.specs.Prelude.{IfSome, flat_map}
@@ -8,7 +8,7 @@ use Rattle.yd_words.proofs.MemberLemmas.{in_left_part, in_right_part}
 use Rattle.yd_words.proofs.OptionLemmas.{some_is}
 use Rattle.yd_ids.specs.declared.id.Id.{Id}
 use Rattle.yd_ops.specs.declared.lists.List.{List as DocList}
-use Rattle.yd_ops.specs.Operation.{UnitContent, gone_unit, Operation, later_id, units_of_content, operations_from, gone_operation, gone_from}
+use Rattle.yd_ops.specs.Operation.{UnitContent, later_id, units_of_content, operations_from, gone_operation, gone_from}
 use Rattle.yd_ops.specs.Value.{RunValue, len_of}
 use Rattle.yd_chains.specs.Chain.{first_of, last_from, last_of, behind, before}
 use Rattle.yd_chains.proofs.ChainLemmas.{same_place, around, distinct_out, some_last}
@@ -20,7 +20,7 @@ use Rattle.yd_arena.specs.Arena.{runs_of, count_of, places_in}
 use Rattle.yd_marks.specs.Marks.{mark_at}
 use Rattle.yd_store.specs.Contents.{told_of, run_at}
 use Rattle.yd_store.specs.Store.{Stored, IsRunOf, AreTold}
-use Rattle.yd_store.specs.Units.{operations_told, operations_at, operations_in}
+use Rattle.yd_store.specs.Units.{operations_told, operations_at}
 use Rattle.yd_lending.specs.Lending.{Lent, lent, lent_from, lent_at, lent_in, places_from, HasNoGone, Walk, IsWalk, units_left}
 
 -- ---- places

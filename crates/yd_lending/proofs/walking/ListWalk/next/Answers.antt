@@ -1,5 +1,4 @@
 use Rattle.std.proofs.Common.{◌≡◌, ◌++◌, arith, subst}
-use Rattle.yd_arena.specs.Arena.{places_in}
 use Rattle.yd_lending.specs.Lending.{Walk, units_of_run, units_left}
 use Rattle.yd_lending.proofs.WalkLemmas.{next_on_list, place_told, walk_goes_on, stays_walk}
 use Rattle.yd_lending.proofs.walking.ListWalk.next.Goals as goal
