@@ -14,6 +14,18 @@ use Rattle.yd_doc.specs.Kept.{Kept, received_of}
 abbrev pub own_basis : Kept → Basis
 own_basis r = basis_in r.client r.state
 
+-- the update is the one that the steps make: they are not refused, and it is valid
+pub record IsPrepared (r : Kept) (steps : List Step) (update : UpdateValue) : Type 0 where
+  pub accepted : refusal_of (own_basis r) steps ≡ None
+  pub made : update ≡ update_of_edit (own_basis r) steps
+  pub valid : IsValidUpdate update
+
+-- the replica has taken an update of its own client
+pub record IsCommitted (old new : Kept) (update : UpdateValue) : Type 0 where
+  pub received : received_of new ≡ received_after (received_of old) update
+  pub client : new.client ≡ old.client
+  pub is_behind : new.is_behind ≡ old.is_behind
+
 -- the steps were carried out: they are not refused, the update is valid and the one that they make on what was there, and the
 -- replica has taken it
 pub record IsEdit (old new : Kept) (steps : List Step) (update : UpdateValue) : Type 0 where

@@ -1,13 +1,15 @@
 //! Edits: each makes one update, and the replica takes it.
 
-ghost use Rattle.std.specs.Prelude.{◌≡◌, ◌∷◌, [], IfOk, IfErr, OnErr};
+ghost use Rattle.std.specs.Prelude.{◌≡◌, ◌∷◌, [], IfOk, IfErr, OnOk, OnErr};
 ghost use Rattle.yd_words.specs.Each.{Each};
+ghost use Rattle.yd_ops.specs.Valid.{IsValidUpdate};
 ghost use Rattle.yd_ops.specs.View.{content_value, update_value};
 ghost use Rattle.yd_editing.specs.Refused.{refusal_of};
 ghost use Rattle.yd_editing.specs.Step.{make as make_step, remove as remove_step};
 ghost use Rattle.yd_making.specs.Steps.{steps_value, IsProper, IsCause};
-ghost use Rattle.yd_doc.specs.Editing.{own_basis, IsEdit};
+ghost use Rattle.yd_doc.specs.Editing.{own_basis, IsEdit, IsPrepared, IsCommitted};
 
+use crate::fault::NoMemory;
 use crate::replica::Replica;
 use yd_ids::{Id, IdSet};
 use yd_making::{Basis, EditFault, Step, StepList};
@@ -38,7 +40,21 @@ impl Replica {
             IsCause fault (refusal_of (own_basis self.old) (steps_value steps))) }
         ensures unchanged { OnErr result (self.new ≡ self.old) }
     {
-        let alloc = self.state.received().allocator();
+        let update = self.prepare(steps)?;
+        self.commit(&update)?;
+        Ok(update)
+    }
+
+    /// The update that `edit` of the steps would make. The replica has not taken it, and `commit` takes
+    /// it: so a caller can keep what it has to keep of an edit before the edit is made. It refuses as
+    /// `edit` does.
+    pub fn prepare(&self, steps: StepList) -> Result<Update, EditFault>
+        requires { Each IsProper (steps_value steps) }
+        ensures made { IfOk result (λ update.
+            IsPrepared self.now (steps_value steps) (update_value update)) }
+        ensures refused { IfErr result (λ fault.
+            IsCause fault (refusal_of (own_basis self.now) (steps_value steps))) }
+    {
         let basis = Basis {
             state: &self.state,
             client: self.client,
@@ -46,9 +62,19 @@ impl Replica {
         if let Some(fault) = basis.refusal(&steps) {
             return Err(fault);
         }
-        let update = basis.update(alloc, steps)?;
-        self.state.take(&update)?;
+        let update = basis.update(self.alloc, steps)?;
         Ok(update)
+    }
+
+    /// Receives an update as `apply` does, but for whether the replica is behind: that does not change.
+    /// It is for what `prepare` made. Without memory the replica is as it was.
+    pub fn commit(&mut self, update: &Update) -> Result<(), NoMemory>
+        requires { IsValidUpdate (update_value update.now) }
+        ensures taken { OnOk result (IsCommitted self.old self.new (update_value update.now)) }
+        ensures unchanged { OnErr result (self.new ≡ self.old) }
+    {
+        self.state.take(update)?;
+        Ok(())
     }
 
     /// Makes a run of this content directly behind a unit of a list, or at its front: an edit of this

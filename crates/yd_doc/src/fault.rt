@@ -1,6 +1,7 @@
 //! What a call without memory answers.
 
 use std::alloc::{AllocError, AllocFailed};
+use yd_making::EditFault;
 
 /// A growth found no memory.
 #[derive(Clone, Copy, Debug, PartialEq, Eq)]
@@ -63,5 +64,16 @@ impl<T: Drop> From<AllocFailed<T>> for NoMemory {
 
     fn from(_error: AllocFailed<T>) -> NoMemory {
         NoMemory
+    }
+}
+
+impl From<NoMemory> for EditFault {
+    ghost use Rattle.std.specs.Prelude.{◌≡◌};
+    ghost use Rattle.yd_making.specs.declared.fault.EditFault.TheVariants.{NoMemory as NoRoom};
+
+    ghost from_gives = { λ _ e. e ≡ NoRoom };
+
+    fn from(_error: NoMemory) -> EditFault {
+        EditFault::NoMemory
     }
 }
