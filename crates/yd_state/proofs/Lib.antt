@@ -20,6 +20,7 @@ pub mod NoveltyLemmas
 pub mod NumberLemmas
 pub mod OneListLemmas
 pub mod PassLemmas
+pub mod ReceivingLemmas
 pub mod SettledLemmas
 pub mod SoundLemmas
 pub mod SwappingLemmas

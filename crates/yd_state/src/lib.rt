@@ -19,6 +19,7 @@ mod naming;
 mod novelty;
 mod numbered;
 mod ordering;
+mod receiving;
 mod settling;
 mod state;
 mod swapping;

@@ -32,7 +32,7 @@ use yd_received::Received;
 #[derive(Drop)]
 pub struct State {
     pub(crate) held: Held,
-    named: IdSet,
+    pub(crate) named: IdSet,
     pub(crate) orders: Vec<Vec<Id>>,
     pub(crate) deletes: IdSet,
 }
