@@ -3,7 +3,6 @@ pub mod DueLemmas
 pub mod LawLemmas
 pub mod MakingLemmas
 pub mod MergeLemmas
-pub mod ReceivedLemmas
 pub mod RequestLemmas
 pub mod RunLemmas
 pub mod TableLemmas

@@ -19,7 +19,6 @@ mod format;
 pub mod law;
 mod mode;
 mod program;
-mod receiving;
 mod request;
 mod word;
 

@@ -3,4 +3,3 @@ pub mod DeletedCountLemmas
 pub mod DistinctLemmas
 pub mod HeldCountLemmas
 pub mod ListCountLemmas
-pub mod ReceivingLemmas

@@ -4,8 +4,6 @@ ghost use Rattle.std.specs.Prelude.{◌≡◌, map, IfOk};
 ghost use Rattle.yd_words.specs.Each.{Each};
 ghost use Rattle.yd_ops.specs.Valid.{IsValidUpdate};
 ghost use Rattle.yd_ops.specs.View.{update_value};
-ghost use Rattle.yd_updates.specs.Received.{received_set};
-ghost use Rattle.yd_state.specs.State.{received_in};
 ghost use Rattle.yd_checking.specs.Findings.{findings_of};
 
 use crate::counts::{Counts, count};
@@ -36,7 +34,7 @@ pub fn check(alloc: Global, updates: &[Update]) -> Result<Findings, NoMemory>
     requires { Each IsValidUpdate (map update_value updates.now) }
     ensures { IfOk result (λ found. found ≡ findings_of (map update_value updates.now)) }
 {
-    let state = received(alloc, updates)?;
+    let state = State::of_updates(alloc, updates)?;
     let disagreement = disagree(alloc, updates)?;
     let breach = dishonest(alloc, &state)?;
     Ok(Findings {
@@ -44,17 +42,4 @@ pub fn check(alloc: Global, updates: &[Update]) -> Result<Findings, NoMemory>
         disagreement,
         dishonest: breach,
     })
-}
-
-/// The state that received the updates.
-fn received(alloc: Global, updates: &[Update]) -> Result<State, NoMemory>
-    requires { Each IsValidUpdate (map update_value updates.now) }
-    ensures { IfOk result (λ state.
-        received_in state ≡ received_set (map update_value updates.now)) }
-{
-    let mut state = State::new(alloc);
-    for update in updates {
-        state.take(update)?;
-    }
-    Ok(state)
 }

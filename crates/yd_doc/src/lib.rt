@@ -18,6 +18,7 @@ mod fault;
 mod indexing;
 mod keys;
 pub mod law;
+mod opening;
 mod replica;
 mod waiting;
 

@@ -31,9 +31,9 @@ use yd_state::{ListView, State};
 /// operations and deletions define, with no history of arrivals (`law::own_document_is_defined`).
 #[derive(Drop)]
 pub struct Replica {
-    alloc: Global,
+    pub(crate) alloc: Global,
     pub(crate) client: Client,
-    is_behind: bool,
+    pub(crate) is_behind: bool,
     pub(crate) state: State,
 }
 

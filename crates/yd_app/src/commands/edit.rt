@@ -16,7 +16,6 @@ ghost use Rattle.yd_app.specs.declared.format.Format.TheVariants.{V1};
 
 use crate::fault::NoMemory;
 use crate::format::{Format, write_in};
-use crate::receiving::receive_all;
 use std::alloc::Global;
 use yd_any::Text;
 use yd_ending::{Refusal, Stop};
@@ -65,7 +64,7 @@ fn updates_of<'a>(
     ensures stops { IfErr result
         (StopsMaking (edits client name.now) (inputs_of inputs.now)) }
 {
-    let mut replica = receive_all(alloc, client, inputs.updates.as_slice())?;
+    let mut replica = Replica::of_updates(alloc, client, inputs.updates.as_slice())?;
     match play(alloc, &mut replica, first_of(&inputs.scripts)) {
         Ok(updates) => Ok(updates),
         Err(PlayFault::NoMemory) => Err(Stop::NoMemory),

@@ -16,7 +16,6 @@ ghost use Rattle.yd_app.specs.Commands.Show.{shown_line};
 ghost use Rattle.yd_app.specs.Output.{IsMadeOf};
 
 use crate::fault::NoMemory;
-use crate::receiving::receive_all;
 use std::alloc::Global;
 use yd_any::Text;
 use yd_doc::Replica;
@@ -35,7 +34,7 @@ pub fn show(alloc: Global, mode: Mode, root: &str, inputs: &Inputs) -> Result<Ve
         IsMadeOf (shows mode root.now) (inputs_of inputs.now) line.items) }
 {
     // It makes no edits, so any client serves.
-    let replica = receive_all(alloc, Client(0), inputs.updates.as_slice())?;
+    let replica = Replica::of_updates(alloc, Client(0), inputs.updates.as_slice())?;
     own_document_is_defined(&replica);
     let mut line = print_root(alloc, &replica, mode, root)?;
     line.push(b'\n')?;
