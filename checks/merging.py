@@ -154,4 +154,5 @@ def main():
     tell("vector of 260,000 edits", best([program, "vector", "v1:" + whole], "out"), yjs("encodeStateVectorFromUpdate", whole))
 
 
-main()
+if __name__ == "__main__":
+    main()
