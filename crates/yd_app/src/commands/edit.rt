@@ -18,6 +18,7 @@ use crate::fault::NoMemory;
 use crate::format::{Format, write_in};
 use std::alloc::Global;
 use yd_any::Text;
+use yd_doc::Replica;
 use yd_ending::{Refusal, Stop};
 use yd_files::Inputs;
 use yd_ids::Client;
