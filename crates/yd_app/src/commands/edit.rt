@@ -65,7 +65,9 @@ fn updates_of<'a>(
     ensures stops { IfErr result
         (StopsMaking (edits client name.now) (inputs_of inputs.now)) }
 {
-    let mut replica = Replica::of_updates(alloc, client, inputs.updates.as_slice())?;
+    let Ok(mut replica) = Replica::of_updates(alloc, client, inputs.updates.as_slice()) else {
+        return Err(Stop::NoMemory);
+    };
     match play(alloc, &mut replica, first_of(&inputs.scripts)) {
         Ok(updates) => Ok(updates),
         Err(PlayFault::NoMemory) => Err(Stop::NoMemory),
