@@ -18,6 +18,14 @@ use Rattle.yd_scan.proofs.StandingLemmas as standing
 use Rattle.yd_scan.proofs.StandingLemmas.{next_part, other_mark, same_mark}
 
 module _ (places : Id → Option ℕ) (stretches : List Stretch) (list : List ℕ) (after : Option ℕ) (new : Stretch) (ready : IsReady places stretches list after new) where
+  -- no mark is above the one that is given next
+  still_low : (marks : List ℕ) (counter i : ℕ) → i < length marks → ((j : ℕ) → get_or marks j 0 ≤ counter) →
+      (j : ℕ) → get_or (set marks i (counter + 1)) j 0 ≤ counter + 1
+  still_low marks counter i inside low j = elim (chain.same_place j i) [
+    | inl t ↦ omega (arith, ap (λ k. get_or (set marks i (counter + 1)) k 0) t.1, same_mark marks i (counter + 1) inside)
+    | inr t ↦ omega (arith, other_mark marks i (counter + 1) j t.1, low j)
+  ]
+
   -- the next run stays
   pub scan_stays : (start : ℕ) (marks : List ℕ) (counter moved : ℕ) (place at : Option ℕ) → IsScanning stretches list after new start marks counter moved place at →
       (i : ℕ) → at ≡ Some i → verdict_on (stretch_at stretches i) new (is_above places marks moved (stretch_at stretches i).left) (is_above places marks start (stretch_at stretches i).left) ≡ stays →
@@ -56,15 +64,24 @@ module _ (places : Id → Option ℕ) (stretches : List Stretch) (list : List �
         start_low = s.start_low;
         counted = omega (arith, s.counted, length-append s.conflicting (i ∷ []));
         moved_low = omega (arith, s.moved_low);
-        marks_low = λ j. elim (chain.same_place j i) [
-          | inl t ↦ omega (arith, ap (λ k. get_or (set marks i (counter + 1)) k 0) t.1, same_mark marks i (counter + 1) (omega (arith, lt, s.marks_len)))
-          | inr t ↦ omega (arith, other_mark marks i (counter + 1) j t.1, s.marks_low j)
-        ];
+        marks_low = still_low marks counter i (omega (arith, lt, s.marks_len)) s.marks_low;
         marks_len = omega (arith, length-set marks i (counter + 1), s.marks_len);
       }
     where
       still : (j : ℕ) (xs : List ℕ) → j ≢ i → IsIn j (xs ++ i ∷ []) → IsIn j xs
       still j xs n h = elim (in_parts j xs (i ∷ []) h) [ inl k ↦ k | inr (inl k) ↦ absurd (n k) | inr (inr k) ↦ absurd k ]
+
+  -- what was scanned before the next run has a mark above that at the start
+  above_start : (start : ℕ) (marks : List ℕ) (counter moved : ℕ) (place at : Option ℕ) (s : IsScanning stretches list after new start marks counter moved place at)
+      (i j : ℕ) → j ≢ i → IsIn j (s.passed ++ (s.conflicting ++ i ∷ [])) → start < get_or marks j 0
+  above_start start marks counter moved place at s i j n h = elim (in_parts j s.passed (s.conflicting ++ i ∷ []) h) [
+    | inl k ↦ (s.marked_passed j k).0
+    | inr k ↦ elim (in_parts j s.conflicting (i ∷ []) k) [
+      | inl m ↦ omega (arith, s.marked_conflicting j m, s.start_low)
+      | inr (inl m) ↦ absurd (n m)
+      | inr (inr m) ↦ absurd m
+    ]
+  ]
 
   -- the place moves behind the next run
   pub scan_moves : (start : ℕ) (marks : List ℕ) (counter moved : ℕ) (place at : Option ℕ) → IsScanning stretches list after new start marks counter moved place at →
@@ -102,7 +119,7 @@ module _ (places : Id → Option ℕ) (stretches : List Stretch) (list : List �
               (omega (arith, m, v, s.moved_low, s.start_low), omega (arith, m, v))
           | inr t ↦
               let m = other_mark marks i (counter + 1) j t.1 in
-              (omega (arith, m, above_start j t.1 h), omega (arith, m, s.marks_low j))
+              (omega (arith, m, above_start start marks counter moved place at s i j t.1 h), omega (arith, m, s.marks_low j))
         ];
         marked_others = λ j p q.
             let n : j ≢ i = λ k. p (in_right_part j s.passed (s.conflicting ++ i ∷ []) (in_right_part j s.conflicting (i ∷ []) (inl k))) in
@@ -110,22 +127,9 @@ module _ (places : Id → Option ℕ) (stretches : List Stretch) (list : List �
         start_low = omega (arith, s.start_low, s.moved_low);
         counted = omega (arith, s.counted, length-append s.conflicting (i ∷ []), length-append s.passed (s.conflicting ++ i ∷ []));
         moved_low = omega arith;
-        marks_low = λ j. elim (chain.same_place j i) [
-          | inl t ↦ omega (arith, ap (λ k. get_or (set marks i (counter + 1)) k 0) t.1, same_mark marks i (counter + 1) (omega (arith, lt, s.marks_len)))
-          | inr t ↦ omega (arith, other_mark marks i (counter + 1) j t.1, s.marks_low j)
-        ];
+        marks_low = still_low marks counter i (omega (arith, lt, s.marks_len)) s.marks_low;
         marks_len = omega (arith, length-set marks i (counter + 1), s.marks_len);
       }
-    where
-      above_start : (j : ℕ) → j ≢ i → IsIn j (s.passed ++ (s.conflicting ++ i ∷ [])) → start < get_or marks j 0
-      above_start j n h = elim (in_parts j s.passed (s.conflicting ++ i ∷ []) h) [
-        | inl k ↦ (s.marked_passed j k).0
-        | inr k ↦ elim (in_parts j s.conflicting (i ∷ []) k) [
-          | inl m ↦ omega (arith, s.marked_conflicting j m, s.start_low)
-          | inr (inl m) ↦ absurd (n m)
-          | inr (inr m) ↦ absurd m
-        ]
-      ]
 
   -- the scan begins
   pub scan_starts : (start : ℕ) (marks : List ℕ) → ((i : ℕ) → get_or marks i 0 ≤ start) → length stretches ≤ length marks →

@@ -1,6 +1,6 @@
 //! The verdict on a scanned run.
 
-ghost use Rattle.std.specs.Prelude.{◌≡◌, Bool, IfSome, IfNone};
+ghost use Rattle.std.specs.Prelude.{◌≡◌, Bool, nat_lt, IfSome, IfNone};
 ghost use Rattle.yd_words.specs.Test.{is_some_and};
 ghost use Rattle.yd_ids.specs.Ids.{is_same, is_same_neighbour};
 ghost use Rattle.yd_scan.specs.Scanning.{verdict_on, verdict_by_left};
@@ -63,14 +63,15 @@ pub fn judge(next: &Stretch, new: &Stretch) -> Option<Verdict>
     None
 }
 
-/// What a scanned run does, where its left origin is conflicting, or scanned, or neither.
-pub fn judge_by_left(conflicts: bool, scanned: bool) -> Verdict
-    ensures { verdict_of result ≡ verdict_by_left conflicts scanned }
+/// What a scanned run does, by the mark of the run that its left origin stands in: one above the mark
+/// of the last move conflicts, and one above the mark at the start was scanned.
+pub fn judge_by_left(mark: u64, start: u64, moved: u64) -> Verdict
+    ensures { verdict_of result ≡ verdict_by_left (nat_lt moved mark) (nat_lt start mark) }
 {
-    if conflicts {
+    if moved < mark {
         return Verdict::Stays;
     }
-    if scanned {
+    if start < mark {
         Verdict::Moves
     } else {
         Verdict::Stops

@@ -54,7 +54,7 @@ fn verdict_at<I: Finds>(
         return turn;
     }
     let mark = mark_of(index, marks, stretches[i].left);
-    judge_by_left(moved < mark, start < mark)
+    judge_by_left(mark, start, moved)
 }
 
 /// Gives the next mark to a place.
