@@ -5,7 +5,6 @@ pub mod LeavingLemmas
 pub mod LentCutLemmas
 pub mod MergingLemmas
 pub mod NamedLemmas
-pub mod PuttingLemmas
 pub mod ReachingLemmas
 pub mod ToldLemmas
 pub mod TurnLemmas

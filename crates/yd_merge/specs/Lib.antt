@@ -1,4 +1,3 @@
-pub mod Builder
 pub mod Cutting
 pub mod Lending
 pub mod Named

@@ -56,6 +56,16 @@ impl From<yd_ops::NoMemory> for NoMemory {
     }
 }
 
+impl From<yd_building::NoMemory> for NoMemory {
+    ghost use Rattle.std.specs.Prelude.{◌≡◌};
+
+    ghost from_gives = { λ _ e. e ≡ record {} };
+
+    fn from(_error: yd_building::NoMemory) -> NoMemory {
+        NoMemory
+    }
+}
+
 impl From<yd_received::NoMemory> for NoMemory {
     ghost use Rattle.std.specs.Prelude.{◌≡◌};
 

@@ -7,13 +7,13 @@ ghost use Rattle.yd_ids.specs.Id.{IsClient, IsClock};
 ghost use Rattle.yd_ops.specs.Valid.{IsStructAt, IsValidBlock, IsValidUpdate};
 ghost use Rattle.yd_ops.specs.Value.{clocks_of};
 ghost use Rattle.yd_ops.specs.View.{block_value, struct_value, update_value};
-ghost use Rattle.yd_merge.specs.Builder.{group_value};
+ghost use Rattle.yd_building.specs.Builder.{group_value};
 ghost use Rattle.yd_merge.specs.Lending.{IsLent, GoesBefore, AreInTurn, lent_group};
 ghost use Rattle.yd_merge.specs.Lending.{blocks_groups, struct_groups, structs_groups, updates_groups};
 
 use crate::fault::NoMemory;
-use crate::group::Group;
 use std::alloc::Global;
+use yd_building::Group;
 use yd_ids::{Client, Id};
 use yd_ops::{Block, Run, Struct, Update};
 

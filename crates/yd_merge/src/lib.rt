@@ -3,12 +3,10 @@
 //! [`merge`] makes the one grouped update that says what many say, and [`cut`] what one says from a
 //! vector on. Where no two structs have a unit with one id, what they have is lent, put in the order
 //! of writing and written. Else each update is taken into a `Received`, and the entries are written
-//! out by runs. [`write_cut`] writes that of what was received before. What is written goes through a
-//! [`Builder`]: it is pushed what structs have, in the order of writing and in pieces of any size, and
-//! joins each piece with the one before where they are one run that was cut, or gone units with clocks
-//! in a row. So what it makes is the grouping of all that it was pushed
-//! (`yd_grouping::law::builder_groups`). [`vector_of`] tells of each client the smallest clock that an
-//! update does not have, and [`vector_of_all`] that of a merge, without merging.
+//! out by runs. [`write_cut`] writes that of what was received before. All that is written is pushed
+//! into a `yd_building::Builder`, whose update is the grouping of it. [`vector_of`] tells of each
+//! client the smallest clock that an update does not have, and [`vector_of_all`] that of a merge,
+//! without merging.
 //!
 //! ```rust
 //! let merged = merge(alloc, &[first, second])?;
@@ -17,24 +15,18 @@
 //! ```
 #![tactic(auto)]
 
-mod builder;
 mod cutting;
 mod fault;
-mod group;
-mod growing;
 mod lending;
 mod lent_cutting;
 mod merging;
 mod naming;
 mod parts;
-mod putting;
 mod reaching;
 mod values;
 mod writing;
 
-pub use builder::Builder;
 pub use cutting::{cut, write_cut};
 pub use fault::NoMemory;
-pub use group::Group;
 pub use merging::merge;
 pub use reaching::{vector_of, vector_of_all};

@@ -10,13 +10,13 @@ ghost use Rattle.yd_ops.specs.Valid.{IsValidContent};
 ghost use Rattle.yd_ops.specs.View.{content_value, run_value};
 ghost use Rattle.yd_grouping.specs.Groups.{of_run};
 ghost use Rattle.yd_received.specs.Entries.{IsTakenOf, list_at};
-ghost use Rattle.yd_merge.specs.Builder.{group_value};
+ghost use Rattle.yd_building.specs.Builder.{group_value};
 ghost use Rattle.yd_merge.specs.Told.{IsPartOf, content_part, group_of_run, group_of_entry};
 
 use crate::fault::NoMemory;
-use crate::group::Group;
 use crate::values::{copied_json, copied_values};
 use std::alloc::Global;
+use yd_building::Group;
 use yd_ops::{Content, List, Run};
 use yd_received::Entry;
 use yd_units::Units;

@@ -10,11 +10,11 @@ ghost use Rattle.yd_grouping.specs.Groups.{operations_of_groups};
 ghost use Rattle.yd_merge.specs.Lending.{IsLent, AreInTurn, lent_group};
 ghost use Rattle.yd_merge.specs.Told.{group_of_entry};
 
-use crate::builder::Builder;
 use crate::fault::NoMemory;
 use crate::lending::Lent;
 use crate::parts::group_of;
 use std::alloc::Global;
+use yd_building::Builder;
 use yd_ids::IdSet;
 use yd_ops::{Run, Update};
 use yd_received::Entry;

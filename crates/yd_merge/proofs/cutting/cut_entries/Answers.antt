@@ -1,6 +1,6 @@
 use Rattle.std.proofs.Common.{◌∙◌, arith}
 use Rattle.yd_ids.specs.Vector.{clock_of}
-use Rattle.yd_merge.specs.Builder.{built_of}
+use Rattle.yd_building.specs.Builder.{built_of}
 use Rattle.yd_merge.proofs.CutEntriesLemmas.{all_cut, cut_next}
 use Rattle.yd_merge.proofs.cutting.cut_entries.Goals as goal
 

@@ -1,7 +1,7 @@
 use Rattle.std.proofs.Common.{◌≡◌, map, drop}
 use Rattle.yd_ids.specs.Vector.{clock_of}
 use Rattle.yd_grouping.specs.Building.{all_pushed, nothing_built}
-use Rattle.yd_merge.specs.Builder.{built_of}
+use Rattle.yd_building.specs.Builder.{built_of}
 use Rattle.yd_merge.specs.Cutting.{cut_entries}
 use Rattle.yd_merge.specs.Told.{group_of_entry}
 use Rattle.yd_merge.proofs.cutting.cut_entries.Given as goal

@@ -1,6 +1,6 @@
 use Rattle.std.proofs.Common.{◌∙◌, arith}
 use Rattle.yd_ids.specs.Vector.{clock_of}
-use Rattle.yd_merge.specs.Builder.{built_of}
+use Rattle.yd_building.specs.Builder.{built_of}
 use Rattle.yd_merge.proofs.LentCutLemmas.{all_lent_cut, lent_next}
 use Rattle.yd_merge.proofs.lent_cutting.cut_lent.Goals as goal
 

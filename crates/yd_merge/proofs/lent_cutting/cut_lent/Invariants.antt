@@ -1,7 +1,7 @@
 use Rattle.std.proofs.Common.{◌≡◌, drop}
 use Rattle.yd_ids.specs.Vector.{clock_of}
 use Rattle.yd_grouping.specs.Building.{all_pushed, nothing_built}
-use Rattle.yd_merge.specs.Builder.{built_of}
+use Rattle.yd_building.specs.Builder.{built_of}
 use Rattle.yd_merge.specs.Cutting.{cut_lents}
 use Rattle.yd_merge.proofs.lent_cutting.cut_lent.Given as goal
 

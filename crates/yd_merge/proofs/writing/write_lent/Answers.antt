@@ -1,5 +1,5 @@
 use Rattle.std.proofs.Common.{◌∙◌, arith}
-use Rattle.yd_merge.specs.Builder.{built_of}
+use Rattle.yd_building.specs.Builder.{built_of}
 use Rattle.yd_merge.proofs.TurnLemmas.{all_lent}
 use Rattle.yd_merge.proofs.writing.write_lent.Goals as goal
 

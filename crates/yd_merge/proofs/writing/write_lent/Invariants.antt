@@ -1,6 +1,6 @@
 use Rattle.std.proofs.Common.{◌≡◌, map, drop}
 use Rattle.yd_grouping.specs.Building.{all_pushed, nothing_built}
-use Rattle.yd_merge.specs.Builder.{built_of}
+use Rattle.yd_building.specs.Builder.{built_of}
 use Rattle.yd_merge.specs.Lending.{lent_group}
 use Rattle.yd_merge.proofs.writing.write_lent.Given as goal
 

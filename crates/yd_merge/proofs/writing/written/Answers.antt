@@ -1,5 +1,5 @@
 use Rattle.std.proofs.Common.{◌∙◌, arith}
-use Rattle.yd_merge.specs.Builder.{built_of}
+use Rattle.yd_building.specs.Builder.{built_of}
 use Rattle.yd_merge.proofs.ToldLemmas.{all_written}
 use Rattle.yd_merge.proofs.writing.written.Goals as goal
 

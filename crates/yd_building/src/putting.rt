@@ -3,7 +3,7 @@
 ghost use Rattle.std.specs.Prelude.{◌≡◌, map, IfOk};
 ghost use Rattle.yd_ops.specs.View.{block_value};
 ghost use Rattle.yd_grouping.specs.Building.{blocks_and};
-ghost use Rattle.yd_merge.specs.Builder.{group_value, blocks_value, some_blocks};
+ghost use Rattle.yd_building.specs.Builder.{group_value, blocks_value, some_blocks};
 
 use crate::fault::NoMemory;
 use crate::group::Group;

@@ -4,10 +4,10 @@ use Rattle.yd_ops.specs.Value.{BlockValue}
 use Rattle.yd_ops.specs.View.{run_value, block_value}
 use Rattle.yd_grouping.specs.Groups.{Group, of_run, of_gone}
 use Rattle.yd_grouping.specs.Building.{Built}
-use Rattle.yd_merge.specs.declared.builder.Builder.{Builder}
-use Rattle.yd_merge.specs.declared.group.Group.{Group as OwnedGroup}
-use Rattle.yd_merge.specs.declared.group.Group.TheVariants.{Run, Gone}
-use Rattle.yd_merge.specs.declared.putting.Blocks.{Blocks}
+use Rattle.yd_building.specs.declared.builder.Builder.{Builder}
+use Rattle.yd_building.specs.declared.group.Group.{Group as OwnedGroup}
+use Rattle.yd_building.specs.declared.group.Group.TheVariants.{Run, Gone}
+use Rattle.yd_building.specs.declared.putting.Blocks.{Blocks}
 
 -- a group, with its run as plain data
 abbrev pub group_value : OwnedGroup → Group

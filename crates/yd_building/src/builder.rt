@@ -3,7 +3,7 @@
 ghost use Rattle.std.specs.Prelude.{◌≡◌, IfOk, OnOk};
 ghost use Rattle.yd_ops.specs.View.{update_value};
 ghost use Rattle.yd_grouping.specs.Building.{nothing_built, with_next, with_pushed, finished};
-ghost use Rattle.yd_merge.specs.Builder.{group_value, some_group, some_blocks, built_of};
+ghost use Rattle.yd_building.specs.Builder.{group_value, some_group, some_blocks, built_of};
 
 use crate::fault::NoMemory;
 use crate::group::Group;

@@ -1,7 +1,7 @@
 use Rattle.yd_ops.specs.View.{struct_value}
-use Rattle.yd_merge.specs.Builder.{group_value}
-use Rattle.yd_merge.proofs.PuttingLemmas.{end_grown}
-use Rattle.yd_merge.proofs.growing.Growing.extended.Goals as goal
+use Rattle.yd_building.specs.Builder.{group_value}
+use Rattle.yd_building.proofs.PuttingLemmas.{end_grown}
+use Rattle.yd_building.proofs.growing.Growing.extended.Goals as goal
 
 pub invariant_of-result : goal.invariant_of-result
 invariant_of-result c = end_grown c.self.inside.block.client c.self.inside.block.clock c.self.inside.block.structs c.push_behind.new.structs (group_value c.args.group) c.id-id.result

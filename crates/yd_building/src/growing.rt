@@ -4,7 +4,7 @@ ghost use Rattle.std.specs.Prelude.{◌≡◌, ◌∷◌, [], ◌++◌, map, IfO
 ghost use Rattle.yd_ops.specs.View.{block_value, struct_value};
 ghost use Rattle.yd_grouping.specs.Grouped.{block_of, with_gap};
 ghost use Rattle.yd_grouping.specs.Building.{block_and};
-ghost use Rattle.yd_merge.specs.Builder.{group_value};
+ghost use Rattle.yd_building.specs.Builder.{group_value};
 
 use crate::fault::NoMemory;
 use crate::group::Group;

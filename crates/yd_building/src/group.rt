@@ -5,7 +5,7 @@ ghost use Rattle.yd_ids.specs.Ids.{is_same};
 ghost use Rattle.yd_ops.specs.Operation.{later_id};
 ghost use Rattle.yd_ops.specs.View.{struct_value};
 ghost use Rattle.yd_grouping.specs.Groups.{start_of, size_of, struct_of, group_joins, joined_group};
-ghost use Rattle.yd_merge.specs.Builder.{group_value};
+ghost use Rattle.yd_building.specs.Builder.{group_value};
 
 use crate::fault::NoMemory;
 use yd_ids::Id;
