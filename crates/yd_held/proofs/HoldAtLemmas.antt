@@ -175,7 +175,14 @@ module _ (k : HeldValue) (seen : List Entry) (at : ℕ) (d : Entry) (same : seen
         (fewer_wait t p s.ready.waits (places_held k.received k.names more t p known) ts at s.got)
 
     pub holds_entry : (raised : List (Client × ℕ)) → RaisesOnly k.vector raised t.id.client.0 (t.id.clock + t.len) → HoldsEntry at ts new.entries k.vector raised
-    holds_entry raised raises = record { entry = t; place = p; there = s.got; placed = ap (λ (q : ReceivedValue). q.entries) placed_is; raises = raises }
+    holds_entry raised raises = record {
+      entry = t;
+      place = p;
+      there = s.got;
+      placed = ap (λ (q : ReceivedValue). q.entries) placed_is;
+      held = places_held k.received k.names more t p known;
+      raises = raises;
+    }
 
     pub holding_then : (k_then : HeldValue) → k_then.received ≡ new → RaisesOnly k.vector k_then.vector t.id.client.0 (t.id.clock + t.len) → k_then.names ≡ more → IsHolding k_then
     holding_then k_then e raises f = holding_after k at t s p more known k_then.vector raises k_then (e ∙ placed_is) refl f

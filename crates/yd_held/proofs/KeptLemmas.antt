@@ -36,6 +36,7 @@ use Rattle.yd_held.specs.Noted.{IsNotedOrTried, AreNoted}
 use Rattle.yd_held.specs.Numbered.{is_in_list, number_of}
 use Rattle.yd_held.specs.Placed.{IsPlaced, ArePlaced}
 use Rattle.yd_held.specs.Readiness.{IsOriginOf}
+use Rattle.yd_held.specs.Turn.{HoldsInTurn}
 use Rattle.yd_held.proofs.NumberOfLemmas.{number_of-held}
 use Rattle.yd_held.proofs.PlacedLemmas.{placed_alike}
 
@@ -176,6 +177,10 @@ module _ (old : HeldValue) (mid : ReceivedValue) (holds : HoldsAll old) (grow : 
       entries : filter (is_of_first from) mid.entries ≡ old.received.entries
       entries = ap (λ n. filter (is_of_first n) mid.entries) first ∙ adds.first (length old.received.runs) (omega arith)
           ∙ filter-all (length old.received.runs) old.received.entries (of_first old.received.runs old.received.entries holds.in_order.each)
+
+  -- what is held in turn from there on is so from the old ones on
+  pub turn_alike : (new : HeldValue) (order : List ℕ) → HoldsInTurn order (with_received old mid) new → HoldsInTurn order old new
+  turn_alike new order h = record { stays = λ o i. h.stays o (subst (λ os. IsIn o os) (sym held_same) i); turn = h.turn }
 
 -- ---- lemmas for callers, where nothing is held
 

@@ -17,5 +17,6 @@ pub mod ReadyLemmas
 pub mod RoundLemmas
 pub mod StandingLemmas
 pub mod TryingLemmas
+pub mod TurnLemmas
 pub mod UndoneLemmas
 pub mod UnreadyLemmas

@@ -13,23 +13,26 @@ use Rattle.yd_held.specs.Held.{HeldValue}
 use Rattle.yd_held.specs.Holding.{IsHolding, HoldsMore, HoldsEntry, HoldsRest, OnlyHolds, MarkChanges, AreUnready}
 use Rattle.yd_held.specs.Noted.{AreNoted, AreMissing, StayMissing, Finds, Wakes}
 use Rattle.yd_held.specs.Readiness.{is_ready}
+use Rattle.yd_held.specs.Turn.{AreHeldInTurn, HoldsInTurn}
 use Rattle.yd_held.proofs.HoldAtLemmas.{more_then}
-use Rattle.yd_held.proofs.HoldingLemmas.{ready_is}
+use Rattle.yd_held.proofs.HoldingLemmas.{IsReady, ready_is}
 use Rattle.yd_held.proofs.ListedLemmas.{numbered_all}
 use Rattle.yd_held.proofs.NotedLemmas.{noted_after, missing_after}
 use Rattle.yd_held.proofs.ReadyLemmas.{held_all, counted_all}
 use Rattle.yd_held.proofs.StandingLemmas.{stands_all}
+use Rattle.yd_held.proofs.TurnLemmas.{turn_held, stays_held}
 use Rattle.yd_held.proofs.UndoneLemmas.{undone_after, rises_after}
 use Rattle.yd_held.proofs.UnreadyLemmas.{none_ready}
 
 -- what stays true from round to round, with the clients that are still to be tried
-pub record IsRound (first k : HeldValue) (unset marks : List Bool) (tries : List Client) : Type 0 where
+pub record IsRound (first k : HeldValue) (unset marks : List Bool) (tries : List Client) (order : List ℕ) : Type 0 where
   pub holding : IsHolding k
   pub more : HoldsMore first.received k.received unset marks (length k.names)
   pub noted : AreNoted k.vector k.received.runs k.lacks tries k.received.entries
   pub missing : AreMissing k.vector k.lacks
   pub rises : (client : ℕ) → clock_of first.vector client ≤ clock_of k.vector client
   pub only : OnlyHolds first k
+  pub turn : HoldsInTurn order first k
 
 -- ---- lists that grow
 
@@ -53,9 +56,9 @@ length-marks : (count : ℕ) → length (replicate count false) ≡ count
 length-marks zero = refl
 length-marks (suc count) = ap suc (length-marks count)
 
-pub round_first : (k : HeldValue) (count : ℕ) (marks : List Bool) (tries : List Client) → marks ≡ replicate count false → count ≡ length k.names → IsHolding k →
-    AreNoted k.vector k.received.runs k.lacks tries k.received.entries → AreMissing k.vector k.lacks → IsRound k k marks marks tries
-round_first k count marks tries unset each h noted missing = record {
+pub round_first : (k : HeldValue) (count : ℕ) (marks : List Bool) (tries : List Client) (order : List ℕ) → order ≡ [] → marks ≡ replicate count false → count ≡ length k.names → IsHolding k →
+    AreNoted k.vector k.received.runs k.lacks tries k.received.entries → AreMissing k.vector k.lacks → IsRound k k marks marks tries order
+round_first k count marks tries order none unset each h noted missing = record {
   holding = h;
   more = record {
     operations = refl;
@@ -68,6 +71,10 @@ round_first k count marks tries unset each h noted missing = record {
   missing = missing;
   rises = λ client. omega arith;
   only = only_none k;
+  turn = record {
+    stays = λ o i. i;
+    turn = subst (λ ns. AreHeldInTurn k.received.runs k.received.entries (clock_of k.vector) ns (clock_of k.vector)) (sym none) (λ client. refl);
+  };
 }
 
 -- ---- a round
@@ -81,8 +88,11 @@ module _ (first old new : HeldValue) (at : ℕ) (lacks : List Lack) (tries : Lis
   here = subst IsFound (some_is (get_or old.received.entries at h.entry) h.entry
       (sym (slice_get-get_or old.received.entries at h.entry (slice_get_within old.received.entries at h.entry h.there)) ∙ h.there)) (found.1 h.entry)
 
+  ready : IsReady old.vector old.received.runs h.entry
+  ready = ready_is old.vector old.received.runs h.entry here.0
+
   begins : h.entry.id.clock ≡ clock_of old.vector h.entry.id.client.0
-  begins = (ready_is old.vector old.received.runs h.entry here.0).begins
+  begins = ready.begins
 
   -- what was held before is as it was when the units wait again
   pub only_then : ((client : ℕ) → clock_of first.vector client ≤ clock_of old.vector client) → OnlyHolds first old → OnlyHolds first new
@@ -103,10 +113,10 @@ module _ (first old new : HeldValue) (at : ℕ) (lacks : List Lack) (tries : Lis
         got_set (w ∷ ws) (suc k) u v e = got_set ws k u v e
 
     -- all stays true in the next round
-    pub round_then : (unset marks marked : List Bool) (pending : List Client) → IsRound first old unset marks pending → StayMissing old.vector old.lacks old.vector lacks →
+    pub round_then : (unset marks marked : List Bool) (pending : List Client) (order news : List ℕ) → news ≡ order ++ at ∷ [] → IsRound first old unset marks pending order → StayMissing old.vector old.lacks old.vector lacks →
         IsHolding new → HoldsMore old.received new.received marks marked (length new.names) →
-        IsRound first (record { received = new.received; vector = new.vector; names = new.names; lacks = left }) unset marked more
-    round_then unset marks marked pending r missing holding changed = record {
+        IsRound first (record { received = new.received; vector = new.vector; names = new.names; lacks = left }) unset marked more news
+    round_then unset marks marked pending order news one_more r missing holding changed = record {
       holding = record {
         in_order = holding.in_order;
         own = holding.own;
@@ -121,6 +131,11 @@ module _ (first old new : HeldValue) (at : ℕ) (lacks : List Lack) (tries : Lis
       missing = missing_after old.vector old.received.runs lacks left tries more at old.received.entries new.received.entries new.vector h entry_wakes begins (missing r.missing);
       rises = rises_after first.vector at old.received.entries new.received.entries old.vector new.vector h r.rises;
       only = let only = only_then r.rises r.only in record { runs_are = only.runs_are; undone_is = only.undone_is; grows = only.grows };
+      turn = record {
+        stays = λ o i. stays_held at old.received new.received old.vector new.vector h runs ready h.held r.holding.in_order holding.in_order o (r.turn.stays o i);
+        turn = subst (λ ns. AreHeldInTurn new.received.runs new.received.entries (clock_of first.vector) ns (clock_of new.vector)) (sym one_more)
+            (turn_held at old.received new.received old.vector new.vector h runs ready h.held order (clock_of first.vector) r.turn.turn);
+      };
     }
 
 -- ---- behind the last round
@@ -147,10 +162,10 @@ all_marked old new count lists marks more = record {
     go n false there le = absurd (omega (arith, le, length-marks count, slice_get_within (replicate count false) n false (more.kept n there).0))
 
 -- where nothing more is ready, all is held that can be
-pub round_last : (first k : HeldValue) (count : ℕ) (unset marks : List Bool) (tries : List Client) (lacks : List Lack) → IsRound first k unset marks tries → unset ≡ replicate count false →
+pub round_last : (first k : HeldValue) (count : ℕ) (unset marks : List Bool) (tries : List Client) (lacks : List Lack) (order : List ℕ) → IsRound first k unset marks tries order → unset ≡ replicate count false →
     count ≡ length first.names → Finds k.vector k.received.runs k.received.entries lacks [] None → StayMissing k.vector k.lacks k.vector lacks →
     HoldsRest first (record { received = k.received; vector = k.vector; names = k.names; lacks = lacks }) marks
-round_last first k count unset marks tries lacks r none each noted missing = record {
+round_last first k count unset marks tries lacks order r none each noted missing = record {
   holds = record {
     in_order = r.holding.in_order;
     held = held_all k r.holding unready;

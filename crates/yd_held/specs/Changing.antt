@@ -9,12 +9,18 @@ use Rattle.yd_held.specs.declared.parts.Kept.{Kept}
 use Rattle.yd_held.specs.declared.parts.Kept.TheVariants.{Count, All}
 use Rattle.yd_held.specs.Held.{HeldValue}
 use Rattle.yd_held.specs.Holding.{MarkChanges}
+use Rattle.yd_held.specs.Turn.{TellsOrder}
 
 -- which lists got units: those that there were keep their numbers; where all was held anew, each list did
 abbrev pub TellsChanges : Bool → List Bool → HeldValue → HeldValue → Type 0
 TellsChanges false stale old new =
     MarkChanges stale old.received.entries new.received.entries (length old.names) (length new.names) × GrowBy old.names new.names
 TellsChanges true stale old new = MarkChanges stale [] new.received.entries 0 (length new.names)
+
+-- what a change told is so: which lists got units, and in which order entries became held
+pub record TellsAll (anew : Bool) (stale : List Bool) (order : List ℕ) (old new : HeldValue) : Type 0 where
+  pub changes : TellsChanges anew stale old new
+  pub order_is : TellsOrder anew order old new
 
 -- ---- putting back
 

@@ -12,7 +12,7 @@ use Rattle.yd_meaning.specs.Held.{held_set}
 use Rattle.yd_received.specs.declared.entry.Entry.{Entry}
 use Rattle.yd_received.specs.declared.place.Place.{Place}
 use Rattle.yd_received.specs.declared.place.Place.TheVariants.{Waits, Lost, In}
-use Rattle.yd_received.specs.Entries.{is_held, GrowBy}
+use Rattle.yd_received.specs.Entries.{is_held, is_held_at, GrowBy}
 use Rattle.yd_received.specs.Received.{ReceivedValue, IsReceived, taken_of, held_of, with_place, undone}
 use Rattle.yd_held.specs.Held.{HeldValue, HoldsAll}
 use Rattle.yd_held.specs.Numbered.{number_of, is_in_list}
@@ -79,12 +79,13 @@ IsWithin most Waits = Unit {0}
 IsWithin most Lost = Unit {0}
 IsWithin most (In n) = n ≤ most
 
--- an entry got a place, and its client's clock is behind it
+-- an entry got a place and is held, and its client's clock is behind it
 pub record HoldsEntry (at : ℕ) (old new : List Entry) (vector raised : List (Client × ℕ)) : Type 0 where
   pub entry : Entry
   pub place : Place
   pub there : slice_get old at ≡ Some entry
   pub placed : new ≡ set old at (with_place entry place)
+  pub held : is_held_at place ≡ true
   pub raises : RaisesOnly vector raised entry.id.client.0 (entry.id.clock + entry.len)
 
 -- ---- when all is held that can be

@@ -7,3 +7,4 @@ pub mod Numbering
 pub mod Placed
 pub mod Readiness
 pub mod Trying
+pub mod Turn

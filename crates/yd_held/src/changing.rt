@@ -6,16 +6,17 @@ ghost use Rattle.yd_ops.specs.View.{update_value};
 ghost use Rattle.yd_updates.specs.Received.{with_groups, groups_of};
 ghost use Rattle.yd_received.specs.Received.{taken_of, brings};
 ghost use Rattle.yd_received.specs.Taking.{BringsOperation};
-ghost use Rattle.yd_held.specs.Changing.{TellsChanges, IsOf, back_to};
+ghost use Rattle.yd_held.specs.Changing.{TellsAll, IsOf, back_to};
 ghost use Rattle.yd_held.specs.Held.{held_value, HoldsAll};
 ghost use Rattle.yd_held.specs.Holding.{IsHolding, HoldsRest, OnlyHolds};
 ghost use Rattle.yd_held.specs.Noted.{AreNoted, AreMissing};
+ghost use Rattle.yd_held.specs.Turn.{HoldsInTurn};
 ghost use Rattle.yd_held.specs.declared.parts.Kept.TheVariants.{All};
 ghost use Rattle.yd_received.specs.Entries.{is_held, is_of_first};
 ghost use Rattle.yd_received.specs.Received.{IsReceived};
 
 use crate::fault::NoMemory;
-use crate::holding::hold_all;
+use crate::holding::{Gains, hold_all};
 use crate::parts::{Before, HeldParts, Kept};
 use crate::trying::{clients_from, clients_of};
 use std::mem;
@@ -33,6 +34,8 @@ pub(crate) struct Changed {
     pub anew: bool,
     /// A mark for each list: one with a mark got units, and one without got none.
     pub stale: Vec<bool>,
+    /// The numbers of the entries that became held, in the order in which they did.
+    pub order: Vec<usize>,
 }
 
 /// Takes the update in, and holds what can be held then: where it only added units, those that have
@@ -50,8 +53,8 @@ pub(crate) fn change(
         ≡ with_groups (groups_of (update_value update.now)) (taken_of held.old.received)) }
     ensures brings { IfOk result (λ changed. IsTrue changed.brings
         ↔ BringsOperation (update_value update.now) (taken_of held.old.received)) }
-    ensures told { IfOk result (λ changed. TellsChanges changed.anew changed.stale.items
-        (held_value held.old) (held_value held.new)) }
+    ensures told { IfOk result (λ changed. TellsAll changed.anew changed.stale.items
+        changed.order.items (held_value held.old) (held_value held.new)) }
     ensures holds { OnOk result (HoldsAll (held_value held.new)) }
     ensures back { back_to before.new (held_value held.new) ≡ held_value held.old }
 {
@@ -60,18 +63,20 @@ pub(crate) fn change(
     let brings = brings(&brought);
     if let Brought::Lowered(entries) = brought {
         set_aside(held, before, entries);
-        let stale = hold_anew(held)?;
+        let Gains { stale, order } = hold_anew(held)?;
         return Ok(Changed {
             brings,
             anew: true,
             stale,
+            order,
         });
     }
-    let stale = hold_new(held, from)?;
+    let Gains { stale, order } = hold_new(held, from)?;
     Ok(Changed {
         brings,
         anew: false,
         stale,
+        order,
     })
 }
 
@@ -86,20 +91,22 @@ fn brings(brought: &Brought) -> bool
 }
 
 /// Holds what can be held when the runs from one on are new.
-fn hold_new(held: &mut HeldParts, from: usize) -> Result<Vec<bool>, NoMemory>
+fn hold_new(held: &mut HeldParts, from: usize) -> Result<Gains, NoMemory>
     requires from { from ≤ length held.old.received.runs }
     requires holding { IsHolding (held_value held.old) }
     requires noted { AreNoted held.old.vector held.old.received.runs held.old.lacks.items []
         (filter (is_of_first from) held.old.received.entries) }
     requires missing { AreMissing held.old.vector held.old.lacks.items }
-    ensures held { IfOk result (λ stale.
-        HoldsRest (held_value held.old) (held_value held.new) stale.items) }
+    ensures held { IfOk result (λ gains.
+        HoldsRest (held_value held.old) (held_value held.new) gains.stale.items) }
+    ensures turn { IfOk result (λ gains.
+        HoldsInTurn gains.order.items (held_value held.old) (held_value held.new)) }
     ensures only { OnlyHolds (held_value held.old) (held_value held.new) }
 {
     let alloc = held.received.allocator();
     let tries = clients_from(alloc, held.received.runs(), from)?;
-    let stale = hold_all(held, tries)?;
-    Ok(stale)
+    let gains = hold_all(held, tries)?;
+    Ok(gains)
 }
 
 /// Puts aside which lists there are and what is lacked, so that nothing is held.
@@ -125,7 +132,7 @@ fn set_aside(held: &mut HeldParts, before: &mut Before, entries: Vec<Entry>)
 }
 
 /// Holds what can be held of what is received, when nothing is.
-fn hold_anew(held: &mut HeldParts) -> Result<Vec<bool>, NoMemory>
+fn hold_anew(held: &mut HeldParts) -> Result<Gains, NoMemory>
     requires received { IsReceived held.old.received }
     requires waits { filter is_held held.old.received.entries ≡ [] }
     requires nothing { held_value held.old ≡ record {
@@ -134,12 +141,14 @@ fn hold_anew(held: &mut HeldParts) -> Result<Vec<bool>, NoMemory>
       names = [];
       lacks = [];
     } }
-    ensures held { IfOk result (λ stale.
-        HoldsRest (held_value held.old) (held_value held.new) stale.items) }
+    ensures held { IfOk result (λ gains.
+        HoldsRest (held_value held.old) (held_value held.new) gains.stale.items) }
+    ensures turn { IfOk result (λ gains.
+        HoldsInTurn gains.order.items (held_value held.old) (held_value held.new)) }
     ensures only { OnlyHolds (held_value held.old) (held_value held.new) }
 {
     let alloc = held.received.allocator();
     let tries = clients_of(alloc, held.received.entries())?;
-    let stale = hold_all(held, tries)?;
-    Ok(stale)
+    let gains = hold_all(held, tries)?;
+    Ok(gains)
 }

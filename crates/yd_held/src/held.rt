@@ -9,6 +9,7 @@ ghost use Rattle.yd_received.specs.Received.{taken_of};
 ghost use Rattle.yd_received.specs.Taking.{BringsOperation};
 ghost use Rattle.yd_held.specs.Changing.{TellsChanges, back_to};
 ghost use Rattle.yd_held.specs.Held.{HoldsAll};
+ghost use Rattle.yd_held.specs.Turn.{TellsOrder};
 
 use crate::changing::{Changed, change};
 use crate::fault::NoMemory;
@@ -50,6 +51,9 @@ pub struct Taken {
     pub anew: bool,
     /// A mark for each list: one with a mark got units, and one without got none.
     pub stale: Vec<bool>,
+    /// The numbers of the entries that became held, in the order in which they did: each after what
+    /// it stands on, and after the smaller clocks of its client.
+    pub order: Vec<usize>,
     /// What puts back what was held before.
     pub before: Before,
 }
@@ -126,6 +130,8 @@ impl Held {
             ↔ BringsOperation (update_value update.now) (taken_of self.old.received)) }
         ensures told { IfOk result (λ taken. TellsChanges taken.anew taken.stale.items
             self.old self.new) }
+        ensures order { IfOk result (λ taken. TellsOrder taken.anew taken.order.items
+            self.old self.new) }
         ensures holds { HoldsAll self.new }
         ensures back { IfOk result (λ taken. back_to taken.before self.new ≡ self.old) }
         ensures unchanged { OnErr result (self.new ≡ self.old) }
@@ -137,11 +143,13 @@ impl Held {
                     brings,
                     anew,
                     stale,
+                    order,
                 },
             ) => Ok(Taken {
                 brings,
                 anew,
                 stale,
+                order,
                 before,
             }),
             Err(NoMemory) => {

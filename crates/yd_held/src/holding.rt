@@ -9,6 +9,7 @@ ghost use Rattle.yd_held.specs.Holding.{IsHolding, HoldsMore, HoldsRest, OnlyHol
 ghost use Rattle.yd_held.specs.Holding.{HoldsEntry, SetsMark, MarksPlace, IsWithin, count_waiting};
 ghost use Rattle.yd_held.specs.Noted.{AreNoted, AreMissing};
 ghost use Rattle.yd_held.specs.Readiness.{is_ready};
+ghost use Rattle.yd_held.specs.Turn.{HoldsInTurn};
 
 use crate::fault::NoMemory;
 use crate::noting::wake;
@@ -19,25 +20,37 @@ use std::alloc::Global;
 use yd_ids::Client;
 use yd_received::Place;
 
-/// Holds what can be held, where these clients are to be tried, and answers a mark for each list:
-/// one with a mark got units, and one without got none. Where memory ends, names may have been added
-/// and units held; put to wait again, these are as they were.
-pub(crate) fn hold_all(held: &mut HeldParts, tries: Vec<Client>) -> Result<Vec<bool>, NoMemory>
+/// What became held.
+#[derive(Drop)]
+pub(crate) struct Gains {
+    /// A mark for each list: one with a mark got units, and one without got none.
+    pub stale: Vec<bool>,
+    /// The numbers of the entries that became held, in the order in which they did.
+    pub order: Vec<usize>,
+}
+
+/// Holds what can be held, where these clients are to be tried. Where memory ends, names may have
+/// been added and units held; put to wait again, these are as they were.
+pub(crate) fn hold_all(held: &mut HeldParts, tries: Vec<Client>) -> Result<Gains, NoMemory>
     requires holding { IsHolding (held_value held.old) }
     requires noted { AreNoted held.old.vector held.old.received.runs held.old.lacks.items
         tries.items held.old.received.entries }
     requires missing { AreMissing held.old.vector held.old.lacks.items }
-    ensures held { IfOk result (λ stale.
-        HoldsRest (held_value held.old) (held_value held.new) stale.items) }
+    ensures held { IfOk result (λ gains.
+        HoldsRest (held_value held.old) (held_value held.new) gains.stale.items) }
+    ensures turn { IfOk result (λ gains.
+        HoldsInTurn gains.order.items (held_value held.old) (held_value held.new)) }
     ensures only { OnlyHolds (held_value held.old) (held_value held.new) }
 {
     let mut tries = tries;
+    let mut order = Vec::new(held.received.allocator());
     let mut stale = unmarked(held.received.allocator(), held.names.len())?;
     while let Some(at) = next_ready(&held.received, &held.vector, &mut held.lacks, &mut tries)? {
+        order.push(at)?;
         hold_at(held, &mut stale, at)?;
         wake(&mut held.lacks, &mut tries, held.received.entries()[at])?;
     }
-    Ok(stale)
+    Ok(Gains { stale, order })
 }
 
 /// So many marks that are not set.

@@ -1,7 +1,7 @@
 use Rattle.std.proofs.Common.{length, ap}
 use Rattle.yd_held.specs.Held.{held_value}
 use Rattle.yd_held.proofs.BackLemmas.{none_back, added_back}
-use Rattle.yd_held.proofs.KeptLemmas.{brought_adds, holding_added, noted_added, marked_alike}
+use Rattle.yd_held.proofs.KeptLemmas.{brought_adds, holding_added, noted_added, marked_alike, turn_alike}
 use Rattle.yd_held.proofs.changing.change.Goals as goal
 
 pub returns-in_err-brought-clause-back : goal.returns-in_err-brought-clause-back
@@ -31,8 +31,13 @@ returns-clause-back c =
 
 pub returns-clause-told : goal.returns-clause-told
 returns-clause-told c =
-    let adds = brought_adds c.args.held.now.received c.take.new.self c.in_ok-brought.brought c.in_default.not-Lowered c.in_ok-brought.ensures.brought in (
-      marked_alike c.in_ok-stale-2.stale.items c.args.held.now.received.entries c.take.new.self.entries c.hold_new.new.held.received.entries _ _ adds.held
-          c.in_ok-stale-2.ensures.held.marked,
-      c.hold_new.ensures.only.grows,
-    )
+    let old = held_value c.args.held.now in
+    let adds = brought_adds c.args.held.now.received c.take.new.self c.in_ok-brought.brought c.in_default.not-Lowered c.in_ok-brought.ensures.brought in
+    record {
+      changes = (
+        marked_alike c.in_ok-stale-2.field-0.stale.items c.args.held.now.received.entries c.take.new.self.entries c.hold_new.new.held.received.entries _ _ adds.held
+            c.in_ok-stale-2.ensures.held.marked,
+        c.hold_new.ensures.only.grows,
+      );
+      order_is = turn_alike old c.take.new.self c.requires.holds c.in_ok-brought.ensures.grows c.take.ensures.kept adds (held_value c.hold_new.new.held) c.in_ok-stale-2.field-0.order.items c.in_ok-stale-2.ensures.turn;
+    }

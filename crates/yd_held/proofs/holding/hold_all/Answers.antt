@@ -10,7 +10,7 @@ use Rattle.yd_held.proofs.holding.hold_all.Goals as goal
 
 pub loop-stale-init : goal.loop-stale-init
 loop-stale-init c =
-    round_first (held_value c.args.held.now) c.len.result c.in_ok-stale.stale.items c.args.tries.items c.in_ok-stale.ensures c.len.ensures
+    round_first (held_value c.args.held.now) c.len.result c.in_ok-stale.stale.items c.args.tries.items c.new-order.result.items c.new-order.ensures.items c.in_ok-stale.ensures c.len.ensures
     c.requires.holding c.requires.noted c.requires.missing
 
 pub next_ready-requires-clause-waiting : goal.next_ready-requires-clause-waiting
@@ -26,7 +26,7 @@ loop-stale-preserved c =
     (subst (λ us. Wakes (get_or us c.in-Some.at no_entry) new.lacks.items c.wake.new.lacks.items tries c.wake.new.tries.items) c.entries.ensures.entries c.in_ok-wake.ensures) in
     round_then (held_value c.args.held.now) (held_value old) (held_value new) c.in-Some.at lacks tries
     (subst (Finds old.vector old.received.runs old.received.entries lacks tries) c.in-Some.is c.in_ok-at.ensures.finds) c.in_ok-hold_at.ensures.held c.in_ok-hold_at.ensures.runs
-    c.in_ok-hold_at.ensures.grows c.wake.new.lacks.items c.wake.new.tries.items no_entry woken _ c.loop-stale.stale.items _ _ c.loop-stale.invariant c.in_ok-at.ensures.missing
+    c.in_ok-hold_at.ensures.grows c.wake.new.lacks.items c.wake.new.tries.items no_entry woken _ c.loop-stale.stale.items _ _ c.loop-stale.order.items _ c.in_ok-push.ensures.items c.loop-stale.invariant c.in_ok-at.ensures.missing
     c.in_ok-hold_at.ensures.holding c.in_ok-hold_at.ensures.more
 
 pub returns-in_err-wake-clause-only : goal.returns-in_err-wake-clause-only
@@ -42,7 +42,7 @@ returns-in_err-wake-clause-only c =
 pub returns-clause-held : goal.returns-clause-held
 returns-clause-held c =
     let held = c.loop-stale.held in
-    round_last _ (held_value held) c.len.result _ c.loop-stale.stale.items _ c.next_ready.new.lacks.items c.loop-stale.invariant c.in_ok-stale.ensures
+    round_last _ (held_value held) c.len.result _ c.loop-stale.stale.items _ c.next_ready.new.lacks.items _ c.loop-stale.invariant c.in_ok-stale.ensures
     c.len.ensures
     (subst (Finds held.vector held.received.runs held.received.entries c.next_ready.new.lacks.items c.next_ready.new.tries.items) c.in_default.is c.in_ok-at.ensures.finds)
     c.in_ok-at.ensures.missing
