@@ -31,7 +31,8 @@ told-operations t None some le = absurd (omega (arith, some, le))
 told-operations t (Some run) some le = ap (operations_from t.id t.left t.right (list_at (Some run) t.offset))
     (part-units t.offset t.len (content_value run.content) some (omega (arith, le, length-units_of_content (content_value run.content))))
 
-entry-operations : (runs : List Run) (t : Entry) → IsTakenOf runs t → operations_of_group (group_of_entry runs t) ≡ operations_of_taken runs t
+-- the group of an entry has its operations
+pub entry-operations : (runs : List Run) (t : Entry) → IsTakenOf runs t → operations_of_group (group_of_entry runs t) ≡ operations_of_taken runs t
 entry-operations runs t is = go t.is_gone is.told
   where
     go : (gone : Bool) → TellsRight gone runs t → operations_of_group (group_told gone runs t) ≡ operations_told gone runs t
