@@ -29,7 +29,7 @@ module _ {X : Type 0} where
   got_stays (z ∷ zs) ys zero y e = e
   got_stays (z ∷ zs) ys (suc m) y e = got_stays zs ys m y e
 
-  got_before : (x : X) (xs : List X) (m : ℕ) (y : X) → slice_get (xs ++ x ∷ []) m ≡ Some y → (slice_get xs m ≡ Some y) ⊎ ((m ≡ length xs) × (x ≡ y))
+  pub got_before : (x : X) (xs : List X) (m : ℕ) (y : X) → slice_get (xs ++ x ∷ []) m ≡ Some y → (slice_get xs m ≡ Some y) ⊎ ((m ≡ length xs) × (x ≡ y))
   got_before x [] zero y e = inr (refl, some_is x y e)
   got_before x [] (suc m) y e = absurd cc
   got_before x (z ∷ zs) zero y e = inl e

@@ -1,3 +1,4 @@
 mod CodesLemmas
 mod NamesLemmas
 mod FindingLemmas
+mod ItemsLemmas

@@ -57,7 +57,7 @@ has_code code (c ∷ cs) = later (last_place code cs) (nat_eq c code) refl (has_
 
 -- ---- the front of a list
 
-got_in_front : {X : Type 0} (k : ℕ) (xs : List X) (n : ℕ) (x : X) → slice_get (take k xs) n ≡ Some x → slice_get xs n ≡ Some x
+pub got_in_front : {X : Type 0} (k : ℕ) (xs : List X) (n : ℕ) (x : X) → slice_get (take k xs) n ≡ Some x → slice_get xs n ≡ Some x
 got_in_front zero xs n x e = absurd cc
 got_in_front (suc k) [] n x e = absurd cc
 got_in_front (suc k) (y ∷ ys) zero x e = e

@@ -1,3 +1,4 @@
 pub mod Codes
 pub mod Coding
+pub mod Items
 pub mod Names

@@ -1,0 +1,117 @@
+-- Items that have lists, where names come and go, and the first of them in a span.
+use Rattle.std.proofs.Common.{◌≡◌, ◌∙◌, ℕ, zero, suc, ◌+◌, ◌-◌, ◌*◌, ◌<◌, ◌≤◌, true, false, true≢false, List, [], ◌∷◌, ◌++◌, Option, Some, None, Result, Ok, Err, inl, inr, refl, sym, ap, subst, arith, tests, Less}
+use Rattle.std.specs.Prelude.{IfSome, map, slice_get, IsTrue, IsSome, OnOk, take, length}
+use Rattle.std.specs.Result.{is_ok}
+use Rattle.std.specs.Option.{option_to_list}
+use Rattle.std.specs.Ordering.{nat_cmp, is_gt}
+use Rattle.std.specs.BTreeSet.{BTreeSet, contains}
+use Rattle.std.proofs.lemmas.List.{map-append, take-map, length-map, length-append}
+use Rattle.yd_ids.specs.declared.id.Span.{Span}
+use Rattle.yd_ops.specs.declared.lists.List.{List as DocList}
+use Rattle.yd_meaning.specs.Names.{item_of_list, item_of_parent}
+use Rattle.yd_names.specs.Coding.{code_of_list}
+use Rattle.yd_names.specs.Items.{code_of_item, HasItems, IsFirstClock}
+use Rattle.yd_names.specs.Names.{code_of_own, AreCoded}
+use Rattle.yd_names.proofs.CodesLemmas.{got_before}
+use Rattle.yd_names.proofs.NamesLemmas.{got_in_front}
+
+-- ---- names that come and go
+
+pushed_items : (names : List DocList) (name : DocList) (old new : BTreeSet ℕ) → HasItems names old →
+    ((code : ℕ) → contains nat_cmp old code ≡ true → contains nat_cmp new code ≡ true) →
+    IfSome (item_of_parent name.parent) (λ id. contains nat_cmp new (code_of_item id) ≡ true) → HasItems (names ++ name ∷ []) new
+pushed_items names name old new has kept added = λ item h. elim (got_before name names h.number h.list h.there) [
+  | inl e ↦ kept (code_of_item item) (has item (record { number = h.number; list = h.list; there = e; own = h.own }))
+  | inr (e, same) ↦ subst (λ z. IfSome z (λ id. contains nat_cmp new (code_of_item id) ≡ true)) (ap item_of_list same ∙ h.own) added
+]
+
+pushed_codes : (f : DocList → ℕ) (names : List DocList) (name : DocList) (old new : List ℕ) (code : ℕ) → old ≡ map f names → code ≡ f name → new ≡ old ++ code ∷ [] →
+    new ≡ map f (names ++ name ∷ [])
+pushed_codes f names name old new code e same more = more ∙ ap (λ cs. cs ++ code ∷ []) e ∙ ap (λ c. map f names ++ c ∷ []) same ∙ sym (map-append f names (name ∷ []))
+
+pub pushed_coded : (names : List DocList) (name : DocList) (codes more_codes parents more_parents : List ℕ) (items more_items : BTreeSet ℕ) (code own : ℕ) →
+    AreCoded names codes parents items → code ≡ code_of_list name → own ≡ code_of_own name → more_codes ≡ codes ++ code ∷ [] → more_parents ≡ parents ++ own ∷ [] →
+    ((code : ℕ) → contains nat_cmp items code ≡ true → contains nat_cmp more_items code ≡ true) →
+    IfSome (item_of_parent name.parent) (λ id. contains nat_cmp more_items (code_of_item id) ≡ true) → AreCoded (names ++ name ∷ []) more_codes more_parents more_items
+pushed_coded names name codes more_codes parents more_parents items more_items code own coded e f g h kept added = record {
+  names_are = pushed_codes code_of_list names name codes more_codes code coded.names_are e g;
+  parents_are = pushed_codes code_of_own names name parents more_parents own coded.parents_are f h;
+  items_are = pushed_items names name items more_items coded.items_are kept added;
+}
+
+popped_codes : (f : DocList → ℕ) (names : List DocList) (old new : List ℕ) → old ≡ map f names → new ≡ take (length old - 1) old → new ≡ map f (take (length names - 1) names)
+popped_codes f names old new e less = less ∙ ap (λ cs. take (length cs - 1) cs) e ∙ ap (λ n. take (n - 1) (map f names)) (length-map names f)
+    ∙ take-map f (length names - 1) names
+
+-- what holds where a call succeeds holds where it did
+pub on_success : {T E P : Type 0} (z : Result T E) → is_ok z ≡ true → OnOk z P → P
+on_success (Ok x) e p = p
+on_success (Err x) e p = absurd (true≢false (sym e))
+
+pub without_last : {X : Type 0} (xs ys : List X) (last : Option X) → xs ≡ ys ++ option_to_list last → IsSome last → ys ≡ take (length xs - 1) xs
+without_last xs ys None e some = absurd (true≢false (sym some))
+without_last {X = X} xs ys (Some x) e some = sym (ap (λ zs. take (length zs - 1) zs) e ∙ ap (λ n. take (n - 1) (ys ++ x ∷ [])) (length-append ys (x ∷ [])) ∙ front ys)
+  where
+    front : (zs : List X) → take (length zs + 1 - 1) (zs ++ x ∷ []) ≡ zs
+    front zs = ap (λ n. take n (zs ++ x ∷ [])) (omega arith) ∙ go zs
+      where
+        go : (zs : List X) → take (length zs) (zs ++ x ∷ []) ≡ zs
+        go [] = refl
+        go (z ∷ zs) = ap (λ l. z ∷ l) (go zs)
+
+-- what is known of names is known of those but the last
+pub popped_coded : (names fewer : List DocList) (codes less_codes parents less_parents : List ℕ) (items : BTreeSet ℕ) → AreCoded names codes parents items →
+    fewer ≡ take (length names - 1) names → less_codes ≡ take (length codes - 1) codes → less_parents ≡ take (length parents - 1) parents →
+    AreCoded fewer less_codes less_parents items
+popped_coded names fewer codes less_codes parents less_parents items coded e f g = subst (λ ns. AreCoded ns less_codes less_parents items) (sym e) (record {
+  names_are = popped_codes code_of_list names codes less_codes coded.names_are f;
+  parents_are = popped_codes code_of_own names parents less_parents coded.parents_are g;
+  items_are = λ item h. coded.items_are item
+      (record { number = h.number; list = h.list; there = got_in_front (length names - 1) names h.number h.list h.there; own = h.own });
+})
+
+take_less : {X : Type 0} (m n : ℕ) (xs : List X) → m ≤ n → take m (take n xs) ≡ take m xs
+take_less zero n xs le = refl
+take_less (suc m) zero xs le = absurd (omega (arith, le))
+take_less (suc m) (suc n) [] le = refl
+take_less (suc m) (suc n) (x ∷ xs) le = ap (λ ys. x ∷ ys) (take_less m n xs (omega (arith, le)))
+
+pub front_stays : {X : Type 0} (k : ℕ) (xs ys : List X) → k < length xs → ys ≡ take (length xs - 1) xs → take k ys ≡ take k xs
+front_stays k xs ys lt e = ap (λ zs. take k zs) e ∙ take_less k (length xs - 1) xs (omega (arith, lt))
+
+-- ---- the first of a span
+
+at_or_above : (a b : ℕ) → is_gt (nat_cmp a b) ≡ false → a ≤ b
+at_or_above a b e = grind (arith, tests)
+
+not_above : (a b : ℕ) → a ≤ b → is_gt (nat_cmp a b) ≡ false
+not_above a b le = grind (arith, tests)
+
+below : (a b : ℕ) → nat_cmp a b ≡ Less → a < b
+below a b e = grind (arith, tests)
+
+is_below : (a b : ℕ) → a < b → nat_cmp a b ≡ Less
+is_below a b lt = grind (arith, tests)
+
+-- a code is known, and between two bounds
+abbrev IsKnown : BTreeSet ℕ → ℕ → ℕ → ℕ → Type 0
+IsKnown items low high code = ((is_gt (nat_cmp low code) ≡ false) × (nat_cmp code high ≡ Less)) × IsTrue (contains nat_cmp items code)
+
+module _ (items : BTreeSet ℕ) (span : Span) (low high : ℕ) (lowest : low ≡ span.client.0 * 18446744073709551616 + span.clock) (highest : high ≡ low + span.len) where
+  pub first_known : (r : List ℕ) (code : ℕ) (rest : List ℕ) → r ≡ code ∷ rest → IfSome (slice_get r 0) (IsKnown items low high) →
+      ((q : ℕ) → (is_gt (nat_cmp low q) ≡ false) × (nat_cmp q high ≡ Less) → IsTrue (contains nat_cmp items q) → IfSome (slice_get r 0) (λ k. is_gt (nat_cmp k q) ≡ false)) →
+      IsFirstClock items span (Some (span.clock + (code - low)))
+  first_known r code rest e is least =
+      let first : IsKnown items low high code = subst (λ ks. IfSome (slice_get ks 0) (IsKnown items low high)) e is in
+      let from : low ≤ code = at_or_above low code first.0.0 in
+      let to : code < high = below code high first.0.1 in (
+        omega arith,
+        omega (arith, from, to, highest),
+        (λ item known i.
+            let up : low ≤ code_of_item item = omega (arith, lowest, i.0, i.1) in
+            let down : code_of_item item < high = omega (arith, lowest, highest, i.0, i.2) in
+            let le : code ≤ code_of_item item = at_or_above code (code_of_item item)
+            (subst (λ ks. IfSome (slice_get ks 0) (λ k. is_gt (nat_cmp k (code_of_item item)) ≡ false)) e
+            (least (code_of_item item) (not_above low (code_of_item item) up, is_below (code_of_item item) high down) known)) in
+            omega (arith, lowest, i.0, from, le)),
+      )
