@@ -1,6 +1,9 @@
 //! The store with the names of its lists.
 
 ghost use Rattle.std.specs.Prelude.{◌≡◌, ◌≢◌, ◌<◌, [], ℕ, Some, slice_get, IfSome, IfNone};
+ghost use Rattle.yd_ids.specs.Id.{IsSpan};
+ghost use Rattle.yd_names.specs.Items.{IsFirstItem};
+ghost use Rattle.yd_names.specs.Names.{IsOf, IsLastOf, top_of};
 ghost use Rattle.yd_arena.specs.Lists.{AreLists};
 ghost use Rattle.yd_arena.specs.Arena.{IsArena, runs_of, count_of, next_clock};
 ghost use Rattle.yd_store.specs.Contents.{told_of};
@@ -8,8 +11,9 @@ ghost use Rattle.yd_store.specs.Store.{AreTold};
 
 use std::alloc::Global;
 use std::marker::Model;
+use yd_ids::{Id, Span};
 use yd_names::Names;
-use yd_ops::List;
+use yd_ops::{List, Parent};
 use yd_store::Store;
 
 /// The runs that are held, in lists that have names.
@@ -76,5 +80,24 @@ impl Kept {
         ensures none { IfNone result ((n : ℕ) → slice_get self.now.names n ≢ Some name.now) }
     {
         self.names.number_of(name)
+    }
+
+    /// The last of a parent's lists, or the last one before another of them, as `Names::last_of`
+    /// finds it.
+    pub fn last_of(&self, parent: &Parent, before: Option<usize>) -> Option<usize>
+        requires { IfSome before (λ n. IsOf self.now.names parent.now n) }
+        ensures last { IsLastOf self.now.names parent.now (top_of self.now.names before) result }
+        ensures within { IfSome result (λ n. n < count_of self.now.store.placed) }
+    {
+        self.names.last_of(parent, before)
+    }
+
+    /// The first item of a span below which no item of the span has a list, as `Names::first_item`
+    /// finds it.
+    pub fn first_item(&self, span: Span) -> Option<Id>
+        requires { IsSpan span }
+        ensures { IsFirstItem self.now.names span result }
+    {
+        self.names.first_item(span)
     }
 }
