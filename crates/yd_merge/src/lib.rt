@@ -6,14 +6,7 @@
 //! out by runs. [`write_cut`] writes that of what was received before. All that is written is pushed
 //! into a `yd_building::Builder`, whose update is the grouping of it. [`vector_of`] tells of each
 //! client the smallest clock that an update does not have, and [`vector_of_all`] that of a merge,
-//! without merging.
-//! out by runs. [`write_cut`] writes that of what was received before. What is written goes through a
-//! [`Builder`]: it is pushed what structs have, in the order of writing and in pieces of any size, and
-//! joins each piece with the one before where they are one run that was cut, or gone units with clocks
-//! in a row. So what it makes is the grouping of all that it was pushed
-//! (`yd_grouping::law::builder_groups`). [`vector_of`] tells of each client the smallest clock that an
-//! update does not have, and [`vector_of_all`] that of a merge, without merging. [`group_of`] copies
-//! what an entry of a `Received` has.
+//! without merging. [`group_of`] copies what an entry of a `Received` has.
 //!
 //! ```rust
 //! let merged = merge(alloc, &[first, second])?;
