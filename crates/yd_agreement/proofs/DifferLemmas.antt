@@ -10,7 +10,7 @@ use Rattle.yd_ops.specs.Value.{ContentValue, RunValue, len_of}
 use Rattle.yd_ops.proofs.OperationLemmas.{length-units_of_content}
 use Rattle.yd_grouping.specs.Sameness.{same_content}
 use Rattle.yd_grouping.proofs.SamenessLemmas.{content_decides}
-use Rattle.yd_received.proofs.UnitLemmas.{from_unit}
+use Rattle.yd_entries.proofs.UnitLemmas.{from_unit}
 use Rattle.yd_agreement.specs.Differing.{Differ, IsOther, content_of}
 use Rattle.yd_agreement.specs.First.{IsFirst}
 use Rattle.yd_agreement.specs.Runs.{ComesBy}

@@ -9,8 +9,8 @@ use Rattle.yd_ops.specs.Value.{RunValue, len_of}
 use Rattle.yd_ops.specs.declared.lists.List.{List as DocList}
 use Rattle.yd_ops.proofs.OperationLemmas.{later_later, later_none, length-units_of_content}
 use Rattle.yd_grouping.proofs.BreakingLemmas.{same_all}
-use Rattle.yd_received.specs.Taking.{left_at, list_from}
-use Rattle.yd_received.proofs.UnitLemmas.{later_same}
+use Rattle.yd_entries.specs.Taking.{left_at, list_from}
+use Rattle.yd_entries.proofs.UnitLemmas.{later_same}
 use Rattle.yd_agreement.specs.Differing.{Differ, Place, is_placed, place_of}
 use Rattle.yd_agreement.specs.First.{IsFirst}
 use Rattle.yd_agreement.proofs.SweepLemmas.{with_id}

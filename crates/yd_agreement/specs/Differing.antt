@@ -8,7 +8,7 @@ use Rattle.yd_ops.specs.Operation.{Operation, UnitContent, operations_of_run}
 use Rattle.yd_ops.specs.Value.{ContentValue, RunValue, len_of}
 use Rattle.yd_ops.specs.declared.lists.List.{List as DocList}
 use Rattle.yd_meaning.specs.Names.{same_carried}
-use Rattle.yd_received.specs.Taking.{left_at, list_from}
+use Rattle.yd_entries.specs.Taking.{left_at, list_from}
 use Rattle.yd_agreement.specs.Units.{unit_of}
 
 -- two runs have operations with this id that differ in what is told of them

@@ -13,8 +13,8 @@ use Rattle.yd_ops.specs.Valid.{CarriesList, IsValidContent}
 use Rattle.yd_ops.specs.View.{content_value}
 use Rattle.yd_grouping.specs.Groupable.{AreGroupable, IsValidOperation, IsValidUnitContent}
 use Rattle.yd_grouping.proofs.ValidLemmas.{content_valid, from_valid, gone_valid}
-use Rattle.yd_received.specs.declared.entry.Entry.{Entry}
-use Rattle.yd_received.specs.Entries.{IsTakenOf, TellsRight, list_at, operations_in, operations_of_taken, operations_told, units_of}
+use Rattle.yd_entries.specs.declared.entry.Entry.{Entry}
+use Rattle.yd_entries.specs.Entries.{IsTakenOf, TellsRight, list_at, operations_in, operations_of_taken, operations_told, units_of}
 use Rattle.yd_state.specs.State.{IsSound, StateValue, received_in}
 
 -- what is gone has its id alone

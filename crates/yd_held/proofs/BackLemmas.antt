@@ -5,10 +5,10 @@ use Rattle.yd_words.specs.Each.{Each}
 use Rattle.yd_words.specs.Member.{IsIn}
 use Rattle.yd_words.proofs.MemberLemmas.{in_each}
 use Rattle.yd_ids.specs.declared.id.Client.{Client}
-use Rattle.yd_received.specs.declared.entry.Entry.{Entry}
-use Rattle.yd_received.specs.declared.place.Place.{Place}
-use Rattle.yd_received.specs.declared.place.Place.TheVariants.{Waits, Lost, In}
-use Rattle.yd_received.specs.Entries.{GrowBy, is_held, is_held_at, is_of_first, OnlyAdds}
+use Rattle.yd_entries.specs.declared.entry.Entry.{Entry}
+use Rattle.yd_entries.specs.declared.place.Place.{Place}
+use Rattle.yd_entries.specs.declared.place.Place.TheVariants.{Waits, Lost, In}
+use Rattle.yd_entries.specs.Entries.{GrowBy, is_held, is_held_at, is_of_first, OnlyAdds}
 use Rattle.yd_received.specs.Received.{ReceivedValue, with_place, undone, is_below, put_back}
 use Rattle.yd_received.proofs.RestoringLemmas.{filter-all, of_first, front_back}
 use Rattle.yd_held.specs.declared.parts.Before.{Before}

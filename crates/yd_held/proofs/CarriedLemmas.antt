@@ -7,8 +7,8 @@ use Rattle.yd_ops.specs.declared.lists.List.{List as DocList}
 use Rattle.yd_ops.specs.declared.runs.Run.{Run}
 use Rattle.yd_ops.specs.Valid.{CarriesList}
 use Rattle.yd_meaning.specs.Order.{list_or_root}
-use Rattle.yd_received.specs.declared.entry.Entry.{Entry}
-use Rattle.yd_received.specs.Entries.{list_at, carried_of, IsTakenOf, TellsRight}
+use Rattle.yd_entries.specs.declared.entry.Entry.{Entry}
+use Rattle.yd_entries.specs.Entries.{list_at, carried_of, IsTakenOf, TellsRight}
 
 -- units without origins are the first of their run, and carry its list
 run_list : (runs : List Run) (at : ℕ) (run : Run) (offset : ℕ) (left right : Option Id) (name : DocList) → at < length runs → run ≡ get_or runs at run →

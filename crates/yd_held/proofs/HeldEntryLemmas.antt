@@ -9,12 +9,12 @@ use Rattle.yd_ops.specs.declared.runs.Run.{Run}
 use Rattle.yd_ops.specs.Operation.{Operation}
 use Rattle.yd_updates.specs.Received.{has_operation, IsWritten}
 use Rattle.yd_updates.proofs.OneOfLemmas.{operation_with, id_there, ids_stay}
-use Rattle.yd_received.specs.declared.entry.Entry.{Entry}
-use Rattle.yd_received.specs.Entries.{operations_of_taken, operations_in, covers, IsTakenOf}
-use Rattle.yd_received.specs.Taking.{is_covered}
+use Rattle.yd_entries.specs.declared.entry.Entry.{Entry}
+use Rattle.yd_entries.specs.Entries.{operations_of_taken, operations_in, covers, IsTakenOf}
+use Rattle.yd_entries.specs.Taking.{is_covered}
 use Rattle.yd_received.specs.Received.{ReceivedValue, IsReceived, taken_of}
-use Rattle.yd_received.proofs.EntriesLemmas.{one_entry, each_kept, order_kept}
-use Rattle.yd_received.proofs.TakenLemmas.{has_covered, in_written}
+use Rattle.yd_entries.proofs.EntriesLemmas.{one_entry, each_kept, order_kept}
+use Rattle.yd_entries.proofs.TakenLemmas.{has_covered, in_written}
 use Rattle.yd_held.proofs.HeldUnitLemmas.{covers_unit, unit_covers}
 
 -- ---- operations and entries

@@ -13,14 +13,14 @@ use Rattle.yd_ops.specs.Value.{ContentValue, json, binary, string, embed, format
 use Rattle.yd_ops.specs.View.{content_value}
 use Rattle.yd_updates.proofs.OneOfLemmas.{id_is_there}
 use Rattle.yd_meaning.specs.Held.{is_gone}
-use Rattle.yd_received.specs.declared.entry.Entry.{Entry}
-use Rattle.yd_received.specs.declared.place.Place.{Place}
-use Rattle.yd_received.specs.Entries.{units_of, list_at, operations_told, operations_of_taken, carried_of, covers, IsTakenOf, TellsRight}
+use Rattle.yd_entries.specs.declared.entry.Entry.{Entry}
+use Rattle.yd_entries.specs.declared.place.Place.{Place}
+use Rattle.yd_entries.specs.Entries.{units_of, list_at, operations_told, operations_of_taken, carried_of, covers, IsTakenOf, TellsRight}
 use Rattle.yd_received.specs.Received.{with_place}
-use Rattle.yd_received.proofs.EntryLemmas.{covers_in}
-use Rattle.yd_received.proofs.ScanLemmas.{taken_level, taken_at}
-use Rattle.yd_received.proofs.TakenLemmas.{has_taken}
-use Rattle.yd_received.specs.Lowering.{level_of_content, level_of_run, level_told}
+use Rattle.yd_entries.proofs.EntryLemmas.{covers_in}
+use Rattle.yd_entries.proofs.ScanLemmas.{taken_level, taken_at}
+use Rattle.yd_entries.proofs.TakenLemmas.{has_taken}
+use Rattle.yd_entries.specs.Lowering.{level_of_content, level_of_run, level_told}
 
 abbrev pub id_at : Client → ℕ → Id
 id_at client k = record { client = client; clock = k }

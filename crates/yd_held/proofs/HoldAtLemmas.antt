@@ -11,13 +11,14 @@ use Rattle.yd_ids.specs.Vector.{RaisesOnly}
 use Rattle.yd_ops.specs.declared.lists.List.{List as DocList}
 use Rattle.yd_meaning.specs.Held.{item_carried}
 use Rattle.yd_meaning.specs.Order.{list_or_root, list_of}
-use Rattle.yd_received.specs.declared.entry.Entry.{Entry}
-use Rattle.yd_received.specs.declared.place.Place.{Place}
-use Rattle.yd_received.specs.declared.place.Place.TheVariants.{Waits, Lost, In}
-use Rattle.yd_received.specs.Entries.{carried_of, is_held, is_held_at, IsTakenOf}
+use Rattle.yd_entries.specs.declared.entry.Entry.{Entry}
+use Rattle.yd_entries.specs.declared.place.Place.{Place}
+use Rattle.yd_entries.specs.declared.place.Place.TheVariants.{Waits, Lost, In}
+use Rattle.yd_entries.specs.Entries.{carried_of, is_held, is_held_at, IsTakenOf}
 use Rattle.yd_received.specs.Received.{ReceivedValue, listed_of, GetsPlace, with_place}
-use Rattle.yd_received.specs.Taking.{is_covered}
-use Rattle.yd_received.proofs.ChangeLemmas.{entry_got, filter-set, filter-grows, operations-place}
+use Rattle.yd_entries.specs.Taking.{is_covered}
+use Rattle.yd_entries.proofs.ChangeLemmas.{entry_got, filter-set, filter-grows}
+use Rattle.yd_received.proofs.PlacingLemmas.{operations-place}
 use Rattle.yd_held.specs.Held.{HeldValue}
 use Rattle.yd_held.specs.Holding.{IsHolding, HoldsMore, HoldsEntry, MarksPlace, IsWithin, count_waiting}
 use Rattle.yd_held.specs.Numbered.{number_of, is_in_list}

@@ -13,13 +13,14 @@ use Rattle.yd_updates.proofs.OneOfLemmas.{operation_with, id_is_there, id_there,
 use Rattle.yd_meaning.specs.Held.{needs, held_set}
 use Rattle.yd_meaning.proofs.HeldLemmas.{held_set-part}
 use Rattle.yd_meaning.proofs.ClockLemmas.{AreReached, AreReady, raise_reached, below_held}
-use Rattle.yd_received.specs.declared.entry.Entry.{Entry}
-use Rattle.yd_received.specs.declared.place.Place.{Place}
-use Rattle.yd_received.specs.Entries.{operations_of_taken, covers, carried_of, is_held, is_held_at, IsTakenOf}
+use Rattle.yd_entries.specs.declared.entry.Entry.{Entry}
+use Rattle.yd_entries.specs.declared.place.Place.{Place}
+use Rattle.yd_entries.specs.Entries.{operations_of_taken, covers, carried_of, is_held, is_held_at, IsTakenOf}
 use Rattle.yd_received.specs.Received.{ReceivedValue, IsReceived, taken_of, held_of, with_place}
-use Rattle.yd_received.proofs.ChangeLemmas.{entry_got, set_has_new, set_has, set_is, are_taken-place, operations-placed, operations-place}
-use Rattle.yd_received.proofs.EntryLemmas.{covers_in}
-use Rattle.yd_received.proofs.WrittenLemmas.{taken_written}
+use Rattle.yd_entries.proofs.ChangeLemmas.{entry_got, set_has_new, set_has, set_is}
+use Rattle.yd_received.proofs.PlacingLemmas.{are_taken-place, operations-placed, operations-place}
+use Rattle.yd_entries.proofs.EntryLemmas.{covers_in}
+use Rattle.yd_entries.proofs.WrittenLemmas.{taken_written}
 use Rattle.yd_held.specs.Held.{HeldValue}
 use Rattle.yd_held.specs.Holding.{IsHolding}
 use Rattle.yd_held.specs.Readiness.{IsOriginOf}

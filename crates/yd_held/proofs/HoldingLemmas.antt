@@ -15,8 +15,8 @@ use Rattle.yd_meaning.specs.Held.{id_before, item_carried, sources, needs, held_
 use Rattle.yd_meaning.proofs.HeldLemmas.{held_needs, held_id_grows}
 use Rattle.yd_meaning.proofs.NeedLemmas.{left_source, right_source, item_source, source_is, source_needed}
 use Rattle.yd_meaning.proofs.ClockLemmas.{AreReached}
-use Rattle.yd_received.specs.declared.entry.Entry.{Entry}
-use Rattle.yd_received.specs.Entries.{operations_of_taken, is_held, IsTakenOf, carried_of}
+use Rattle.yd_entries.specs.declared.entry.Entry.{Entry}
+use Rattle.yd_entries.specs.Entries.{operations_of_taken, is_held, IsTakenOf, carried_of}
 use Rattle.yd_received.specs.Received.{is_below, taken_of, held_of}
 use Rattle.yd_held.specs.Held.{HeldValue}
 use Rattle.yd_held.specs.Holding.{IsHolding}

@@ -20,15 +20,15 @@ use Rattle.yd_meaning.proofs.HeldLemmas.{held_needs, held_set-part}
 use Rattle.yd_meaning.proofs.VectorLemmas.{held_below}
 use Rattle.yd_received.specs.declared.brought.Brought.{Brought}
 use Rattle.yd_received.specs.declared.brought.Brought.TheVariants.{Nothing, Added, Lowered}
-use Rattle.yd_received.specs.declared.entry.Entry.{Entry}
-use Rattle.yd_received.specs.declared.place.Place.{Place}
-use Rattle.yd_received.specs.declared.place.Place.TheVariants.{Waits, Lost, In}
-use Rattle.yd_received.specs.Entries.{operations_in, carried_of, list_at, IsTakenOf, is_held, is_held_at, is_of_first, GrowBy, OnlyAdds}
+use Rattle.yd_entries.specs.declared.entry.Entry.{Entry}
+use Rattle.yd_entries.specs.declared.place.Place.{Place}
+use Rattle.yd_entries.specs.declared.place.Place.TheVariants.{Waits, Lost, In}
+use Rattle.yd_entries.specs.Entries.{operations_in, carried_of, list_at, IsTakenOf, is_held, is_held_at, is_of_first, GrowBy, OnlyAdds}
 use Rattle.yd_received.specs.Received.{ReceivedValue, IsReceived, IsBrought, taken_of, held_of}
-use Rattle.yd_received.proofs.EntriesLemmas.{each_kept}
+use Rattle.yd_entries.proofs.EntriesLemmas.{each_kept}
 use Rattle.yd_received.proofs.RestoringLemmas.{of_first, filter-all}
-use Rattle.yd_received.proofs.TakenLemmas.{grown_get, grown_in}
-use Rattle.yd_received.proofs.WrittenLemmas.{taken_written}
+use Rattle.yd_entries.proofs.TakenLemmas.{grown_get, grown_in}
+use Rattle.yd_entries.proofs.WrittenLemmas.{taken_written}
 use Rattle.yd_held.specs.declared.noting.Lack.{Lack}
 use Rattle.yd_held.specs.Held.{HeldValue, HoldsAll}
 use Rattle.yd_held.specs.Holding.{IsHolding, MarkChanges}

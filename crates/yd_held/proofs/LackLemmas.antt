@@ -7,8 +7,8 @@ use Rattle.yd_words.proofs.FilterLemmas.{kept_one}
 use Rattle.yd_words.proofs.MemberLemmas.{each_in, in_each}
 use Rattle.yd_ids.specs.declared.id.Id.{Id}
 use Rattle.yd_ids.proofs.IdLemmas.{same_numbers}
-use Rattle.yd_received.specs.declared.entry.Entry.{Entry}
-use Rattle.yd_received.specs.Entries.{covers}
+use Rattle.yd_entries.specs.declared.entry.Entry.{Entry}
+use Rattle.yd_entries.specs.Entries.{covers}
 use Rattle.yd_held.specs.declared.noting.Lack.{Lack}
 use Rattle.yd_held.specs.Noted.{stands_before, same_lack, first_lack, AreSorted, with_lack}
 use Rattle.yd_words.specs.Member.{IsIn}

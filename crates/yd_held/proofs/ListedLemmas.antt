@@ -19,10 +19,10 @@ use Rattle.yd_meaning.proofs.RoundLemmas.{last_least}
 use Rattle.yd_meaning.proofs.StandingLemmas.{remaining}
 use Rattle.yd_meaning.proofs.StandingTableLemmas.{standing_table}
 use Rattle.yd_meaning.proofs.HeldListLemmas.{list_of-one, list_of-left}
-use Rattle.yd_received.specs.declared.entry.Entry.{Entry}
-use Rattle.yd_received.specs.declared.place.Place.{Place}
-use Rattle.yd_received.specs.declared.place.Place.TheVariants.{Waits, Lost, In}
-use Rattle.yd_received.specs.Entries.{operations_of_taken, carried_of, covers, is_listed, is_listed_at}
+use Rattle.yd_entries.specs.declared.entry.Entry.{Entry}
+use Rattle.yd_entries.specs.declared.place.Place.{Place}
+use Rattle.yd_entries.specs.declared.place.Place.TheVariants.{Waits, Lost, In}
+use Rattle.yd_entries.specs.Entries.{operations_of_taken, carried_of, covers, is_listed, is_listed_at}
 use Rattle.yd_received.specs.Received.{ReceivedValue, listed_of, held_of}
 use Rattle.yd_held.specs.Held.{HeldValue}
 use Rattle.yd_held.specs.Holding.{IsHolding}

@@ -10,9 +10,9 @@ use Rattle.yd_ids.specs.declared.id.Id.{Id}
 use Rattle.yd_ids.specs.Vector.{clock_of}
 use Rattle.yd_ids.proofs.IdLemmas.{same_numbers}
 use Rattle.yd_ops.specs.declared.runs.Run.{Run}
-use Rattle.yd_received.specs.declared.entry.Entry.{Entry}
-use Rattle.yd_received.specs.Entries.{covers, carried_of, is_held, IsTakenOf, AreInOrder}
-use Rattle.yd_received.proofs.EntriesLemmas.{one_entry}
+use Rattle.yd_entries.specs.declared.entry.Entry.{Entry}
+use Rattle.yd_entries.specs.Entries.{covers, carried_of, is_held, IsTakenOf, AreInOrder}
+use Rattle.yd_entries.proofs.EntriesLemmas.{one_entry}
 use Rattle.yd_words.specs.Member.{IsIn}
 use Rattle.yd_words.proofs.MemberLemmas.{each_in, in_each}
 use Rattle.yd_meaning.specs.Held.{item_carried}
@@ -22,10 +22,10 @@ use Rattle.yd_held.specs.Readiness.{IsOriginOf, is_none_or_below, missing_of, fi
 use Rattle.yd_held.specs.Noted.{AreSorted, with_lack, Wakes, IsNoted, IsNotedOrTried, AreNoted, AreMissing}
 use Rattle.yd_held.specs.Holding.{HoldsEntry}
 use Rattle.yd_held.specs.Trying.{IsNext}
-use Rattle.yd_received.proofs.EntryLemmas.{covers_in}
+use Rattle.yd_entries.proofs.EntryLemmas.{covers_in}
 use Rattle.yd_held.proofs.HeldUnitLemmas.{covers_first}
 use Rattle.yd_held.proofs.HoldingLemmas.{above_not}
-use Rattle.yd_received.proofs.ChangeLemmas.{set_is}
+use Rattle.yd_entries.proofs.ChangeLemmas.{set_is}
 use Rattle.yd_held.proofs.LackLemmas.{sorted_kept, with_has, with_stays, with_sorted, each_with}
 
 -- ---- standing in a list

@@ -6,16 +6,16 @@ use Rattle.yd_words.specs.Each.{Each}
 use Rattle.yd_words.proofs.OptionLemmas.{some_is}
 use Rattle.yd_words.proofs.EachLemmas.{each_at}
 use Rattle.yd_ids.specs.declared.id.Id.{Id}
-use Rattle.yd_received.specs.declared.entry.Entry.{Entry}
-use Rattle.yd_received.specs.declared.place.Place.{Place}
-use Rattle.yd_received.specs.declared.place.Place.TheVariants.{Waits, Lost, In}
-use Rattle.yd_received.specs.Entries.{covers, is_held, is_held_at, StandsBefore, AreInOrder}
-use Rattle.yd_received.specs.Taking.{is_covered}
+use Rattle.yd_entries.specs.declared.entry.Entry.{Entry}
+use Rattle.yd_entries.specs.declared.place.Place.{Place}
+use Rattle.yd_entries.specs.declared.place.Place.TheVariants.{Waits, Lost, In}
+use Rattle.yd_entries.specs.Entries.{covers, is_held, is_held_at, StandsBefore, AreInOrder}
+use Rattle.yd_entries.specs.Taking.{is_covered}
 use Rattle.yd_received.specs.Received.{with_place}
-use Rattle.yd_received.proofs.EntriesLemmas.{apart}
+use Rattle.yd_entries.proofs.EntriesLemmas.{apart}
 use Rattle.yd_words.specs.Member.{IsIn}
 use Rattle.yd_words.proofs.MemberLemmas.{each_in}
-use Rattle.yd_received.proofs.LookupLemmas.{covered_begins, behind_covered}
+use Rattle.yd_entries.proofs.LookupLemmas.{covered_begins, behind_covered}
 use Rattle.yd_held.specs.Numbered.{list_at_place, number_of}
 
 -- the number of an id is that of its entry

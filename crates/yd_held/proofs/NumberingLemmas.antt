@@ -2,9 +2,9 @@
 use Rattle.std.proofs.Common.{◌≡◌, ℕ, zero, suc, ◌<◌, Bool, true, false, cond, List, [], ◌∷◌, Some, set, sym, subst, arith}
 use Rattle.std.specs.Prelude.{slice_get}
 use Rattle.yd_words.proofs.OptionLemmas.{some_is}
-use Rattle.yd_received.specs.declared.entry.Entry.{Entry}
-use Rattle.yd_received.specs.declared.place.Place.{Place}
-use Rattle.yd_received.specs.Entries.{is_held, is_held_at}
+use Rattle.yd_entries.specs.declared.entry.Entry.{Entry}
+use Rattle.yd_entries.specs.declared.place.Place.{Place}
+use Rattle.yd_entries.specs.Entries.{is_held, is_held_at}
 use Rattle.yd_received.specs.Received.{with_place}
 use Rattle.yd_held.specs.Holding.{count_waiting}
 

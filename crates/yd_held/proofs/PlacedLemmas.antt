@@ -13,12 +13,12 @@ use Rattle.yd_updates.specs.Received.{has_operation}
 use Rattle.yd_meaning.specs.Names.{item_of_list}
 use Rattle.yd_meaning.specs.Held.{item_carried}
 use Rattle.yd_meaning.specs.Order.{list_or_root, list_of}
-use Rattle.yd_received.specs.declared.entry.Entry.{Entry}
-use Rattle.yd_received.specs.declared.place.Place.{Place}
-use Rattle.yd_received.specs.declared.place.Place.TheVariants.{Waits, Lost, In}
-use Rattle.yd_received.specs.Entries.{carried_of, is_held_at, TellsRight}
+use Rattle.yd_entries.specs.declared.entry.Entry.{Entry}
+use Rattle.yd_entries.specs.declared.place.Place.{Place}
+use Rattle.yd_entries.specs.declared.place.Place.TheVariants.{Waits, Lost, In}
+use Rattle.yd_entries.specs.Entries.{carried_of, is_held_at, TellsRight}
 use Rattle.yd_received.specs.Received.{ReceivedValue, held_of, listed_of, with_place}
-use Rattle.yd_received.proofs.ChangeLemmas.{set_is}
+use Rattle.yd_entries.proofs.ChangeLemmas.{set_is}
 use Rattle.yd_held.specs.Held.{HeldValue}
 use Rattle.yd_held.specs.Holding.{IsHolding}
 use Rattle.yd_held.specs.Numbered.{number_of}

@@ -16,10 +16,10 @@ use Rattle.yd_meaning.proofs.NeedLemmas.{before_needed, left_needed, right_neede
 use Rattle.yd_meaning.proofs.HeldLemmas.{held_in as held_is_received}
 use Rattle.yd_meaning.proofs.VectorLemmas.{held_written as held_set_written}
 use Rattle.yd_meaning.proofs.ClockLemmas.{AreFinal, below_held, held_is_below, held_clock-clocks}
-use Rattle.yd_received.specs.declared.entry.Entry.{Entry}
-use Rattle.yd_received.specs.Entries.{operations_of_taken, is_held, carried_of}
+use Rattle.yd_entries.specs.declared.entry.Entry.{Entry}
+use Rattle.yd_entries.specs.Entries.{operations_of_taken, is_held, carried_of}
 use Rattle.yd_received.specs.Received.{taken_of, held_of}
-use Rattle.yd_received.proofs.WrittenLemmas.{taken_written}
+use Rattle.yd_entries.proofs.WrittenLemmas.{taken_written}
 use Rattle.yd_held.specs.Held.{HeldValue}
 use Rattle.yd_held.specs.Numbered.{IsVectorOf}
 use Rattle.yd_held.specs.Readiness.{is_ready}

@@ -12,10 +12,10 @@ use Rattle.yd_updates.proofs.OneOfLemmas.{ids_stay}
 use Rattle.yd_meaning.specs.Held.{item_carried, sources, is_gone, standing}
 use Rattle.yd_meaning.proofs.NeedLemmas.{left_source, right_source, item_source}
 use Rattle.yd_meaning.proofs.StandingLemmas.{standing_alone}
-use Rattle.yd_received.specs.declared.entry.Entry.{Entry}
-use Rattle.yd_received.specs.declared.place.Place.{Place}
-use Rattle.yd_received.specs.declared.place.Place.TheVariants.{Waits, Lost, In}
-use Rattle.yd_received.specs.Entries.{operations_of_taken, carried_of, covers, is_held, is_held_at, is_listed, is_listed_at}
+use Rattle.yd_entries.specs.declared.entry.Entry.{Entry}
+use Rattle.yd_entries.specs.declared.place.Place.{Place}
+use Rattle.yd_entries.specs.declared.place.Place.TheVariants.{Waits, Lost, In}
+use Rattle.yd_entries.specs.Entries.{operations_of_taken, carried_of, covers, is_held, is_held_at, is_listed, is_listed_at}
 use Rattle.yd_received.specs.Received.{ReceivedValue, held_of, listed_of}
 use Rattle.yd_held.specs.Held.{HeldValue}
 use Rattle.yd_held.specs.Holding.{IsHolding}

@@ -10,9 +10,9 @@ use Rattle.yd_ids.specs.declared.id.Id.{Id}
 use Rattle.yd_ids.specs.Vector.{clock_of}
 use Rattle.yd_ids.proofs.IdLemmas.{same_numbers}
 use Rattle.yd_ops.specs.declared.runs.Run.{Run}
-use Rattle.yd_received.specs.declared.entry.Entry.{Entry}
-use Rattle.yd_received.specs.Entries.{is_held, IsTakenOf, AreInOrder}
-use Rattle.yd_received.proofs.EntriesLemmas.{entry_at}
+use Rattle.yd_entries.specs.declared.entry.Entry.{Entry}
+use Rattle.yd_entries.specs.Entries.{is_held, IsTakenOf, AreInOrder}
+use Rattle.yd_entries.proofs.EntriesLemmas.{entry_at}
 use Rattle.yd_words.proofs.MemberLemmas.{each_in, in_parts}
 use Rattle.yd_held.specs.declared.noting.Lack.{Lack}
 use Rattle.yd_held.specs.Readiness.{lack_of, is_ready}

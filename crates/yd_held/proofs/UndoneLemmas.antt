@@ -5,8 +5,8 @@ use Rattle.yd_words.proofs.OptionLemmas.{some_is}
 use Rattle.yd_words.proofs.TestLemmas.{same_or_other}
 use Rattle.yd_ids.specs.declared.id.Client.{Client}
 use Rattle.yd_ids.specs.Vector.{clock_of}
-use Rattle.yd_received.specs.declared.entry.Entry.{Entry}
-use Rattle.yd_received.specs.declared.place.Place.{Place}
+use Rattle.yd_entries.specs.declared.entry.Entry.{Entry}
+use Rattle.yd_entries.specs.declared.place.Place.{Place}
 use Rattle.yd_received.specs.Received.{is_below, with_place, undone}
 use Rattle.yd_held.specs.Holding.{HoldsEntry}
 use Rattle.yd_held.proofs.HoldingLemmas.{above_not}

@@ -2,7 +2,7 @@
 use Rattle.std.specs.Prelude.{◌≡◌, ℕ, Bool, true, false, List, [], length, take}
 use Rattle.yd_ids.specs.declared.id.Client.{Client}
 use Rattle.yd_ops.specs.declared.lists.List.{List as DocList}
-use Rattle.yd_received.specs.Entries.{GrowBy}
+use Rattle.yd_entries.specs.Entries.{GrowBy}
 use Rattle.yd_received.specs.Received.{ReceivedValue, put_back, put_back_entries}
 use Rattle.yd_held.specs.declared.parts.Before.{Before}
 use Rattle.yd_held.specs.declared.parts.Kept.{Kept}

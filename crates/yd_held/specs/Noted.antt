@@ -7,8 +7,8 @@ use Rattle.yd_ids.specs.declared.id.Id.{Id}
 use Rattle.yd_ids.specs.Vector.{clock_of}
 use Rattle.yd_ids.specs.Ids.{is_same, is_smaller}
 use Rattle.yd_ops.specs.declared.runs.Run.{Run}
-use Rattle.yd_received.specs.declared.entry.Entry.{Entry}
-use Rattle.yd_received.specs.Entries.{covers, carried_of}
+use Rattle.yd_entries.specs.declared.entry.Entry.{Entry}
+use Rattle.yd_entries.specs.Entries.{covers, carried_of}
 use Rattle.yd_held.specs.declared.noting.Lack.{Lack}
 use Rattle.yd_received.specs.Received.{is_below}
 use Rattle.yd_held.specs.Readiness.{IsOriginOf, is_ready}

@@ -9,10 +9,10 @@ use Rattle.yd_ops.specs.declared.lists.List.{List as DocList}
 use Rattle.yd_meaning.specs.Names.{item_of_list}
 use Rattle.yd_meaning.specs.Held.{held_clock}
 use Rattle.yd_meaning.specs.Order.{list_of}
-use Rattle.yd_received.specs.declared.entry.Entry.{Entry}
-use Rattle.yd_received.specs.declared.place.Place.{Place}
-use Rattle.yd_received.specs.declared.place.Place.TheVariants.{Waits, Lost, In}
-use Rattle.yd_received.specs.Entries.{covers}
+use Rattle.yd_entries.specs.declared.entry.Entry.{Entry}
+use Rattle.yd_entries.specs.declared.place.Place.{Place}
+use Rattle.yd_entries.specs.declared.place.Place.TheVariants.{Waits, Lost, In}
+use Rattle.yd_entries.specs.Entries.{covers}
 use Rattle.yd_received.specs.Received.{ReceivedValue, held_of, listed_of}
 
 -- the number of the list of a place, where it is one

@@ -5,11 +5,11 @@ use Rattle.yd_ids.specs.declared.id.Id.{Id}
 use Rattle.yd_ops.specs.declared.lists.List.{List as DocList}
 use Rattle.yd_meaning.specs.Held.{item_carried}
 use Rattle.yd_meaning.specs.Order.{list_or_root}
-use Rattle.yd_received.specs.declared.entry.Entry.{Entry}
-use Rattle.yd_received.specs.declared.place.Place.{Place}
-use Rattle.yd_received.specs.declared.place.Place.TheVariants.{Waits, Lost, In}
-use Rattle.yd_received.specs.Entries.{carried_of}
-use Rattle.yd_received.specs.Taking.{is_covered}
+use Rattle.yd_entries.specs.declared.entry.Entry.{Entry}
+use Rattle.yd_entries.specs.declared.place.Place.{Place}
+use Rattle.yd_entries.specs.declared.place.Place.TheVariants.{Waits, Lost, In}
+use Rattle.yd_entries.specs.Entries.{carried_of}
+use Rattle.yd_entries.specs.Taking.{is_covered}
 use Rattle.yd_received.specs.Received.{ReceivedValue}
 use Rattle.yd_held.specs.Numbered.{number_of}
 

@@ -6,9 +6,9 @@ use Rattle.yd_ids.specs.Vector.{clock_of}
 use Rattle.yd_ops.specs.declared.lists.List.{List as DocList}
 use Rattle.yd_ops.specs.declared.runs.Run.{Run}
 use Rattle.yd_meaning.specs.Held.{item_carried}
-use Rattle.yd_received.specs.declared.entry.Entry.{Entry}
+use Rattle.yd_entries.specs.declared.entry.Entry.{Entry}
 use Rattle.yd_received.specs.Received.{is_below}
-use Rattle.yd_received.specs.Entries.{carried_of, is_held}
+use Rattle.yd_entries.specs.Entries.{carried_of, is_held}
 
 -- the id is an origin, or the item of a list
 abbrev pub IsOriginOf : Id → Option Id → Option Id → Option DocList → Type 0

@@ -12,7 +12,7 @@ ghost use Rattle.yd_held.specs.Holding.{IsHolding, HoldsRest, OnlyHolds};
 ghost use Rattle.yd_held.specs.Noted.{AreNoted, AreMissing};
 ghost use Rattle.yd_held.specs.Turn.{HoldsInTurn};
 ghost use Rattle.yd_held.specs.declared.parts.Kept.TheVariants.{All};
-ghost use Rattle.yd_received.specs.Entries.{is_held, is_of_first};
+ghost use Rattle.yd_entries.specs.Entries.{is_held, is_of_first};
 ghost use Rattle.yd_received.specs.Received.{IsReceived};
 
 use crate::fault::NoMemory;

@@ -6,7 +6,7 @@ ghost use Rattle.yd_ops.specs.View.{update_value};
 ghost use Rattle.yd_updates.specs.Received.{with_groups, groups_of};
 ghost use Rattle.yd_names.specs.Names.{IsOf, IsLastOf, top_of};
 ghost use Rattle.yd_received.specs.Received.{taken_of};
-ghost use Rattle.yd_received.specs.Taking.{BringsOperation};
+ghost use Rattle.yd_entries.specs.Taking.{BringsOperation};
 ghost use Rattle.yd_held.specs.Changing.{TellsChanges, back_to};
 ghost use Rattle.yd_held.specs.Held.{HoldsAll};
 ghost use Rattle.yd_held.specs.Turn.{TellsOrder};

@@ -2,7 +2,7 @@
 
 ghost use Rattle.std.specs.Prelude.{◌≡◌, ◌<◌, ◌≤◌, false, true, length, replicate};
 ghost use Rattle.std.specs.Prelude.{HoldsAt, OnOk, OnErr, IfOk};
-ghost use Rattle.yd_received.specs.Entries.{GrowBy};
+ghost use Rattle.yd_entries.specs.Entries.{GrowBy};
 ghost use Rattle.yd_received.specs.Received.{ReceivedValue};
 ghost use Rattle.yd_held.specs.Held.{held_value};
 ghost use Rattle.yd_held.specs.Holding.{IsHolding, HoldsMore, HoldsRest, OnlyHolds};

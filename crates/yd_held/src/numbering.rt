@@ -2,7 +2,7 @@
 
 ghost use Rattle.std.specs.Prelude.{◌≡◌, true, false, None, Some, is_some, IfSome, IfOk};
 ghost use Rattle.yd_meaning.specs.Order.{list_or_root};
-ghost use Rattle.yd_received.specs.Entries.{IsTakenOf, GrowBy, carried_of};
+ghost use Rattle.yd_entries.specs.Entries.{IsTakenOf, GrowBy, carried_of};
 ghost use Rattle.yd_held.specs.Numbered.{number_of};
 ghost use Rattle.yd_held.specs.Numbering.{NumbersName, NumbersEntry};
 

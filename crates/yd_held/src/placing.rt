@@ -1,8 +1,8 @@
 //! The place of units that become held: lost, or in a list.
 
 ghost use Rattle.std.specs.Prelude.{◌≡◌, true, is_some, IfSome, IfOk};
-ghost use Rattle.yd_received.specs.Entries.{IsTakenOf, GrowBy};
-ghost use Rattle.yd_received.specs.Taking.{is_covered};
+ghost use Rattle.yd_entries.specs.Entries.{IsTakenOf, GrowBy};
+ghost use Rattle.yd_entries.specs.Taking.{is_covered};
 ghost use Rattle.yd_held.specs.Numbered.{number_of};
 ghost use Rattle.yd_held.specs.Numbering.{PlacesEntry};
 ghost use Rattle.yd_held.specs.Placed.{can_stand, is_none_or_listed, AreOriginsCovered};

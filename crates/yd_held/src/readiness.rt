@@ -4,7 +4,7 @@ ghost use Rattle.std.specs.Prelude.{◌≡◌, IfSome};
 ghost use Rattle.yd_ids.specs.Id.{IsId};
 ghost use Rattle.yd_meaning.specs.Names.{item_of_parent};
 ghost use Rattle.yd_meaning.specs.Held.{item_carried};
-ghost use Rattle.yd_received.specs.Entries.{IsTakenOf, carried_of};
+ghost use Rattle.yd_entries.specs.Entries.{IsTakenOf, carried_of};
 ghost use Rattle.yd_held.specs.Readiness.{missing_of, lack_of};
 
 use yd_ids::{Id, Vector};

@@ -6,7 +6,7 @@ ghost use Rattle.yd_words.specs.Each.{Each};
 ghost use Rattle.yd_ids.specs.declared.id.Client.{Client};
 ghost use Rattle.yd_ids.specs.Vector.{clock_of};
 ghost use Rattle.yd_ops.specs.declared.runs.Run.{Run};
-ghost use Rattle.yd_received.specs.declared.entry.Entry.{Entry};
+ghost use Rattle.yd_entries.specs.declared.entry.Entry.{Entry};
 ghost use Rattle.yd_ids.specs.Id.{IsId};
 ghost use Rattle.yd_held.specs.Noted.{AreNoted, Finds, StayMissing};
 ghost use Rattle.yd_words.specs.Member.{IsIn};

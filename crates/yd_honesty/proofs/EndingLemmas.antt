@@ -7,7 +7,7 @@ use Rattle.yd_updates.specs.Received.{has_operation}
 use Rattle.yd_updates.proofs.OneOfLemmas.{operation_with}
 use Rattle.yd_meaning.specs.Order.{IsPast}
 use Rattle.yd_received.specs.Received.{ReceivedValue, taken_of, held_of}
-use Rattle.yd_received.proofs.WrittenLemmas.{taken_written}
+use Rattle.yd_entries.proofs.WrittenLemmas.{taken_written}
 use Rattle.yd_honesty.specs.Dishonest.{is_past}
 use Rattle.yd_honesty.specs.Pasts.{IsHeldWhole}
 use Rattle.yd_honesty.proofs.PastLemmas.{past_decides}

@@ -11,7 +11,7 @@ use Rattle.yd_updates.specs.Received.{has_operation}
 use Rattle.yd_meaning.specs.Order.{rows_of, operation_set, MeetsRules}
 use Rattle.yd_meaning.proofs.RowLemmas.{row_has}
 use Rattle.yd_meaning.proofs.StandingTableLemmas.{standing_table}
-use Rattle.yd_received.specs.Entries.{is_held}
+use Rattle.yd_entries.specs.Entries.{is_held}
 use Rattle.yd_received.specs.Received.{ReceivedValue, held_of, listed_of}
 use Rattle.yd_held.proofs.HeldEntryLemmas.{chosen_written}
 use Rattle.yd_honesty.specs.Judging.{IsKept, IsList, IsPlaceOf, IsPlaced, IsApart, AreOrigins, are_in_order, IsParted}

@@ -22,7 +22,7 @@ use Rattle.yd_meaning.proofs.StandingLemmas.{standing_in}
 use Rattle.yd_meaning.proofs.StandingTableLemmas.{standing_table}
 use Rattle.yd_order.specs.Comparing.{is_told_before}
 use Rattle.yd_firsts.specs.Firsts.{HasFirst, ComparesFirsts}
-use Rattle.yd_received.specs.Entries.{is_held}
+use Rattle.yd_entries.specs.Entries.{is_held}
 use Rattle.yd_received.specs.Received.{ReceivedValue, held_of, listed_of}
 use Rattle.yd_held.proofs.HeldEntryLemmas.{chosen_written}
 use Rattle.yd_honesty.specs.Judging.{IsKept, IsPlaceOf, IsApart, are_in_order, is_behind, is_ahead, IsParted}

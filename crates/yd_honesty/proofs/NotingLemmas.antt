@@ -17,9 +17,9 @@ use Rattle.yd_meaning.specs.Order.{IsPast, of_need, of_past}
 use Rattle.yd_meaning.proofs.HeldLemmas.{held_needs}
 use Rattle.yd_meaning.proofs.NeedLemmas.{before_needed}
 use Rattle.yd_meaning.proofs.VectorLemmas.{clock_before}
-use Rattle.yd_received.specs.declared.entry.Entry.{Entry}
-use Rattle.yd_received.specs.Entries.{covers, is_held}
-use Rattle.yd_received.specs.Taking.{is_covered}
+use Rattle.yd_entries.specs.declared.entry.Entry.{Entry}
+use Rattle.yd_entries.specs.Entries.{covers, is_held}
+use Rattle.yd_entries.specs.Taking.{is_covered}
 use Rattle.yd_received.specs.Received.{ReceivedValue, taken_of, held_of, is_below}
 use Rattle.yd_held.proofs.HeldUnitLemmas.{IsFirst, covers_less, first_unit}
 use Rattle.yd_held.proofs.HeldEntryLemmas.{is_taken, entry_chosen, id_chosen, covers_chosen, chosen_covered}

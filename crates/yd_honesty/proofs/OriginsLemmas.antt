@@ -4,10 +4,10 @@ use Rattle.std.specs.Prelude.{slice_get, if◌then◌else◌}
 use Rattle.yd_words.specs.Member.{IsIn}
 use Rattle.yd_ids.specs.declared.id.Id.{Id}
 use Rattle.yd_ids.proofs.IdLemmas.{same_numbers}
-use Rattle.yd_received.specs.declared.entry.Entry.{Entry}
-use Rattle.yd_received.specs.Entries.{operations_of_taken, covers, is_held, is_listed}
+use Rattle.yd_entries.specs.declared.entry.Entry.{Entry}
+use Rattle.yd_entries.specs.Entries.{operations_of_taken, covers, is_held, is_listed}
 use Rattle.yd_received.specs.Received.{ReceivedValue, held_of}
-use Rattle.yd_received.proofs.EntriesLemmas.{one_entry}
+use Rattle.yd_entries.proofs.EntriesLemmas.{one_entry}
 use Rattle.yd_meaning.specs.Held.{is_gone}
 use Rattle.yd_meaning.proofs.StandingLemmas.{standing_in}
 use Rattle.yd_held.proofs.HeldUnitLemmas.{Follows, id_at, unit_cases, unit_covers, unit_gone}

@@ -22,10 +22,10 @@ use Rattle.yd_meaning.proofs.StandingLemmas.{standing_in}
 use Rattle.yd_firsts.specs.Firsts.{ComparesFirsts, HaveStarts}
 use Rattle.yd_order.specs.Stretch.{among_rows, rows_of_stretches}
 use Rattle.yd_order.specs.declared.stretch.Stretch.{Stretch}
-use Rattle.yd_received.specs.declared.entry.Entry.{Entry}
-use Rattle.yd_received.specs.Entries.{is_held, is_listed, is_listed_at}
+use Rattle.yd_entries.specs.declared.entry.Entry.{Entry}
+use Rattle.yd_entries.specs.Entries.{is_held, is_listed, is_listed_at}
 use Rattle.yd_received.specs.Received.{ReceivedValue, taken_of, held_of, listed_of}
-use Rattle.yd_received.proofs.WrittenLemmas.{taken_written}
+use Rattle.yd_entries.proofs.WrittenLemmas.{taken_written}
 use Rattle.yd_held.specs.Held.{HeldValue, HoldsAll}
 use Rattle.yd_held.proofs.HeldUnitLemmas.{covers_less}
 use Rattle.yd_held.proofs.HeldEntryLemmas.{is_taken, chosen_written, id_chosen}
@@ -41,8 +41,8 @@ use Rattle.yd_honesty.proofs.PlacesLemmas.{place_in}
 use Rattle.yd_honesty.proofs.RuleLemmas.{rules_decide}
 use Rattle.yd_honesty.proofs.StartLemmas.{StartBreaks, start_breaks}
 use Rattle.yd_held.specs.Numbered.{list_at_place, is_in_list}
-use Rattle.yd_received.specs.declared.place.Place.{Place}
-use Rattle.yd_received.specs.declared.place.Place.TheVariants.{Waits, Lost, In}
+use Rattle.yd_entries.specs.declared.place.Place.{Place}
+use Rattle.yd_entries.specs.declared.place.Place.TheVariants.{Waits, Lost, In}
 use Rattle.yd_words.proofs.FilterLemmas.{one_kept}
 use Rattle.yd_words.proofs.MemberLemmas.{each_in}
 use Rattle.yd_words.specs.Test.{is_some_and}

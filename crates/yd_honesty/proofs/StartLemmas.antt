@@ -15,10 +15,10 @@ use Rattle.yd_meaning.specs.Order.{rows_of, operation_set, list_of, MeetsRules}
 use Rattle.yd_meaning.proofs.RowLemmas.{one_row, left_of-row}
 use Rattle.yd_meaning.proofs.StandingLemmas.{standing_in}
 use Rattle.yd_meaning.proofs.StandingTableLemmas.{standing_table}
-use Rattle.yd_received.specs.declared.entry.Entry.{Entry}
-use Rattle.yd_received.specs.Entries.{operations_of_taken, covers, is_held, is_listed}
+use Rattle.yd_entries.specs.declared.entry.Entry.{Entry}
+use Rattle.yd_entries.specs.Entries.{operations_of_taken, covers, is_held, is_listed}
 use Rattle.yd_received.specs.Received.{ReceivedValue, taken_of, held_of, listed_of}
-use Rattle.yd_received.proofs.WrittenLemmas.{taken_written}
+use Rattle.yd_entries.proofs.WrittenLemmas.{taken_written}
 use Rattle.yd_held.proofs.HeldUnitLemmas.{Follows, id_at, covers_less, covers_unit, unit_cases, unit_covers, unit_gone}
 use Rattle.yd_held.proofs.HeldEntryLemmas.{is_taken, chosen_entry, chosen_written, entry_chosen}
 use Rattle.yd_honesty.specs.Judging.{IsKept, Breaks}

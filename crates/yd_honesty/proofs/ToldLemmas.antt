@@ -14,11 +14,11 @@ use Rattle.yd_updates.specs.Received.{has_operation}
 use Rattle.yd_updates.proofs.OneOfLemmas.{operation_with}
 use Rattle.yd_meaning.specs.Held.{needs, sources, id_before, given, item_carried}
 use Rattle.yd_meaning.specs.Order.{IsPast, of_past}
-use Rattle.yd_received.specs.declared.entry.Entry.{Entry}
-use Rattle.yd_received.specs.Entries.{carried_of, operations_of_taken, covers, is_held}
+use Rattle.yd_entries.specs.declared.entry.Entry.{Entry}
+use Rattle.yd_entries.specs.Entries.{carried_of, operations_of_taken, covers, is_held}
 use Rattle.yd_received.specs.Received.{ReceivedValue, taken_of, held_of, is_below}
-use Rattle.yd_received.proofs.EntriesLemmas.{one_entry}
-use Rattle.yd_received.proofs.WrittenLemmas.{taken_written}
+use Rattle.yd_entries.proofs.EntriesLemmas.{one_entry}
+use Rattle.yd_entries.proofs.WrittenLemmas.{taken_written}
 use Rattle.yd_held.specs.Readiness.{IsOriginOf}
 use Rattle.yd_held.proofs.HeldUnitLemmas.{id_at, Follows, unit_cases, unit_covers, covers_less, covers_later}
 use Rattle.yd_held.proofs.HeldEntryLemmas.{is_taken, chosen_entry, covers_chosen}

@@ -17,8 +17,8 @@ use Rattle.yd_order.specs.Comparing.{HasCells, is_told_before}
 use Rattle.yd_firsts.specs.Firsts.{ComparesFirsts}
 use Rattle.yd_ids.specs.Id.{IsClient}
 use Rattle.yd_updates.specs.Received.{has_operation}
-use Rattle.yd_received.specs.declared.entry.Entry.{Entry}
-use Rattle.yd_received.specs.Entries.{is_listed}
+use Rattle.yd_entries.specs.declared.entry.Entry.{Entry}
+use Rattle.yd_entries.specs.Entries.{is_listed}
 use Rattle.yd_received.specs.Received.{ReceivedValue, held_of, listed_of}
 use Rattle.yd_state.specs.Stretches.{stretch_of}
 use Rattle.yd_honesty.specs.Pasts.{IsHeldWhole}

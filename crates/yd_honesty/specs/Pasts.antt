@@ -6,8 +6,8 @@ use Rattle.yd_ids.specs.declared.id.Client.{Client}
 use Rattle.yd_ids.specs.declared.id.Id.{Id}
 use Rattle.yd_meaning.specs.Held.{held_set, id_before, given, item_carried}
 use Rattle.yd_meaning.specs.Order.{IsPast}
-use Rattle.yd_received.specs.declared.entry.Entry.{Entry}
-use Rattle.yd_received.specs.Entries.{carried_of, covers, is_held}
+use Rattle.yd_entries.specs.declared.entry.Entry.{Entry}
+use Rattle.yd_entries.specs.Entries.{carried_of, covers, is_held}
 use Rattle.yd_received.specs.Received.{ReceivedValue, IsReceived, taken_of, held_of, is_below}
 
 -- all that can be held of what was received is held

@@ -3,7 +3,7 @@
 ghost use Rattle.std.specs.Prelude.{◌≡◌, ◌++◌, IfOk, OnOk};
 ghost use Rattle.yd_meaning.specs.Held.{given, id_before, item_carried};
 ghost use Rattle.yd_meaning.specs.Names.{item_of_parent};
-ghost use Rattle.yd_received.specs.Entries.{IsTakenOf, carried_of};
+ghost use Rattle.yd_entries.specs.Entries.{IsTakenOf, carried_of};
 ghost use Rattle.yd_honesty.specs.Pasts.{entry_needs};
 
 use crate::fault::NoMemory;

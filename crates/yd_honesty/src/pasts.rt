@@ -3,10 +3,10 @@
 ghost use Rattle.std.specs.Prelude.{◌≡◌, ◌<◌, ◌+◌, [], Some, false, true, length, replicate, set, slice_get, slice_index_or, IfOk, OnOk};
 ghost use Rattle.yd_words.specs.Member.{IsIn};
 ghost use Rattle.yd_ids.specs.Id.{IsClient, IsClock};
-ghost use Rattle.yd_received.specs.Entries.{is_held};
+ghost use Rattle.yd_entries.specs.Entries.{is_held};
 ghost use Rattle.yd_updates.specs.Received.{has_operation};
 ghost use Rattle.yd_received.specs.Received.{held_of};
-ghost use Rattle.yd_received.specs.Taking.{is_covered};
+ghost use Rattle.yd_entries.specs.Taking.{is_covered};
 ghost use Rattle.yd_honesty.specs.Dishonest.{is_past};
 ghost use Rattle.yd_honesty.specs.Pasts.{is_told, IsHeldWhole, AreSound, ArePasts, AreClosed, OnlyPast};
 ghost use Rattle.yd_honesty.specs.Pasts.{RaisesTo, Joins, NotesNeed, NotesNeeds, entry_needs, PassesEntry};

@@ -21,7 +21,7 @@ use Rattle.yd_updates.proofs.PartnerLemmas.{same_decides}
 use Rattle.yd_updates.proofs.WritingLemmas.{written_agrees}
 use Rattle.yd_meaning.specs.Deleted.{AreDeleteSet}
 use Rattle.yd_meaning.specs.Held.{is_named}
-use Rattle.yd_received.specs.Taking.{BringsOne, IsNews}
+use Rattle.yd_entries.specs.Taking.{BringsOne, IsNews}
 use Rattle.yd_state.specs.Brings.{BringsSomething, IsKnownDeleted}
 use Rattle.yd_state.proofs.NamedLemmas.{has_named, named_has}
 use Rattle.yd_sync.proofs.PresenceLemmas.{tested}

@@ -14,7 +14,7 @@ use Rattle.yd_meaning.proofs.StandingLemmas.{standing_in}
 use Rattle.yd_meaning.proofs.VectorLemmas.{held_written, held_below}
 use Rattle.yd_editing.specs.Basis.{Basis, basis_of}
 use Rattle.yd_editing.proofs.UnitLemmas.{written_units_stand}
-use Rattle.yd_received.specs.Entries.{covers}
+use Rattle.yd_entries.specs.Entries.{covers}
 use Rattle.yd_held.proofs.HeldUnitLemmas.{covers_less, unit_covers}
 use Rattle.yd_held.proofs.HeldEntryLemmas.{is_taken, taken_entry}
 use Rattle.yd_state.specs.State.{StateValue, received_in, listed_of, document_in, IsSound}

@@ -14,7 +14,7 @@ use Rattle.yd_ops.specs.Operation.{Operation, UnitContent, units_of_content, ope
 use Rattle.yd_ops.proofs.OperationLemmas.{length-units_of_content}
 use Rattle.yd_updates.specs.Received.{has_operation}
 use Rattle.yd_updates.proofs.OneOfLemmas.{operation_with, none_has}
-use Rattle.yd_received.proofs.UnitLemmas.{has_parts}
+use Rattle.yd_entries.proofs.UnitLemmas.{has_parts}
 use Rattle.yd_meaning.specs.Names.{same_list}
 use Rattle.yd_meaning.specs.ListNames.{same_list_decides}
 use Rattle.yd_editing.specs.Step.{Step, make, remove}

@@ -15,12 +15,12 @@ use Rattle.yd_ops.specs.Operation.{UnitContent, Operation, units_of_trees, delet
 use Rattle.yd_ops.specs.View.{content_value}
 use Rattle.yd_updates.specs.Received.{has_operation, IsWritten}
 use Rattle.yd_editing.specs.Basis.{is_type, has_type_item}
-use Rattle.yd_received.specs.declared.entry.Entry.{Entry}
-use Rattle.yd_received.specs.Entries.{units_of, list_at, operations_told, operations_of_taken, IsTold, TellsRight, IsTakenOf, is_listed, covers}
+use Rattle.yd_entries.specs.declared.entry.Entry.{Entry}
+use Rattle.yd_entries.specs.Entries.{units_of, list_at, operations_told, operations_of_taken, IsTold, TellsRight, IsTakenOf, is_listed, covers}
 use Rattle.yd_received.specs.Received.{ReceivedValue, IsReceived, listed_of}
-use Rattle.yd_received.proofs.EntryLemmas.{covers_in}
-use Rattle.yd_received.proofs.EntriesLemmas.{one_entry}
-use Rattle.yd_received.proofs.UnitLemmas.{from_unit, from_gone}
+use Rattle.yd_entries.proofs.EntryLemmas.{covers_in}
+use Rattle.yd_entries.proofs.EntriesLemmas.{one_entry}
+use Rattle.yd_entries.proofs.UnitLemmas.{from_unit, from_gone}
 use Rattle.yd_held.proofs.HeldUnitLemmas.{covers_less, covers_unit, unit_covers}
 use Rattle.yd_held.proofs.HeldEntryLemmas.{is_taken, chosen_written, chosen_entry, entry_chosen}
 use Rattle.yd_making.specs.Types.{is_type_content, is_type_run, holds_type}

@@ -7,11 +7,11 @@ use Rattle.yd_ops.specs.declared.runs.Run.{Run}
 use Rattle.yd_ops.specs.Operation.{UnitContent, Operation, operations_from, gone_from}
 use Rattle.yd_updates.specs.Received.{has_operation}
 use Rattle.yd_editing.specs.Basis.{first_waiting}
-use Rattle.yd_received.specs.declared.entry.Entry.{Entry}
-use Rattle.yd_received.specs.Entries.{units_of, list_at, operations_told, operations_of_taken, operations_in, IsTakenOf, TellsRight, is_held, covers}
+use Rattle.yd_entries.specs.declared.entry.Entry.{Entry}
+use Rattle.yd_entries.specs.Entries.{units_of, list_at, operations_told, operations_of_taken, operations_in, IsTakenOf, TellsRight, is_held, covers}
 use Rattle.yd_received.specs.Received.{ReceivedValue, IsReceived, taken_of, held_of}
-use Rattle.yd_received.proofs.EntriesLemmas.{one_entry}
-use Rattle.yd_received.proofs.TakenLemmas.{units_taken}
+use Rattle.yd_entries.proofs.EntriesLemmas.{one_entry}
+use Rattle.yd_entries.proofs.TakenLemmas.{units_taken}
 use Rattle.yd_held.proofs.HeldUnitLemmas.{covers_less, unit_covers}
 use Rattle.yd_held.proofs.HeldEntryLemmas.{is_taken, chosen_id, id_chosen}
 use Rattle.yd_making.specs.Waiting.{first_clock}

@@ -1,7 +1,7 @@
 -- What waits of a client, entry by entry.
 use Rattle.std.specs.Prelude.{ℕ, ◌&&◌, not, List, [], ◌∷◌, Option, Some, None, nat_eq, if◌then◌else◌}
-use Rattle.yd_received.specs.declared.entry.Entry.{Entry}
-use Rattle.yd_received.specs.Entries.{is_held}
+use Rattle.yd_entries.specs.declared.entry.Entry.{Entry}
+use Rattle.yd_entries.specs.Entries.{is_held}
 
 -- the clock of the first of the client's entries that waits; entries come in the order of writing
 abbrev pub first_clock : ℕ → List Entry → Option ℕ

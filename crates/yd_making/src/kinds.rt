@@ -3,7 +3,7 @@
 ghost use Rattle.std.specs.Prelude.{◌≡◌, ◌<◌, length};
 ghost use Rattle.yd_editing.specs.Basis.{has_type_item};
 ghost use Rattle.yd_ops.specs.View.{content_value};
-ghost use Rattle.yd_received.specs.Entries.{is_listed_at};
+ghost use Rattle.yd_entries.specs.Entries.{is_listed_at};
 ghost use Rattle.yd_received.specs.Received.{listed_of};
 ghost use Rattle.yd_making.specs.Types.{holds_type, is_type_content};
 

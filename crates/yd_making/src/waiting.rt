@@ -1,7 +1,7 @@
 //! What waits of a client.
 
 ghost use Rattle.std.specs.Prelude.{◌≡◌};
-ghost use Rattle.yd_received.specs.Entries.{is_held_at};
+ghost use Rattle.yd_entries.specs.Entries.{is_held_at};
 ghost use Rattle.yd_making.specs.Waiting.{first_clock};
 
 use yd_ids::Client;

@@ -17,12 +17,12 @@ use Rattle.yd_grouping.specs.Building.{Built, all_pushed, finished, nothing_buil
 use Rattle.yd_grouping.specs.Grouped.{grouping_of}
 use Rattle.yd_grouping.specs.Groups.{Group}
 use Rattle.yd_grouping.specs.Merged.{cut_of, cut_update, is_cut_in}
-use Rattle.yd_received.specs.Entries.{AreInOrder, AreTaken, IsTakenOf, StandsBefore, operations_in, operations_of_taken}
+use Rattle.yd_entries.specs.Entries.{AreInOrder, AreTaken, IsTakenOf, StandsBefore, operations_in, operations_of_taken}
 use Rattle.yd_received.specs.Received.{ReceivedValue, taken_of}
-use Rattle.yd_received.specs.declared.entry.Entry.{Entry}
-use Rattle.yd_received.proofs.PairLemmas.{splittable}
-use Rattle.yd_received.proofs.PartLemmas.{back-id, back-len, back_taken}
-use Rattle.yd_received.proofs.TakenLemmas.{operations_in-append}
+use Rattle.yd_entries.specs.declared.entry.Entry.{Entry}
+use Rattle.yd_entries.proofs.PairLemmas.{splittable}
+use Rattle.yd_entries.proofs.PartLemmas.{back-id, back-len, back_taken}
+use Rattle.yd_entries.proofs.TakenLemmas.{operations_in-append}
 use Rattle.yd_merge.specs.Cutting.{behind, cut_entries, cut_entry, left_out}
 use Rattle.yd_merge.specs.Told.{group_of_entry}
 use Rattle.yd_merge.proofs.ToldLemmas.{writes}

@@ -15,16 +15,16 @@ use Rattle.yd_updates.proofs.MendingLemmas.{HasPartners}
 use Rattle.yd_updates.proofs.PartnerLemmas.{IsHalf, high_partner}
 use Rattle.yd_grouping.specs.Merged.{is_cut_in}
 use Rattle.yd_grouping.proofs.CutLemmas.{IsKept, cut_is, cut_passes}
-use Rattle.yd_received.specs.Entries.{IsTakenOf, IsTold, PartsPair, TellsRight, list_at, operations_in, operations_of_taken, operations_told, units_of}
-use Rattle.yd_received.specs.Splitting.{IsSplittable, PartsPairOf, back_of, front_of}
-use Rattle.yd_received.specs.declared.entry.Entry.{Entry}
-use Rattle.yd_received.proofs.CutLemmas.{cut_high, high_cut}
-use Rattle.yd_received.proofs.PairLemmas.{splittable}
-use Rattle.yd_received.proofs.PartLemmas.{back-id, back_taken, both_operations, front_taken}
-use Rattle.yd_received.proofs.PieceLemmas.{get_in_drop, get_in_take}
-use Rattle.yd_received.proofs.StepLemmas.{gone_no_half}
-use Rattle.yd_received.proofs.TakenLemmas.{taken_id, units_taken}
-use Rattle.yd_received.proofs.UnitLemmas.{from_gone, from_unit}
+use Rattle.yd_entries.specs.Entries.{IsTakenOf, IsTold, PartsPair, TellsRight, list_at, operations_in, operations_of_taken, operations_told, units_of}
+use Rattle.yd_entries.specs.Splitting.{IsSplittable, PartsPairOf, back_of, front_of}
+use Rattle.yd_entries.specs.declared.entry.Entry.{Entry}
+use Rattle.yd_entries.proofs.CutLemmas.{cut_high, high_cut}
+use Rattle.yd_entries.proofs.PairLemmas.{splittable}
+use Rattle.yd_entries.proofs.PartLemmas.{back-id, back_taken, both_operations, front_taken}
+use Rattle.yd_entries.proofs.PieceLemmas.{get_in_drop, get_in_take}
+use Rattle.yd_entries.proofs.StepLemmas.{gone_no_half}
+use Rattle.yd_entries.proofs.TakenLemmas.{taken_id, units_taken}
+use Rattle.yd_entries.proofs.UnitLemmas.{from_gone, from_unit}
 use Rattle.yd_merge.specs.Cutting.{behind, parts_behind}
 use Rattle.yd_merge.proofs.LeavingLemmas.{IsLeftOut}
 

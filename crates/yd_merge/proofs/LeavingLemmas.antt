@@ -11,11 +11,11 @@ use Rattle.yd_ops.specs.View.{content_value}
 use Rattle.yd_ops.specs.declared.runs.Run.{Run}
 use Rattle.yd_updates.specs.Pairs.{is_high, is_low}
 use Rattle.yd_updates.proofs.PartnerLemmas.{high_unit, low_unit}
-use Rattle.yd_received.specs.Entries.{IsTakenOf, PartsPair}
-use Rattle.yd_received.specs.Splitting.{PartsPairOf}
-use Rattle.yd_received.specs.declared.entry.Entry.{Entry}
-use Rattle.yd_received.proofs.OwnLemmas.{told_of}
-use Rattle.yd_received.proofs.PairLemmas.{no_two_cuts}
+use Rattle.yd_entries.specs.Entries.{IsTakenOf, PartsPair}
+use Rattle.yd_entries.specs.Splitting.{PartsPairOf}
+use Rattle.yd_entries.specs.declared.entry.Entry.{Entry}
+use Rattle.yd_entries.proofs.OwnLemmas.{told_of}
+use Rattle.yd_entries.proofs.PairLemmas.{no_two_cuts}
 use Rattle.yd_merge.specs.Cutting.{left_out, parts_content, parts_entry, parts_run, parts_text, parts_told}
 
 -- ---- where a cut parts a pair

@@ -28,9 +28,9 @@ use Rattle.yd_grouping.specs.Groups.{Group, IsGroup, of_gone, of_run, operations
 use Rattle.yd_grouping.specs.Merged.{cut_of, cut_update, is_cut_in}
 use Rattle.yd_grouping.proofs.BuilderLemmas.{builder_groups}
 use Rattle.yd_grouping.proofs.CutLemmas.{IsKept, cut_is, cut_passes, filter_written}
-use Rattle.yd_received.specs.Entries.{IsTakenOf, PartsPair, operations_of_taken}
-use Rattle.yd_received.proofs.StepLemmas.{gone_no_half}
-use Rattle.yd_received.proofs.UnitLemmas.{from_gone}
+use Rattle.yd_entries.specs.Entries.{IsTakenOf, PartsPair, operations_of_taken}
+use Rattle.yd_entries.proofs.StepLemmas.{gone_no_half}
+use Rattle.yd_entries.proofs.UnitLemmas.{from_gone}
 use Rattle.yd_merge.specs.Cutting.{cut_entry, cut_gone, cut_in, cut_lent, cut_lents, left_out, whole_entry}
 use Rattle.yd_merge.specs.Lending.{AreInTurn, IsLent, IsOfUpdate, blocks_groups, group_in, lent_group}
 use Rattle.yd_merge.specs.Told.{group_of_entry}

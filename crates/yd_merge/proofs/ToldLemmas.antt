@@ -17,9 +17,9 @@ use Rattle.yd_grouping.specs.Building.{Built, all_pushed, finished, nothing_buil
 use Rattle.yd_grouping.specs.Grouped.{grouping_of}
 use Rattle.yd_grouping.specs.Groups.{IsGroup, operations_of_group, operations_of_groups}
 use Rattle.yd_grouping.proofs.BuilderLemmas.{builder_groups}
-use Rattle.yd_received.specs.declared.entry.Entry.{Entry}
-use Rattle.yd_received.specs.Entries.{AreInOrder, IsTakenOf, IsTold, TellsRight, list_at, operations_in, operations_of_taken, operations_told, units_of}
-use Rattle.yd_received.proofs.TakenLemmas.{in_written}
+use Rattle.yd_entries.specs.declared.entry.Entry.{Entry}
+use Rattle.yd_entries.specs.Entries.{AreInOrder, IsTakenOf, IsTold, TellsRight, list_at, operations_in, operations_of_taken, operations_told, units_of}
+use Rattle.yd_entries.proofs.TakenLemmas.{in_written}
 use Rattle.yd_merge.specs.Told.{IsPartOf, content_part, group_of_run, group_told, group_of_entry}
 use Rattle.yd_merge.proofs.ContentLemmas.{part-units}
 

@@ -35,7 +35,7 @@ use Rattle.yd_grouping.proofs.BlockLemmas.{IsValidGroup, blocks-operations, bloc
 use Rattle.yd_grouping.proofs.BuilderLemmas.{builder_groups}
 use Rattle.yd_grouping.proofs.GroupableLemmas.{written_groupable}
 use Rattle.yd_grouping.proofs.GroupedLemmas.{groupable-operations, grouping_valid, groups_units}
-use Rattle.yd_received.proofs.UnitLemmas.{from_gone, from_unit}
+use Rattle.yd_entries.proofs.UnitLemmas.{from_gone, from_unit}
 use Rattle.yd_merge.specs.declared.lending.Lent.{Lent}
 use Rattle.yd_merge.specs.Lending.{AreInTurn, GoesBefore, IsLent, IsOfUpdate, blocks_groups, lent_group, struct_groups, structs_groups, updates_groups}
 use Rattle.yd_merge.proofs.ToldLemmas.{carries_none}

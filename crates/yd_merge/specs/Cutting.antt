@@ -8,9 +8,9 @@ use Rattle.yd_ops.specs.View.{content_value}
 use Rattle.yd_ops.specs.declared.runs.Run.{Run}
 use Rattle.yd_updates.specs.Pairs.{is_high, is_low}
 use Rattle.yd_grouping.specs.Groups.{Group, of_gone}
-use Rattle.yd_received.specs.Splitting.{back_of}
-use Rattle.yd_received.specs.declared.entry.Entry.{Entry}
-use Rattle.yd_received.specs.declared.place.Place.TheVariants.{Waits}
+use Rattle.yd_entries.specs.Splitting.{back_of}
+use Rattle.yd_entries.specs.declared.entry.Entry.{Entry}
+use Rattle.yd_entries.specs.declared.place.Place.TheVariants.{Waits}
 use Rattle.yd_merge.specs.Told.{group_of_entry}
 use Rattle.yd_merge.specs.declared.lending.Lent.{Lent}
 

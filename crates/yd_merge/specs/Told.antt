@@ -7,8 +7,8 @@ use Rattle.yd_ops.specs.Value.{ContentValue, len_of}
 use Rattle.yd_ops.specs.View.{content_value}
 use Rattle.yd_ops.specs.declared.runs.Run.{Run}
 use Rattle.yd_grouping.specs.Groups.{Group, of_run, of_gone}
-use Rattle.yd_received.specs.Entries.{list_at}
-use Rattle.yd_received.specs.declared.entry.Entry.{Entry}
+use Rattle.yd_entries.specs.Entries.{list_at}
+use Rattle.yd_entries.specs.declared.entry.Entry.{Entry}
 
 -- so many units of a content, from an offset on
 abbrev pub content_part : ℕ → ℕ → ContentValue → ContentValue

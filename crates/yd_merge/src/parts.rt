@@ -9,7 +9,7 @@ ghost use Rattle.yd_ops.specs.Value.{len_of};
 ghost use Rattle.yd_ops.specs.Valid.{IsValidContent};
 ghost use Rattle.yd_ops.specs.View.{content_value, run_value};
 ghost use Rattle.yd_grouping.specs.Groups.{of_run};
-ghost use Rattle.yd_received.specs.Entries.{IsTakenOf, list_at};
+ghost use Rattle.yd_entries.specs.Entries.{IsTakenOf, list_at};
 ghost use Rattle.yd_building.specs.Builder.{group_value};
 ghost use Rattle.yd_merge.specs.Told.{IsPartOf, content_part, group_of_run, group_of_entry};
 

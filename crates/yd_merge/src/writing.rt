@@ -5,7 +5,7 @@ ghost use Rattle.yd_words.specs.Each.{Each};
 ghost use Rattle.yd_ops.specs.View.{update_value};
 ghost use Rattle.yd_grouping.specs.Building.{finished, all_pushed, nothing_built};
 ghost use Rattle.yd_grouping.specs.Grouped.{grouping_of};
-ghost use Rattle.yd_received.specs.Entries.{IsTakenOf, AreInOrder, operations_in};
+ghost use Rattle.yd_entries.specs.Entries.{IsTakenOf, AreInOrder, operations_in};
 ghost use Rattle.yd_grouping.specs.Groups.{operations_of_groups};
 ghost use Rattle.yd_merge.specs.Lending.{IsLent, AreInTurn, lent_group};
 ghost use Rattle.yd_merge.specs.Told.{group_of_entry};

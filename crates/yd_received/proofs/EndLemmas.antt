@@ -7,14 +7,14 @@ use Rattle.yd_ops.specs.declared.runs.Run.{Run}
 use Rattle.yd_ops.specs.Operation.{Operation}
 use Rattle.yd_received.specs.declared.brought.Brought.{Brought}
 use Rattle.yd_received.specs.declared.brought.Brought.TheVariants.{Nothing, Added, Lowered}
-use Rattle.yd_received.specs.declared.entry.Entry.{Entry}
-use Rattle.yd_received.specs.declared.place.Place.TheVariants.{Waits}
-use Rattle.yd_received.specs.Entries.{AreTaken, is_held, is_of_first, OnlyAdds, GrowBy}
-use Rattle.yd_received.specs.Lowering.{IsBacked}
+use Rattle.yd_entries.specs.declared.entry.Entry.{Entry}
+use Rattle.yd_entries.specs.declared.place.Place.TheVariants.{Waits}
+use Rattle.yd_entries.specs.Entries.{AreTaken, is_held, is_of_first, OnlyAdds, GrowBy}
+use Rattle.yd_entries.specs.Lowering.{IsBacked}
 use Rattle.yd_received.specs.Received.{ReceivedValue, brings, IsBrought, with_place}
 use Rattle.yd_received.specs.Structs.{TakesIn, kept_of, IsBroughtBy}
-use Rattle.yd_received.specs.Taking.{AreUnchanged}
-use Rattle.yd_received.proofs.ChangeLemmas.{operations-wait, are_taken-wait, none_held-wait}
+use Rattle.yd_entries.specs.Taking.{AreUnchanged}
+use Rattle.yd_received.proofs.PlacingLemmas.{operations-wait, are_taken-wait, none_held-wait}
 use Rattle.yd_received.proofs.RestoringLemmas.{first_back, front_back}
 
 same_takes : (old_runs runs : List Run) (old mid new : List Entry) (groups : List (List Operation)) → TakesIn old_runs old runs mid groups → new ≡ mid →

@@ -5,8 +5,8 @@ use Rattle.yd_ids.specs.declared.id.Client.{Client}
 use Rattle.yd_words.specs.Each.{Each}
 use Rattle.yd_words.proofs.EachLemmas.{each_weaker}
 use Rattle.yd_ops.specs.declared.runs.Run.{Run}
-use Rattle.yd_received.specs.declared.entry.Entry.{Entry}
-use Rattle.yd_received.specs.Entries.{GrowBy, IsTakenOf, AreTaken, StaysOfFirst, is_of_first}
+use Rattle.yd_entries.specs.declared.entry.Entry.{Entry}
+use Rattle.yd_entries.specs.Entries.{GrowBy, IsTakenOf, AreTaken, StaysOfFirst, is_of_first}
 use Rattle.yd_received.specs.Received.{undone, is_below}
 
 -- ---- one entry after another

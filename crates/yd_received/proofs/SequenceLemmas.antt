@@ -17,12 +17,12 @@ use Rattle.yd_ops.specs.View.{struct_value, block_value}
 use Rattle.yd_updates.specs.Received.{with_groups, groups_of_structs, groups_of_blocks}
 use Rattle.yd_updates.proofs.MendingLemmas.{paired_has, mended_whole}
 use Rattle.yd_updates.proofs.TurnLemmas.{with_groups-append}
-use Rattle.yd_received.specs.declared.entry.Entry.{Entry}
-use Rattle.yd_received.specs.Entries.{AreTaken, operations_in, GrowBy}
+use Rattle.yd_entries.specs.declared.entry.Entry.{Entry}
+use Rattle.yd_entries.specs.Entries.{AreTaken, operations_in, GrowBy}
 use Rattle.yd_received.specs.Structs.{IsStructOf, TakesIn, gone_run}
-use Rattle.yd_received.specs.Taking.{BringsOne, IsRun, AreUnchanged}
+use Rattle.yd_entries.specs.Taking.{BringsOne, IsRun, AreUnchanged}
 use Rattle.yd_received.proofs.StructLemmas.{unchanged_more}
-use Rattle.yd_received.proofs.TakenLemmas.{grow_none, grow_more}
+use Rattle.yd_entries.proofs.TakenLemmas.{grow_none, grow_more}
 
 -- ---- one after another
 

@@ -16,17 +16,17 @@ use Rattle.yd_updates.proofs.MendingLemmas.{HasPartners, paired_has, has_paired,
 use Rattle.yd_updates.proofs.TakingLemmas.{pair_is}
 use Rattle.yd_updates.proofs.AddingLemmas.{with_group_alone}
 use Rattle.yd_updates.proofs.RunLemmas.{run_partners, run_written}
-use Rattle.yd_received.specs.declared.entry.Entry.{Entry}
-use Rattle.yd_received.specs.Entries.{AreTaken, operations_in}
-use Rattle.yd_received.specs.Lowering.{is_among, lowered_with, level_of_content, level_from, SaysMore, Lowers}
+use Rattle.yd_entries.specs.declared.entry.Entry.{Entry}
+use Rattle.yd_entries.specs.Entries.{AreTaken, operations_in}
+use Rattle.yd_entries.specs.Lowering.{is_among, lowered_with, level_of_content, level_from, SaysMore, Lowers}
 use Rattle.yd_received.specs.Structs.{TakesIn}
-use Rattle.yd_received.specs.Taking.{BringsOne, IsRun, operations_from_run, IsParted, IsAdded, AddsGroup, AddsOne, AreUnchanged}
-use Rattle.yd_received.proofs.BorderLemmas.{map_alike}
-use Rattle.yd_received.proofs.LoweredLemmas.{IsLess, AreWith, lowered_group}
-use Rattle.yd_received.proofs.SpelledLemmas.{run_level, run_less}
-use Rattle.yd_received.proofs.StepLemmas.{is_added}
-use Rattle.yd_received.proofs.TakenLemmas.{in_written}
-use Rattle.yd_received.proofs.TornLemmas.{with_low, with_other, partner_away}
+use Rattle.yd_entries.specs.Taking.{BringsOne, IsRun, operations_from_run, IsParted, IsAdded, AddsGroup, AddsOne, AreUnchanged}
+use Rattle.yd_entries.proofs.BorderLemmas.{map_alike}
+use Rattle.yd_entries.proofs.LoweredLemmas.{IsLess, AreWith, lowered_group}
+use Rattle.yd_entries.proofs.SpelledLemmas.{run_level, run_less}
+use Rattle.yd_entries.proofs.StepLemmas.{is_added}
+use Rattle.yd_entries.proofs.TakenLemmas.{in_written}
+use Rattle.yd_entries.proofs.TornLemmas.{with_low, with_other, partner_away}
 use Rattle.yd_words.proofs.TestLemmas.{split}
 
 -- what a struct gives has whole pairs

@@ -7,10 +7,10 @@ use Rattle.yd_ops.specs.declared.runs.Run.{Run}
 use Rattle.yd_ops.specs.Operation.{Operation}
 use Rattle.yd_received.specs.declared.brought.Brought.{Brought}
 use Rattle.yd_received.specs.declared.brought.Brought.TheVariants.{Nothing, Added, Lowered}
-use Rattle.yd_received.specs.declared.entry.Entry.{Entry}
-use Rattle.yd_received.specs.declared.place.Place.{Place}
-use Rattle.yd_received.specs.declared.place.Place.TheVariants.{Waits}
-use Rattle.yd_received.specs.Entries.{AreTaken, operations_in, held_in, standing_in, is_held, is_of_first, OnlyAdds}
+use Rattle.yd_entries.specs.declared.entry.Entry.{Entry}
+use Rattle.yd_entries.specs.declared.place.Place.{Place}
+use Rattle.yd_entries.specs.declared.place.Place.TheVariants.{Waits}
+use Rattle.yd_entries.specs.Entries.{AreTaken, operations_in, held_in, standing_in, is_held, is_of_first, OnlyAdds}
 
 -- the runs that are kept, and the entries of the units that were taken of them
 pub record ReceivedValue : Type 0 where

@@ -10,9 +10,9 @@ use Rattle.yd_ops.specs.Valid.{IsStructAt}
 use Rattle.yd_updates.specs.Received.{with_groups}
 use Rattle.yd_received.specs.declared.brought.Brought.{Brought}
 use Rattle.yd_received.specs.declared.brought.Brought.TheVariants.{Nothing, Added, Lowered}
-use Rattle.yd_received.specs.declared.entry.Entry.{Entry}
-use Rattle.yd_received.specs.declared.place.Place.TheVariants.{Waits}
-use Rattle.yd_received.specs.Entries.{AreTaken, operations_in, is_of_first}
+use Rattle.yd_entries.specs.declared.entry.Entry.{Entry}
+use Rattle.yd_entries.specs.declared.place.Place.TheVariants.{Waits}
+use Rattle.yd_entries.specs.Entries.{AreTaken, operations_in, is_of_first}
 use Rattle.yd_received.specs.Received.{with_place}
 
 -- the struct begins at the id, and ends at a clock

@@ -1,6 +1,6 @@
 //! What taking in an update did.
 
-use crate::entry::Entry;
+use yd_entries::Entry;
 
 /// What taking in an update did.
 #[derive(Drop)]

@@ -2,11 +2,11 @@
 //!
 //! Taking in an update gives what `yd_updates` defines: operations with new ids are added, what
 //! says less lowers what was there to deleted or gone, and a half whose partner is not there is
-//! U+FFFD ([`Received::take`]). The entries stand in the order of writing, so an id is found by
-//! bisection ([`Received::entry_of`], [`Received::entry_at`]). No unit of a deleted or gone run is
-//! walked, and one struct may have as many as there are clocks. Where an update lowers nothing, what
-//! was held stays as it was; where it lowers something all waits, to be held anew, and the contents
-//! of what was lowered stay in their runs. A call that finds no memory has changed nothing.
+//! U+FFFD ([`Received::take`]). What is kept are entries in the order of writing (`yd_entries`), so an
+//! id is found by bisection ([`Received::entry_of`], [`Received::entry_at`]). Where an update lowers
+//! nothing, what was held stays as it was; where it lowers something all waits, to be held anew, and
+//! the contents of what was lowered stay in their runs. A call that finds no memory has changed
+//! nothing.
 //!
 //! ```rust
 //! let mut received = Received::new(alloc);
@@ -15,21 +15,11 @@
 #![tactic(auto)]
 
 mod brought;
-mod entry;
-mod fault;
-mod gaps;
-mod lookup;
-mod lowering;
-mod pieces;
-mod place;
 mod received;
 mod restoring;
-mod splitting;
 mod structs;
-mod taking;
+mod updates;
 
 pub use brought::Brought;
-pub use entry::Entry;
-pub use fault::NoMemory;
-pub use place::Place;
 pub use received::Received;
+pub use yd_entries::{Entry, NoMemory, Place};

@@ -2,23 +2,21 @@
 
 ghost use Rattle.std.specs.Prelude.{◌≡◌, ◌≢◌, ◌↔◌, ◌<◌, [], length, IsTrue, OnOk, OnErr, IfOk, IfSome, IfNone};
 ghost use Rattle.std.specs.Prelude.{HoldsAt, true};
+ghost use Rattle.std.specs.Global.{Global as Allocator};
 ghost use Rattle.yd_words.specs.Each.{Each};
 ghost use Rattle.yd_ops.specs.Valid.{IsValidUpdate};
 ghost use Rattle.yd_ops.specs.View.{update_value};
 ghost use Rattle.yd_updates.specs.Received.{with_groups, groups_of};
-ghost use Rattle.yd_received.specs.Entries.{covers, GrowBy};
+ghost use Rattle.yd_entries.specs.Entries.{covers, GrowBy};
 ghost use Rattle.yd_received.specs.Received.{IsReceived, taken_of, brings, IsBrought, GetsPlace, put_back, put_back_entries};
-ghost use Rattle.yd_received.specs.Taking.{is_covered, BringsOperation};
+ghost use Rattle.yd_entries.specs.Taking.{is_covered, BringsOperation};
 
 use crate::brought::Brought;
-use crate::entry::Entry;
-use crate::fault::NoMemory;
-use crate::lookup::{entry_at, entry_of};
-use crate::place::Place;
 use crate::restoring::{keep_first, undo_holding};
-use crate::structs::take_update;
+use crate::updates::take_update;
 use std::alloc::Global;
 use std::marker::Model;
+use yd_entries::{Entry, NoMemory, Place, entry_at, entry_of};
 use yd_ids::{Id, Vector};
 use yd_ops::{Run, Update};
 
@@ -77,8 +75,10 @@ impl Received {
         &self.entries
     }
 
-    /// The allocator that its memory is from.
-    pub fn allocator(&self) -> Global {
+    /// The allocator that its memory is from, which is the only one of its type.
+    pub fn allocator(&self) -> Global
+        ensures { (other : Allocator) → result ≡ other }
+    {
         *self.runs.allocator()
     }
 

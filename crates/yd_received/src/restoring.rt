@@ -3,13 +3,12 @@
 ghost use Rattle.std.specs.Prelude.{◌≡◌, map, filter, take};
 ghost use Rattle.yd_words.specs.Each.{Each};
 ghost use Rattle.yd_ids.specs.Id.{IsId};
-ghost use Rattle.yd_received.specs.declared.place.Place.TheVariants.{Waits};
-ghost use Rattle.yd_received.specs.declared.entry.Entry.{Entry};
-ghost use Rattle.yd_received.specs.Entries.{is_of_first};
+ghost use Rattle.yd_entries.specs.declared.place.Place.TheVariants.{Waits};
+ghost use Rattle.yd_entries.specs.declared.entry.Entry.{Entry};
+ghost use Rattle.yd_entries.specs.Entries.{is_of_first};
 ghost use Rattle.yd_received.specs.Received.{undone, with_place};
 
-use crate::entry::Entry;
-use crate::place::Place;
+use yd_entries::{Entry, Place};
 use yd_ids::Vector;
 
 /// Keeps what was taken of the first runs.

@@ -1,100 +1,27 @@
 //! Taking in the structs of an update, one after another.
 
-ghost use Rattle.std.specs.Prelude.{◌≡◌, ◌↔◌, ◌∷◌, [], false, nat_eq, length, map, filter, IsTrue, OnOk, OnErr, IfOk};
+ghost use Rattle.std.specs.Prelude.{◌≡◌, ◌↔◌, ◌∷◌, [], false, nat_eq, length, map, IsTrue, OnOk, IfOk};
 ghost use Rattle.std.specs.Bool.{OnFalse};
 ghost use Rattle.yd_words.specs.Each.{Each};
+ghost use Rattle.yd_ids.specs.Id.{IsClient, IsClock};
 ghost use Rattle.yd_ops.specs.Operation.{operations_of_run, operations_of_struct};
 ghost use Rattle.yd_ops.specs.Operation.{operations_of_structs, operations_of_blocks};
-ghost use Rattle.yd_ids.specs.Id.{IsClient, IsClock};
-ghost use Rattle.yd_ops.specs.Valid.{IsValidBlock, IsValidUpdate, AreStructsFrom};
-ghost use Rattle.yd_ops.specs.View.{content_value, run_value, struct_value, block_value, update_value};
-ghost use Rattle.yd_updates.specs.Received.{groups_of_structs, groups_of_blocks, groups_of};
-ghost use Rattle.yd_received.specs.Entries.{AreTaken, operations_in, is_of_first, GrowBy};
-ghost use Rattle.yd_received.specs.Lowering.{level_of_content, level_from, IsBacked};
-ghost use Rattle.yd_received.specs.Received.{brings, IsBrought};
-ghost use Rattle.yd_received.specs.Structs.{IsStructOf, TakesIn, gone_run, kept_of, IsBroughtBy};
-ghost use Rattle.yd_received.specs.Taking.{BringsOne, BringsOperation, AreUnchanged, IsRun};
-ghost use Rattle.yd_received.specs.Taking.{operations_from_run};
+ghost use Rattle.yd_ops.specs.Valid.{IsValidBlock, AreStructsFrom};
+ghost use Rattle.yd_ops.specs.View.{content_value, run_value, struct_value, block_value};
+ghost use Rattle.yd_updates.specs.Received.{groups_of_structs, groups_of_blocks};
+ghost use Rattle.yd_entries.specs.Entries.{AreTaken, operations_in, GrowBy};
+ghost use Rattle.yd_entries.specs.Lowering.{level_of_content, IsBacked};
+ghost use Rattle.yd_entries.specs.Taking.{BringsOne, AreUnchanged, IsRun, operations_from_run};
+ghost use Rattle.yd_received.specs.Structs.{IsStructOf, TakesIn, gone_run};
 
-use crate::brought::Brought;
-use crate::entry::Entry;
-use crate::fault::NoMemory;
-use crate::lowering::{DELETED, GONE, lower};
-use crate::restoring::{keep_first, let_wait};
-use crate::taking::add_run;
 use std::alloc::Global;
+use yd_entries::{Entry, NoMemory, add_run, level_from, lower};
 use yd_ids::Id;
-use yd_ops::{Block, Content, Run, Struct, Update};
-
-/// Takes in the operations of an update. Where memory ends nothing was taken.
-pub(crate) fn take_update(
-    runs: &mut Vec<Run>,
-    taken: &mut Vec<Entry>,
-    update: &Update,
-) -> Result<Brought, NoMemory>
-    requires update { IsValidUpdate (update_value update.now) }
-    requires taken { AreTaken runs.old.items taken.old.items }
-    ensures taken { OnOk result (TakesIn runs.old.items taken.old.items
-        runs.new.items taken.new.items (groups_of (update_value update.now))) }
-    ensures brings { IfOk result (λ brought. IsTrue (brings brought)
-        ↔ BringsOperation (update_value update.now)
-        (operations_in runs.old.items taken.old.items)) }
-    ensures brought { IfOk result (λ brought. IsBrought brought
-        (record { runs = runs.old.items; entries = taken.old.items })
-        (record { runs = runs.new.items; entries = taken.new.items })) }
-    ensures grows { OnOk result (GrowBy runs.old.items runs.new.items) }
-    ensures unchanged { OnErr result
-        (AreUnchanged runs.old.items taken.old.items runs.new.items taken.new.items) }
-{
-    let alloc = *runs.allocator();
-    let count = runs.len();
-    let mut before = None;
-    match take_blocks(alloc, runs, taken, &mut before, update.blocks.as_slice()) {
-        Ok(more) => Ok(brought(taken, before, count, more)),
-        Err(NoMemory) => {
-            runs.truncate(count);
-            back(taken, before, count);
-            Err(NoMemory)
-        }
-    }
-}
-
-/// What an update brought, which brings something or nothing. Where it lowered something, all
-/// waits.
-fn brought(
-    taken: &mut Vec<Entry>,
-    before: Option<Vec<Entry>>,
-    count: usize,
-    brings: bool,
-) -> Brought
-    ensures { IsBroughtBy count before taken.old.items brings taken.new.items result }
-{
-    if !brings {
-        return Brought::Nothing;
-    }
-    match before {
-        None => Brought::Added,
-        Some(mut entries) => {
-            keep_first(&mut entries, count);
-            let_wait(taken);
-            Brought::Lowered(entries)
-        }
-    }
-}
-
-/// Puts back what was taken of the first runs.
-fn back(taken: &mut Vec<Entry>, before: Option<Vec<Entry>>, count: usize)
-    ensures { taken.new.items ≡ filter (is_of_first count) (kept_of before taken.old.items) }
-{
-    if let Some(entries) = before {
-        *taken = entries;
-    }
-    keep_first(taken, count);
-}
+use yd_ops::{Block, Content, Run, Struct};
 
 /// Takes in the operations of blocks, and says whether they bring something. Before the first entry
 /// is lowered, the entries are copied.
-fn take_blocks(
+pub(crate) fn take_blocks(
     alloc: Global,
     runs: &mut Vec<Run>,
     taken: &mut Vec<Entry>,
@@ -280,11 +207,4 @@ fn take_less(
     let level = level_from(is_gone);
     let lowers = lower(alloc, runs, taken, before, run.id, run.len(), level)?;
     Ok(adds | lowers)
-}
-
-/// The level to which deleted units lower, or ones that are gone.
-fn level_from(is_gone: bool) -> u64
-    ensures { result ≡ level_from is_gone }
-{
-    if is_gone { GONE } else { DELETED }
 }

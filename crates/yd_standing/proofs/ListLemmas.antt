@@ -9,13 +9,13 @@ use Rattle.yd_updates.specs.Received.{has_operation, IsWritten}
 use Rattle.yd_meaning.specs.Held.{standing}
 use Rattle.yd_meaning.specs.Order.{list_of}
 use Rattle.yd_meaning.proofs.VectorLemmas.{held_below}
-use Rattle.yd_received.specs.declared.entry.Entry.{Entry}
-use Rattle.yd_received.specs.declared.place.Place.{Place}
-use Rattle.yd_received.specs.declared.place.Place.TheVariants.{Waits, Lost, In}
-use Rattle.yd_received.specs.Entries.{is_held, is_listed, is_listed_at}
+use Rattle.yd_entries.specs.declared.entry.Entry.{Entry}
+use Rattle.yd_entries.specs.declared.place.Place.{Place}
+use Rattle.yd_entries.specs.declared.place.Place.TheVariants.{Waits, Lost, In}
+use Rattle.yd_entries.specs.Entries.{is_held, is_listed, is_listed_at}
 use Rattle.yd_received.specs.Received.{taken_of, listed_of}
-use Rattle.yd_received.specs.Taking.{is_covered}
-use Rattle.yd_received.proofs.TakenLemmas.{in_written}
+use Rattle.yd_entries.specs.Taking.{is_covered}
+use Rattle.yd_entries.proofs.TakenLemmas.{in_written}
 use Rattle.yd_held.specs.Numbered.{list_at_place}
 use Rattle.yd_held.proofs.HeldUnitLemmas.{covers_unit}
 use Rattle.yd_held.proofs.HeldEntryLemmas.{is_taken, id_chosen, chosen_id, chosen_covered, covers_chosen}

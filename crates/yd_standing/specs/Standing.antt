@@ -12,9 +12,9 @@ use Rattle.yd_ops.specs.View.{content_value}
 use Rattle.yd_updates.specs.Received.{Received, has_operation}
 use Rattle.yd_meaning.specs.Held.{held_set, held_clock, standing}
 use Rattle.yd_meaning.specs.Order.{list_of}
-use Rattle.yd_received.specs.declared.entry.Entry.{Entry}
-use Rattle.yd_received.specs.declared.place.Place.{Place}
-use Rattle.yd_received.specs.Entries.{covers, is_listed}
+use Rattle.yd_entries.specs.declared.entry.Entry.{Entry}
+use Rattle.yd_entries.specs.declared.place.Place.{Place}
+use Rattle.yd_entries.specs.Entries.{covers, is_listed}
 use Rattle.yd_received.specs.Received.{ReceivedValue}
 
 -- the operations that are held and not lost

@@ -1,7 +1,7 @@
 //! The type that a unit is.
 
 ghost use Rattle.std.specs.Prelude.{◌≡◌, ◌<◌, None, Some, length, IfSome, IfNone};
-ghost use Rattle.yd_received.specs.Entries.{is_listed_at};
+ghost use Rattle.yd_entries.specs.Entries.{is_listed_at};
 ghost use Rattle.yd_state.specs.State.{received_in};
 ghost use Rattle.yd_standing.specs.Standing.{kind_where, kind_told, stands_in};
 

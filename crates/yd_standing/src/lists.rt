@@ -1,7 +1,7 @@
 //! The list that a unit is in.
 
 ghost use Rattle.std.specs.Prelude.{◌≡◌, None, Some, true, slice_get, IfSome, IfNone, Decides};
-ghost use Rattle.yd_received.specs.Taking.{is_covered};
+ghost use Rattle.yd_entries.specs.Taking.{is_covered};
 ghost use Rattle.yd_state.specs.State.{received_in};
 ghost use Rattle.yd_standing.specs.Standing.{list_where, IsPlaceOf, IsReached, stands_in};
 

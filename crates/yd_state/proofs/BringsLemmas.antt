@@ -4,7 +4,7 @@ use Rattle.yd_ids.specs.declared.id.Id.{Id}
 use Rattle.yd_ids.specs.Set.{HasId}
 use Rattle.yd_ops.specs.Value.{UpdateValue}
 use Rattle.yd_updates.specs.Deletes.{deletes_of}
-use Rattle.yd_received.specs.Taking.{BringsOperation}
+use Rattle.yd_entries.specs.Taking.{BringsOperation}
 use Rattle.yd_state.specs.State.{StateValue, received_in, IsSound}
 use Rattle.yd_state.specs.Brings.{BringsSomething}
 

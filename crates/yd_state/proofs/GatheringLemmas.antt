@@ -5,9 +5,9 @@ use Rattle.std.specs.Global.{Vec}
 use Rattle.std.proofs.lemmas.List.{map-append, length-replicate, append-nil}
 use Rattle.std.proofs.lemmas.List.Elements.{filter-append}
 use Rattle.yd_order.specs.declared.stretch.Stretch.{Stretch}
-use Rattle.yd_received.specs.declared.entry.Entry.{Entry}
-use Rattle.yd_received.specs.declared.place.Place.{Place}
-use Rattle.yd_received.specs.declared.place.Place.TheVariants.{Waits, Lost, In}
+use Rattle.yd_entries.specs.declared.entry.Entry.{Entry}
+use Rattle.yd_entries.specs.declared.place.Place.{Place}
+use Rattle.yd_entries.specs.declared.place.Place.TheVariants.{Waits, Lost, In}
 use Rattle.yd_received.specs.Received.{with_place}
 use Rattle.yd_held.specs.Numbered.{is_in_list}
 use Rattle.yd_state.specs.Stretches.{stretch_of, stretches_in, stretch_lists, with_last, AreGathered}

@@ -9,8 +9,8 @@ use Rattle.yd_ops.specs.declared.runs.Run.{Run}
 use Rattle.yd_ops.specs.Operation.{Operation}
 use Rattle.yd_meaning.specs.Held.{is_named}
 use Rattle.yd_meaning.specs.Document.{operation_before, operations_at}
-use Rattle.yd_received.specs.declared.entry.Entry.{Entry}
-use Rattle.yd_received.specs.Entries.{standing_in}
+use Rattle.yd_entries.specs.declared.entry.Entry.{Entry}
+use Rattle.yd_entries.specs.Entries.{standing_in}
 use Rattle.yd_state.specs.Lent.{Lent, lent, lent_in}
 
 before-append : (held : List Operation) (x : Id) (os ps : List Operation) → operation_before held x (os ++ ps) ≡ operation_before held x os ++ ps

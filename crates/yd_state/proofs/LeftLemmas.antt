@@ -9,7 +9,7 @@ use Rattle.yd_ops.specs.Operation.{Operation}
 use Rattle.yd_updates.specs.Received.{has_operation}
 use Rattle.yd_meaning.specs.Held.{is_named}
 use Rattle.yd_meaning.specs.Document.{operation_before, operations_at}
-use Rattle.yd_received.specs.Entries.{standing_in}
+use Rattle.yd_entries.specs.Entries.{standing_in}
 use Rattle.yd_state.specs.Lending.{Lending, IsLending}
 use Rattle.yd_state.specs.Lent.{lent, units_left}
 

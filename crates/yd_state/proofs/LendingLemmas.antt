@@ -21,18 +21,18 @@ use Rattle.yd_meaning.specs.Order.{rows_of}
 use Rattle.yd_meaning.specs.Document.{operation_before, operations_at}
 use Rattle.yd_meaning.proofs.RowLemmas.{written_distinct}
 use Rattle.yd_meaning.proofs.DocumentLemmas.{found_before}
-use Rattle.yd_received.specs.declared.entry.Entry.{Entry}
-use Rattle.yd_received.specs.Entries.{units_of, list_at, operations_told, operations_of_taken, IsTold, TellsRight, IsTakenOf, AreTaken, is_listed, standing_in, covers}
+use Rattle.yd_entries.specs.declared.entry.Entry.{Entry}
+use Rattle.yd_entries.specs.Entries.{units_of, list_at, operations_told, operations_of_taken, IsTold, TellsRight, IsTakenOf, AreTaken, is_listed, standing_in, covers}
 use Rattle.yd_received.specs.Received.{ReceivedValue}
 use Rattle.yd_state.specs.Lending.{AreTold}
 use Rattle.yd_state.specs.Lent.{Lent, lent, lent_from, lent_in, IsRow}
-use Rattle.yd_received.specs.Taking.{is_covered}
+use Rattle.yd_entries.specs.Taking.{is_covered}
 use Rattle.yd_state.proofs.NamedLemmas.{named_decides}
-use Rattle.yd_received.proofs.EntryLemmas.{covers_in}
+use Rattle.yd_entries.proofs.EntryLemmas.{covers_in}
 use Rattle.yd_held.proofs.HeldUnitLemmas.{covers_less, covers_unit}
 use Rattle.yd_held.proofs.HeldEntryLemmas.{is_taken, chosen_written, entry_chosen, covers_chosen, chosen_covered}
 use Rattle.yd_ops.proofs.OperationLemmas.{later_none, later_later}
-use Rattle.yd_received.proofs.UnitLemmas.{later_same, from_unit}
+use Rattle.yd_entries.proofs.UnitLemmas.{later_same, from_unit}
 
 -- what is asked of a set is whether its spans name the id
 pub asked_named : (deletes : List Span) (x : Id) (b : Bool) → (b ≡ true) ↔ HasId deletes x → b ≡ is_named deletes x

@@ -20,7 +20,7 @@ use Rattle.yd_meaning.specs.Document.{Document, operations_at, keys_among, docum
 use Rattle.yd_meaning.proofs.RowLemmas.{written_distinct}
 use Rattle.yd_meaning.proofs.DocumentLemmas.{operations_held}
 use Rattle.yd_received.specs.Received.{ReceivedValue}
-use Rattle.yd_received.specs.Entries.{is_listed}
+use Rattle.yd_entries.specs.Entries.{is_listed}
 use Rattle.yd_held.proofs.HeldEntryLemmas.{chosen_received}
 use Rattle.yd_state.specs.State.{StateValue, received_in, listed_of, document_in, IsSound}
 use Rattle.yd_state.proofs.ListedLemmas.{in_list, order_found}

@@ -19,10 +19,10 @@ use Rattle.yd_meaning.specs.ListNames.{same_list_decides}
 use Rattle.yd_meaning.specs.Order.{rows_of, list_of, operation_set, order_of}
 use Rattle.yd_meaning.proofs.RowLemmas.{row_one}
 use Rattle.yd_order.specs.Stretch.{rows_of_stretch, rows_of_stretches, among_rows, EndsAtClock}
-use Rattle.yd_received.specs.declared.entry.Entry.{Entry}
-use Rattle.yd_received.specs.Entries.{operations_of_taken, IsTakenOf, is_listed}
+use Rattle.yd_entries.specs.declared.entry.Entry.{Entry}
+use Rattle.yd_entries.specs.Entries.{operations_of_taken, IsTakenOf, is_listed}
 use Rattle.yd_received.specs.Received.{listed_of}
-use Rattle.yd_received.proofs.EntriesLemmas.{each_kept}
+use Rattle.yd_entries.proofs.EntriesLemmas.{each_kept}
 use Rattle.yd_held.specs.Held.{HeldValue, HoldsAll}
 use Rattle.yd_held.specs.Numbered.{list_at_place, is_in_list}
 use Rattle.yd_state.specs.Stretches.{stretch_of, stretches_in, order_by_stretches}

@@ -15,12 +15,12 @@ use Rattle.yd_ids.proofs.SetLemmas.{has_front, has_either}
 use Rattle.yd_ops.specs.declared.runs.Run.{Run}
 use Rattle.yd_updates.specs.Received.{has_operation}
 use Rattle.yd_meaning.specs.Held.{held_set, is_lost}
-use Rattle.yd_received.specs.declared.entry.Entry.{Entry}
-use Rattle.yd_received.specs.declared.place.Place.{Place}
-use Rattle.yd_received.specs.declared.place.Place.TheVariants.{Waits, Lost, In}
-use Rattle.yd_received.specs.Entries.{is_held_at, is_held, is_listed_at, is_listed, IsTakenOf, covers}
+use Rattle.yd_entries.specs.declared.entry.Entry.{Entry}
+use Rattle.yd_entries.specs.declared.place.Place.{Place}
+use Rattle.yd_entries.specs.declared.place.Place.TheVariants.{Waits, Lost, In}
+use Rattle.yd_entries.specs.Entries.{is_held_at, is_held, is_listed_at, is_listed, IsTakenOf, covers}
 use Rattle.yd_received.specs.Received.{taken_of, held_of, listed_of}
-use Rattle.yd_received.proofs.EntryLemmas.{covers_in}
+use Rattle.yd_entries.proofs.EntryLemmas.{covers_in}
 use Rattle.yd_held.specs.Held.{HeldValue, HoldsAll}
 use Rattle.yd_held.proofs.HeldUnitLemmas.{covers_less}
 use Rattle.yd_held.proofs.HeldEntryLemmas.{id_chosen, chosen_id, covers_chosen}

@@ -13,10 +13,10 @@ use Rattle.yd_updates.specs.Received.{has_operation, IsWritten}
 use Rattle.yd_meaning.specs.Names.{item_of_list}
 use Rattle.yd_meaning.specs.Order.{rows_of, list_of}
 use Rattle.yd_meaning.proofs.StandingTableLemmas.{standing_table}
-use Rattle.yd_received.specs.declared.entry.Entry.{Entry}
-use Rattle.yd_received.specs.declared.place.Place.{Place}
-use Rattle.yd_received.specs.declared.place.Place.TheVariants.{Waits, Lost, In}
-use Rattle.yd_received.specs.Entries.{units_of, list_at, operations_told, operations_of_taken, IsTakenOf, is_held, is_listed_at, is_listed, covers}
+use Rattle.yd_entries.specs.declared.entry.Entry.{Entry}
+use Rattle.yd_entries.specs.declared.place.Place.{Place}
+use Rattle.yd_entries.specs.declared.place.Place.TheVariants.{Waits, Lost, In}
+use Rattle.yd_entries.specs.Entries.{units_of, list_at, operations_told, operations_of_taken, IsTakenOf, is_held, is_listed_at, is_listed, covers}
 use Rattle.yd_received.specs.Received.{held_of, listed_of}
 use Rattle.yd_held.specs.Held.{HeldValue, HoldsAll}
 use Rattle.yd_held.specs.Numbered.{list_at_place, number_of}

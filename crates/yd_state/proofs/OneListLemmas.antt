@@ -11,10 +11,10 @@ use Rattle.yd_origins.specs.Table.{Row, OriginTable, ids_of, IsTable}
 use Rattle.yd_meaning.specs.Order.{rows_of, list_of}
 use Rattle.yd_meaning.proofs.HeldListLemmas.{list_of-left}
 use Rattle.yd_order.specs.Stretch.{rows_of_stretch, rows_of_stretches}
-use Rattle.yd_received.specs.declared.entry.Entry.{Entry}
-use Rattle.yd_received.specs.declared.place.Place.{Place}
-use Rattle.yd_received.specs.declared.place.Place.TheVariants.{Waits, Lost, In}
-use Rattle.yd_received.specs.Entries.{is_listed}
+use Rattle.yd_entries.specs.declared.entry.Entry.{Entry}
+use Rattle.yd_entries.specs.declared.place.Place.{Place}
+use Rattle.yd_entries.specs.declared.place.Place.TheVariants.{Waits, Lost, In}
+use Rattle.yd_entries.specs.Entries.{is_listed}
 use Rattle.yd_received.specs.Received.{with_place}
 use Rattle.yd_held.specs.Numbered.{list_at_place, is_in_list}
 use Rattle.yd_state.specs.Stretches.{stretch_of, stretches_in}

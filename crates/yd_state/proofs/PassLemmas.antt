@@ -24,7 +24,7 @@ use Rattle.yd_received.specs.Received.{taken_of, listed_of}
 use Rattle.yd_held.specs.Held.{HeldValue, HoldsAll}
 use Rattle.yd_state.specs.Ordered.{AreOrders, order_lists}
 use Rattle.yd_state.specs.Deleting.{span_of_id, lost_spans, HasHeld, AddsIds, dropped_ids}
-use Rattle.yd_received.proofs.WrittenLemmas.{taken_written}
+use Rattle.yd_entries.proofs.WrittenLemmas.{taken_written}
 use Rattle.yd_state.proofs.FateLemmas.{AreDecided, AreListed, HasItemBefore, decided_first, decided_more, decided_all}
 use Rattle.yd_state.proofs.LostSpanLemmas.{lost_has, has_lost}
 use Rattle.yd_state.proofs.NumberLemmas.{stands_table, id_listed, item_before}

@@ -10,7 +10,7 @@ use Rattle.yd_origins.specs.Sorted.{origin_order}
 use Rattle.yd_meaning.specs.Order.{order_of}
 use Rattle.yd_order.specs.declared.stretch.Stretch.{Stretch}
 use Rattle.yd_order.specs.Stretch.{rows_of_stretches, among_rows}
-use Rattle.yd_received.specs.declared.entry.Entry.{Entry}
+use Rattle.yd_entries.specs.declared.entry.Entry.{Entry}
 use Rattle.yd_state.specs.Ordered.{AreOrders}
 use Rattle.yd_received.specs.Received.{listed_of}
 use Rattle.yd_held.specs.Held.{HeldValue, HoldsAll}

@@ -9,9 +9,9 @@ use Rattle.yd_ops.specs.Operation.{UnitContent, Operation, later_id, operations_
 use Rattle.yd_origins.specs.Table.{OriginTable}
 use Rattle.yd_meaning.specs.Order.{row_of, rows_of}
 use Rattle.yd_order.specs.Stretch.{EndsAtClock, rows_from, rows_of_stretch, rows_of_stretches}
-use Rattle.yd_received.specs.declared.entry.Entry.{Entry}
-use Rattle.yd_received.specs.Entries.{units_of, list_at, operations_told, operations_of_taken, operations_in, IsTakenOf, TellsRight}
-use Rattle.yd_received.proofs.TakenLemmas.{units_taken}
+use Rattle.yd_entries.specs.declared.entry.Entry.{Entry}
+use Rattle.yd_entries.specs.Entries.{units_of, list_at, operations_told, operations_of_taken, operations_in, IsTakenOf, TellsRight}
+use Rattle.yd_entries.proofs.TakenLemmas.{units_taken}
 use Rattle.yd_state.specs.Stretches.{stretch_of}
 
 -- units of a run that were taken: they are not gone

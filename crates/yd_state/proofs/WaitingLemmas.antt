@@ -17,13 +17,13 @@ use Rattle.yd_ops.specs.Operation.{Operation, later_id, gone_from}
 use Rattle.yd_ops.proofs.OperationLemmas.{length-operations_from}
 use Rattle.yd_updates.specs.Received.{IsWritten}
 use Rattle.yd_meaning.specs.Held.{held_set, held_clock, count_of_ids, named_count}
-use Rattle.yd_received.specs.declared.entry.Entry.{Entry}
-use Rattle.yd_received.specs.Entries.{units_of, list_at, operations_told, operations_of_taken, operations_in, TellsRight, IsTakenOf, is_held}
+use Rattle.yd_entries.specs.declared.entry.Entry.{Entry}
+use Rattle.yd_entries.specs.Entries.{units_of, list_at, operations_told, operations_of_taken, operations_in, TellsRight, IsTakenOf, is_held}
 use Rattle.yd_received.specs.Received.{taken_of}
 use Rattle.yd_held.specs.Held.{HeldValue, HoldsAll}
 use Rattle.yd_state.specs.Waiting.{waiting_units, waiting_ids}
-use Rattle.yd_received.proofs.TakenLemmas.{units_taken}
-use Rattle.yd_received.proofs.WrittenLemmas.{taken_written}
+use Rattle.yd_entries.proofs.TakenLemmas.{units_taken}
+use Rattle.yd_entries.proofs.WrittenLemmas.{taken_written}
 use Rattle.yd_state.proofs.CountLemmas.{count_in, count_named}
 
 -- ---- units

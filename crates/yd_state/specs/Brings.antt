@@ -6,7 +6,7 @@ use Rattle.yd_ops.specs.Value.{UpdateValue}
 use Rattle.yd_updates.specs.Received.{Received}
 use Rattle.yd_updates.specs.Deletes.{deletes_of}
 use Rattle.yd_meaning.specs.Deleted.{is_in_delete_set}
-use Rattle.yd_received.specs.Taking.{BringsOperation}
+use Rattle.yd_entries.specs.Taking.{BringsOperation}
 
 -- the id is deleted by name, or in the delete set
 abbrev pub IsKnownDeleted : Received → Id → Type 0

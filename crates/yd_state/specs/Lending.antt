@@ -5,8 +5,8 @@ use Rattle.yd_ids.specs.declared.id.Id.{Id}
 use Rattle.yd_ids.specs.declared.id.Span.{Span}
 use Rattle.yd_ops.specs.declared.runs.Run.{Run}
 use Rattle.yd_updates.specs.Received.{has_operation}
-use Rattle.yd_received.specs.declared.entry.Entry.{Entry}
-use Rattle.yd_received.specs.Entries.{AreTaken, is_listed, standing_in}
+use Rattle.yd_entries.specs.declared.entry.Entry.{Entry}
+use Rattle.yd_entries.specs.Entries.{AreTaken, is_listed, standing_in}
 
 -- no unit in a list is gone
 abbrev pub AreTold : List Entry → Type 0

@@ -11,8 +11,8 @@ use Rattle.yd_ops.specs.View.{content_value}
 use Rattle.yd_origins.specs.Deleted.{last_of}
 use Rattle.yd_meaning.specs.Held.{is_named}
 use Rattle.yd_meaning.specs.Document.{Document, operations_at}
-use Rattle.yd_received.specs.declared.entry.Entry.{Entry}
-use Rattle.yd_received.specs.Entries.{standing_in}
+use Rattle.yd_entries.specs.declared.entry.Entry.{Entry}
+use Rattle.yd_entries.specs.Entries.{standing_in}
 use Rattle.yd_state.specs.declared.listing.RunView.{RunView}
 use Rattle.yd_state.specs.Lending.{Lending}
 

@@ -8,7 +8,7 @@ use Rattle.yd_origins.specs.Sorted.{origin_order}
 use Rattle.yd_origins.specs.Table.{IsTable}
 use Rattle.yd_order.specs.declared.stretch.Stretch.{Stretch}
 use Rattle.yd_order.specs.Stretch.{EndsAtClock, rows_of_stretches, among_rows}
-use Rattle.yd_received.specs.declared.entry.Entry.{Entry}
+use Rattle.yd_entries.specs.declared.entry.Entry.{Entry}
 use Rattle.yd_held.specs.Numbered.{is_in_list}
 
 -- units that were taken, as a stretch

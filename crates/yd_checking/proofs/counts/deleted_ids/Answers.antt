@@ -3,7 +3,7 @@ use Rattle.yd_ids.specs.Set.{AreMaximal}
 use Rattle.yd_meaning.specs.Deleted.{is_deleted, is_in_delete_set}
 use Rattle.yd_meaning.specs.Document.{Document}
 use Rattle.yd_meaning.specs.Held.{count_of_ids, held_set, is_named}
-use Rattle.yd_received.proofs.WrittenLemmas.{taken_written}
+use Rattle.yd_entries.proofs.WrittenLemmas.{taken_written}
 use Rattle.yd_state.specs.State.{received_in}
 use Rattle.yd_state.proofs.LentLemmas.{document_defined}
 use Rattle.yd_updates.specs.Received.{has_operation}

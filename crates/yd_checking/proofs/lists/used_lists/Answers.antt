@@ -6,7 +6,7 @@ use Rattle.yd_words.specs.Test.{one_if}
 use Rattle.yd_ops.specs.declared.lists.List.{List as DocList}
 use Rattle.yd_meaning.specs.Document.{Document}
 use Rattle.yd_meaning.specs.Held.{held_set, is_named}
-use Rattle.yd_received.proofs.WrittenLemmas.{taken_written}
+use Rattle.yd_entries.proofs.WrittenLemmas.{taken_written}
 use Rattle.yd_state.specs.State.{received_in, document_in}
 use Rattle.yd_state.proofs.LentLemmas.{document_defined}
 use Rattle.yd_state.proofs.NamesLemmas.{no_name}

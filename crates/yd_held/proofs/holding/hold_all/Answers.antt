@@ -1,6 +1,6 @@
 use Rattle.std.proofs.Common.{get_or, subst}
 use Rattle.std.specs.Global.{Vec}
-use Rattle.yd_received.proofs.EntryLemmas.{no_entry}
+use Rattle.yd_entries.proofs.EntryLemmas.{no_entry}
 use Rattle.yd_held.specs.declared.noting.Lack.{Lack}
 use Rattle.yd_held.specs.Held.{held_value}
 use Rattle.yd_held.specs.Noted.{Finds, Wakes}

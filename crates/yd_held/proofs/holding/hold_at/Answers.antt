@@ -1,5 +1,5 @@
 use Rattle.std.proofs.Common.{refl, sym, subst}
-use Rattle.yd_received.proofs.EntryLemmas.{no_entry}
+use Rattle.yd_entries.proofs.EntryLemmas.{no_entry}
 use Rattle.yd_held.specs.Held.{held_value}
 use Rattle.yd_held.specs.Holding.{IsWithin}
 use Rattle.yd_held.proofs.HoldAtLemmas.{origins_covered, is_entry, within, fewer_waiting, holds_entry, holding_then, holds_more}

@@ -1,6 +1,6 @@
 use Rattle.std.proofs.Common.{◌∙◌, ap, sym}
 use Rattle.std.specs.Prelude.{is_some}
-use Rattle.yd_received.proofs.EntryLemmas.{no_entry}
+use Rattle.yd_entries.proofs.EntryLemmas.{no_entry}
 use Rattle.yd_held.specs.Numbered.{list_at_place}
 use Rattle.yd_held.proofs.NumberOfLemmas.{number_read, numbered_covered, numbered_place}
 use Rattle.yd_held.proofs.numbering.number_at.Goals as goal

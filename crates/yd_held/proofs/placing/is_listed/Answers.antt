@@ -1,7 +1,7 @@
 use Rattle.std.proofs.Common.{◌∙◌, ap, sym}
 use Rattle.std.specs.Prelude.{is_some}
 use Rattle.yd_words.proofs.TestLemmas.{test_fails}
-use Rattle.yd_received.proofs.EntryLemmas.{no_entry}
+use Rattle.yd_entries.proofs.EntryLemmas.{no_entry}
 use Rattle.yd_held.specs.Numbered.{list_at_place}
 use Rattle.yd_held.proofs.NumberOfLemmas.{number_read, numbered_place}
 use Rattle.yd_held.proofs.placing.is_listed.Goals as goal

@@ -1,7 +1,7 @@
 use Rattle.std.proofs.Common.{take}
 use Rattle.yd_words.specs.Each.{Each}
 use Rattle.yd_words.specs.Member.{IsIn}
-use Rattle.yd_received.specs.declared.entry.Entry.{Entry}
+use Rattle.yd_entries.specs.declared.entry.Entry.{Entry}
 use Rattle.yd_held.proofs.trying.clients_of.Given as goal
 
 abbrev pub invariant-loop-entry : goal.invariant-loop-entry

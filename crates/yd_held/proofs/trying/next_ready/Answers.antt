@@ -1,5 +1,5 @@
 use Rattle.std.proofs.Common.{◌∙◌, ◌++◌, ◌≡◌, ◌∷◌, [], get_or, ap, subst, sym}
-use Rattle.yd_received.proofs.EntryLemmas.{no_entry}
+use Rattle.yd_entries.proofs.EntryLemmas.{no_entry}
 use Rattle.yd_held.specs.Readiness.{lack_of}
 use Rattle.yd_held.specs.Noted.{AreNoted, AreMissing}
 use Rattle.yd_held.proofs.TryingLemmas.{tried_without, tried_noted, tried_missing, tried_ready}

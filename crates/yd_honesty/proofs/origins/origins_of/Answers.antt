@@ -1,7 +1,7 @@
 use Rattle.std.proofs.Common.{◌∙◌, get_or}
 use Rattle.std.proofs.lemmas.Option.{slice_get-get_or}
-use Rattle.yd_received.specs.Entries.{is_listed}
-use Rattle.yd_received.proofs.EntryLemmas.{no_entry}
+use Rattle.yd_entries.specs.Entries.{is_listed}
+use Rattle.yd_entries.proofs.EntryLemmas.{no_entry}
 use Rattle.yd_held.proofs.HeldEntryLemmas.{chosen_covered}
 use Rattle.yd_honesty.proofs.OriginsLemmas.{origins_are}
 use Rattle.yd_honesty.proofs.origins.origins_of.Goals as goal

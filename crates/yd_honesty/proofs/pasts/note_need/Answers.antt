@@ -1,7 +1,7 @@
 use Rattle.std.proofs.Common.{[], get_or, arith, true≢false}
 use Rattle.std.specs.Prelude.{true}
 use Rattle.std.proofs.lemmas.Option.{slice_get-get_or}
-use Rattle.yd_received.proofs.EntryLemmas.{no_entry}
+use Rattle.yd_entries.proofs.EntryLemmas.{no_entry}
 use Rattle.yd_honesty.proofs.NotingLemmas.{notes_need, one_read}
 use Rattle.yd_honesty.proofs.pasts.note_need.Goals as goal
 

@@ -1,6 +1,6 @@
 use Rattle.std.proofs.Common.{get_or, sym, ap, ◌∙◌}
-use Rattle.yd_received.proofs.EntriesLemmas.{entry_at}
-use Rattle.yd_received.proofs.EntryLemmas.{no_entry}
+use Rattle.yd_entries.proofs.EntriesLemmas.{entry_at}
+use Rattle.yd_entries.proofs.EntryLemmas.{no_entry}
 use Rattle.yd_making.specs.Types.{holds_type}
 use Rattle.yd_making.proofs.TypeLemmas.{no_type, type_at}
 use Rattle.yd_making.proofs.kinds.has_type.Goals as goal

@@ -1,5 +1,5 @@
 use Rattle.std.proofs.Common.{[], ◌∷◌, sym, subst}
-use Rattle.yd_received.specs.Entries.{IsTakenOf}
+use Rattle.yd_entries.specs.Entries.{IsTakenOf}
 use Rattle.yd_merge.proofs.LentCutLemmas.{run_taken}
 use Rattle.yd_merge.proofs.lent_cutting.push_lent.Goals as goal
 

@@ -1,6 +1,6 @@
 use Rattle.std.proofs.Common.{◌≡◌, ◌∙◌, ◌<◌, length, get_or, ap, arith}
-use Rattle.yd_received.specs.declared.entry.Entry.{Entry}
-use Rattle.yd_received.specs.declared.place.Place.TheVariants.{Waits}
+use Rattle.yd_entries.specs.declared.entry.Entry.{Entry}
+use Rattle.yd_entries.specs.declared.place.Place.TheVariants.{Waits}
 use Rattle.yd_received.specs.Received.{with_place}
 use Rattle.yd_received.proofs.RestoringLemmas.{walked, walked_all, walked_next, walked_more}
 use Rattle.yd_received.proofs.restoring.let_wait.Goals as goal

@@ -1,7 +1,7 @@
 use Rattle.std.proofs.Common.{◌≡◌, ◌∙◌, ◌<◌, length, get_or, ap, sym, subst, arith}
 use Rattle.yd_ids.specs.Id.{IsId}
 use Rattle.yd_words.proofs.EachLemmas.{each_at}
-use Rattle.yd_received.specs.declared.entry.Entry.{Entry}
+use Rattle.yd_entries.specs.declared.entry.Entry.{Entry}
 use Rattle.yd_received.specs.Received.{undone}
 use Rattle.yd_received.proofs.RestoringLemmas.{walked, walked_all, walked_next, walked_more}
 use Rattle.yd_received.proofs.restoring.undo_holding.Goals as goal

@@ -2,7 +2,7 @@ use Rattle.std.proofs.Common.{arith}
 use Rattle.yd_ops.specs.Valid.{IsValidBlock}
 use Rattle.yd_ops.specs.View.{block_value}
 use Rattle.yd_ops.proofs.EachLemmas.{each_read}
-use Rattle.yd_received.proofs.BackedLemmas.{backed_none, backed_grown}
+use Rattle.yd_entries.proofs.BackedLemmas.{backed_none, backed_grown}
 use Rattle.yd_received.proofs.SequenceLemmas.{taken_none, block_more}
 use Rattle.yd_received.proofs.structs.take_blocks.Goals as goal
 

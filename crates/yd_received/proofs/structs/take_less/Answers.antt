@@ -1,5 +1,5 @@
 use Rattle.yd_ops.specs.View.{run_value}
-use Rattle.yd_received.proofs.BackedLemmas.{backed_adds, backed_grown}
+use Rattle.yd_entries.proofs.BackedLemmas.{backed_adds, backed_grown}
 use Rattle.yd_received.proofs.StructLemmas.{less_taken, less_brings}
 use Rattle.yd_received.proofs.structs.take_less.Goals as goal
 

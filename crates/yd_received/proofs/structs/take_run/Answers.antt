@@ -1,6 +1,6 @@
 use Rattle.std.proofs.Common.{sym, ◌∙◌}
 use Rattle.yd_ops.specs.View.{run_value, content_value}
-use Rattle.yd_received.proofs.SpelledLemmas.{full_content}
+use Rattle.yd_entries.proofs.SpelledLemmas.{full_content}
 use Rattle.yd_received.proofs.StructLemmas.{full_takes, full_brings}
 use Rattle.yd_received.proofs.structs.take_run.Goals as goal
 

@@ -1,5 +1,5 @@
 use Rattle.std.proofs.Common.{arith}
-use Rattle.yd_received.proofs.BackedLemmas.{backed_none, backed_grown}
+use Rattle.yd_entries.proofs.BackedLemmas.{backed_none, backed_grown}
 use Rattle.yd_received.proofs.SequenceLemmas.{taken_none, struct_next, struct_more, clock_more}
 use Rattle.yd_received.proofs.structs.take_structs.Goals as goal
 

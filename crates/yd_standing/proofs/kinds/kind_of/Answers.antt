@@ -1,8 +1,8 @@
 use Rattle.std.proofs.Common.{◌≡◌, ◌≢◌, None, Some, sym, subst}
 use Rattle.std.specs.Prelude.{IfSome, IfNone}
 use Rattle.yd_words.specs.Each.{Each}
-use Rattle.yd_received.specs.declared.entry.Entry.{Entry}
-use Rattle.yd_received.proofs.EntryLemmas.{no_entry}
+use Rattle.yd_entries.specs.declared.entry.Entry.{Entry}
+use Rattle.yd_entries.proofs.EntryLemmas.{no_entry}
 use Rattle.yd_standing.proofs.KindLemmas.{no_kind, kind_found}
 use Rattle.yd_standing.proofs.kinds.kind_of.Goals as goal
 

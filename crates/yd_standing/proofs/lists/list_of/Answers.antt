@@ -1,6 +1,6 @@
 use Rattle.std.proofs.Common.{◌≡◌, None, Some, ap, sym, ◌∙◌, subst, true≢false}
 use Rattle.std.specs.Prelude.{slice_get, IfSome, IfNone}
-use Rattle.yd_received.specs.declared.place.Place.TheVariants.{In}
+use Rattle.yd_entries.specs.declared.place.Place.TheVariants.{In}
 use Rattle.yd_received.specs.Received.{ReceivedValue}
 use Rattle.yd_standing.specs.Standing.{IsPlaceOf, list_where, stands_in}
 use Rattle.yd_state.specs.State.{received_in}

@@ -1,7 +1,7 @@
 use Rattle.std.proofs.Common.{◌≡◌, ◌<◌, true, length, get_or, refl, sym}
-use Rattle.yd_received.specs.Entries.{covers}
-use Rattle.yd_received.proofs.EntriesLemmas.{entry_at}
-use Rattle.yd_received.proofs.EntryLemmas.{no_entry}
+use Rattle.yd_entries.specs.Entries.{covers}
+use Rattle.yd_entries.proofs.EntriesLemmas.{entry_at}
+use Rattle.yd_entries.proofs.EntryLemmas.{no_entry}
 use Rattle.yd_standing.proofs.lists.place_of.Goals as goal
 
 pub returns : goal.returns

@@ -6,7 +6,7 @@ use Rattle.yd_ids.specs.Id.{IsId, IsSpan}
 use Rattle.yd_ids.specs.Set.{AddsSpans}
 use Rattle.yd_meaning.specs.Held.{is_named}
 use Rattle.yd_meaning.specs.Names.{item_of_list}
-use Rattle.yd_received.specs.Entries.{IsTakenOf}
+use Rattle.yd_entries.specs.Entries.{IsTakenOf}
 use Rattle.yd_state.specs.Deleting.{AddsIds, dropped_ids, lost_spans, span_of_entry}
 use Rattle.yd_state.proofs.LostSpanLemmas.{entry_span}
 use Rattle.std.specs.Global.{Vec}

@@ -1,10 +1,10 @@
 use Rattle.std.proofs.Common.{◌≡◌, ◌<◌, true, length, get_or, arith}
 use Rattle.yd_meaning.specs.Held.{is_named}
 use Rattle.yd_updates.specs.Received.{has_operation}
-use Rattle.yd_received.specs.Entries.{AreTaken, covers, standing_in}
+use Rattle.yd_entries.specs.Entries.{AreTaken, covers, standing_in}
 use Rattle.yd_state.specs.Lending.{AreTold}
-use Rattle.yd_received.proofs.EntriesLemmas.{entry_at}
-use Rattle.yd_received.proofs.EntryLemmas.{no_entry}
+use Rattle.yd_entries.proofs.EntriesLemmas.{entry_at}
+use Rattle.yd_entries.proofs.EntryLemmas.{no_entry}
 use Rattle.yd_state.proofs.LendingLemmas.{asked_named, listed_covered, client_within, place_within, row_inside, row_lent, row_within, lent_of}
 use Rattle.yd_state.proofs.listing.view_at.Goals as goal
 

@@ -4,7 +4,7 @@ use Rattle.yd_words.specs.Member.{IsIn}
 use Rattle.yd_ops.specs.declared.lists.List.{List as DocList}
 use Rattle.yd_ops.specs.Operation.{Operation}
 use Rattle.yd_updates.specs.Received.{IsWritten}
-use Rattle.yd_received.proofs.WrittenLemmas.{taken_written}
+use Rattle.yd_entries.proofs.WrittenLemmas.{taken_written}
 use Rattle.yd_doc.specs.Kept.{Kept, received_of, own_document}
 use Rattle.yd_doc.proofs.KeysLemmas.{names_keys}
 use Rattle.yd_doc.proofs.replica.Replica.keys.Goals as goal

@@ -2,7 +2,7 @@ use Rattle.std.proofs.Common.{◌<◌, length, set, refl, sym, ap, ◌∙◌, ar
 use Rattle.std.specs.Prelude.{slice_get}
 use Rattle.std.proofs.lemmas.Option.{slice_get_read}
 use Rattle.yd_received.specs.Received.{ReceivedValue, with_place}
-use Rattle.yd_received.proofs.ChangeLemmas.{are_taken-place}
+use Rattle.yd_received.proofs.PlacingLemmas.{are_taken-place}
 use Rattle.yd_received.proofs.received.Received.hold.Goals as goal
 
 pub invariant_of-self : goal.invariant_of-self

@@ -2,8 +2,8 @@ use Rattle.std.proofs.Common.{sym, subst}
 use Rattle.yd_words.specs.Each.{Each}
 use Rattle.yd_ids.specs.Id.{IsId}
 use Rattle.yd_words.proofs.EachLemmas.{each_weaker}
-use Rattle.yd_received.specs.Entries.{IsTakenOf, is_of_first}
-use Rattle.yd_received.proofs.EntriesLemmas.{each_kept}
+use Rattle.yd_entries.specs.Entries.{IsTakenOf, is_of_first}
+use Rattle.yd_entries.proofs.EntriesLemmas.{each_kept}
 use Rattle.yd_received.proofs.received.Received.put_back.Goals as goal
 
 pub undo_holding-requires : goal.undo_holding-requires

@@ -2,7 +2,7 @@ use Rattle.std.proofs.Common.{◌↔◌, subst}
 use Rattle.std.specs.Prelude.{IsTrue, IfOk}
 use Rattle.yd_ops.specs.View.{update_value}
 use Rattle.yd_received.specs.Received.{taken_of, brings}
-use Rattle.yd_received.specs.Taking.{BringsOperation}
+use Rattle.yd_entries.specs.Taking.{BringsOperation}
 use Rattle.yd_received.proofs.received.Received.take.Goals as goal
 
 pub returns-clause-brings : goal.returns-clause-brings

@@ -1,0 +1,18 @@
+use Rattle.std.proofs.Common.{get_or, rules, of_calls}
+use Rattle.std.proofs.lemmas.Fn.{always_returns_same}
+use Rattle.yd_words.proofs.EachLemmas.{each_take, each_drop}
+use Rattle.yd_entries.specs.declared.entry.Entry.{Entry}
+use Rattle.yd_entries.specs.Taking.{EndsBy, EndsBehind, ends_by}
+use Rattle.yd_entries.proofs.EntryLemmas.{ends_true, ends_false, entries_parted}
+use Rattle.yd_entries.proofs.gaps.place.Goals as goal
+
+pub returns : goal.returns
+returns c =
+    let taken = c.args.taken.now in
+    let id = c.args.id in
+    let point = c.partition_point.ensures.partitioned (λ (t : Entry). ends_by id t) (always_returns_same _ _ _ (λ a r f k. search (rules, of_calls))) (entries_parted taken id c.requires) in
+    record {
+      bound = c.partition_point.ensures.bound;
+      before = each_take (EndsBy id) taken c.partition_point.result (λ k d low lt. ends_true id (get_or taken k d) (point.0 k d low lt));
+      behind = each_drop (EndsBehind id) taken c.partition_point.result (λ k d low lt. ends_false id (get_or taken k d) (point.1 k d low lt));
+    }

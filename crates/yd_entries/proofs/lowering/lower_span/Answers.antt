@@ -1,0 +1,11 @@
+use Rattle.yd_entries.proofs.WholeLemmas.{span_lowers}
+use Rattle.yd_entries.proofs.lowering.lower_span.Goals as goal
+
+pub lower_whole-requires-clause-first : goal.lower_whole-requires-clause-first
+lower_whole-requires-clause-first c = c.in_ok-begin_at-2.ensures.begins.others c.args.id c.in_ok-begin_at.ensures.begins.beside
+
+pub returns-clause-lowered : goal.returns-clause-lowered
+returns-clause-lowered c =
+    span_lowers c.args.id c.args.len c.args.level c.args.runs.now.items c.begin_at.new.runs.items c.begin_at-2.new.runs.items c.lower_whole.new.runs.items
+    c.args.taken.now.items c.begin_at.new.taken.items c.begin_at-2.new.taken.items c.lower_whole.new.taken.items
+    c.in_ok-begin_at.ensures.begins c.in_ok-begin_at-2.ensures.begins c.in_ok-lower_whole.ensures.lowered

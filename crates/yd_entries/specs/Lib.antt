@@ -1,0 +1,5 @@
+pub mod Entries
+pub mod Lookup
+pub mod Lowering
+pub mod Splitting
+pub mod Taking

@@ -1,0 +1,30 @@
+//! Entries: the units of runs that were taken, since their ids were new, and what is told of them.
+//!
+//! The entries of a list stand in the order of writing, so an id is found by bisection ([`entry_of`],
+//! [`entry_at`]). [`add_run`] adds the units of a run with new ids, and keeps a copy of the run; a half
+//! whose partner does not come with it is U+FFFD. [`lower`] makes what is there deleted or gone: an
+//! entry is split where the ids begin and end, and a pair that this parts is U+FFFD twice. No unit of
+//! a deleted or gone run is walked, and one run may have as many as there are clocks.
+//!
+//! ```rust
+//! let adds = add_run(alloc, &mut runs, &mut taken, &run, false)?;
+//! let lowers = lower(alloc, &mut runs, &mut taken, &mut before, run.id, run.len(), level_from(false))?;
+//! ```
+#![tactic(auto)]
+
+mod entry;
+mod fault;
+mod gaps;
+mod lookup;
+mod lowering;
+mod pieces;
+mod place;
+mod splitting;
+mod taking;
+
+pub use entry::Entry;
+pub use fault::NoMemory;
+pub use lookup::{entry_at, entry_of};
+pub use lowering::{level_from, lower};
+pub use place::Place;
+pub use taking::add_run;

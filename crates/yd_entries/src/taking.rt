@@ -1,0 +1,110 @@
+//! Taking in the operations of runs, or of units that are gone.
+
+ghost use Rattle.std.specs.Prelude.{◌≡◌, ◌↔◌, ◌<◌, ◌≤◌, ◌-◌, ◌⊎◌, ◌∷◌, length, IsTrue, OnOk, IfOk};
+ghost use Rattle.std.specs.Bool.{OnFalse};
+ghost use Rattle.yd_words.specs.Each.{Each};
+ghost use Rattle.yd_ops.specs.Value.{len_of};
+ghost use Rattle.yd_ops.specs.View.{content_value, run_value};
+ghost use Rattle.yd_entries.specs.Entries.{AreTaken, AreInOrder, operations_in, OnlyAdds, GrowBy};
+ghost use Rattle.yd_entries.specs.Taking.{AreCovered, AddsOne, AddsGroup, HasUnits, IsRun, IsKept};
+ghost use Rattle.yd_entries.specs.Taking.{IsPassed, IsTakenNext, operations_from_run, AreUnchanged};
+
+use crate::entry::Entry;
+use crate::fault::NoMemory;
+use crate::gaps::{ids_from, known_from};
+use crate::pieces::{first_piece, id_at, take_piece};
+use std::alloc::Global;
+use yd_ops::Run;
+
+/// Adds the units of a run with new ids, or as many that are gone, and says whether there are any.
+/// Then a copy of the run is kept.
+pub fn add_run(
+    alloc: Global,
+    runs: &mut Vec<Run>,
+    taken: &mut Vec<Entry>,
+    run: &Run,
+    is_gone: bool,
+) -> Result<bool, NoMemory>
+    requires run { IsRun is_gone (run_value run.now) }
+    requires taken { AreTaken runs.old.items taken.old.items }
+    ensures added { OnOk result (AddsGroup runs.old.items taken.old.items
+        runs.new.items taken.new.items (operations_from_run is_gone (run_value run.now))) }
+    ensures says { IfOk result (λ says. IsTrue says
+        ↔ AddsOne (operations_from_run is_gone (run_value run.now))
+        (operations_in runs.old.items taken.old.items)) }
+    ensures unchanged { IfOk result (λ says. OnFalse says
+        (AreUnchanged runs.old.items taken.old.items runs.new.items taken.new.items)) }
+    ensures grows { GrowBy runs.old.items runs.new.items }
+    ensures adds { OnlyAdds (length runs.old.items) taken.old.items taken.new.items }
+{
+    let known = known_from(taken, run.id, run.len());
+    if known >= run.len() {
+        return Ok(false);
+    }
+    let index = runs.len();
+    let copy = run.copy()?;
+    runs.push(copy)?;
+    add_rest(alloc, runs, taken, run, is_gone, index, known)?;
+    Ok(true)
+}
+
+/// Adds the units of a run from one on, where those before it are there.
+fn add_rest(
+    alloc: Global,
+    runs: &mut Vec<Run>,
+    taken: &mut Vec<Entry>,
+    run: &Run,
+    is_gone: bool,
+    index: usize,
+    known: u64,
+) -> Result<(), NoMemory>
+    requires run { IsRun is_gone (run_value run.now) }
+    requires kept { IsKept runs.old.items index (run_value run.now) }
+    requires taken { AreTaken runs.old.items taken.old.items }
+    requires bound { known ≤ len_of (content_value run.now.content) }
+    requires known { AreCovered taken.old.items run.now.id known }
+    ensures added { OnOk result (AddsGroup runs.old.items taken.old.items
+        runs.new.items taken.new.items (operations_from_run is_gone (run_value run.now))) }
+    ensures grows { GrowBy runs.old.items runs.new.items }
+    ensures adds { OnlyAdds index taken.old.items taken.new.items }
+{
+    let mut from = known;
+    while from < run.len() {
+        from = add_next(alloc, runs, taken, run, is_gone, index, from)?;
+    }
+    Ok(())
+}
+
+/// Adds units of a run from one on, as many as go together, and gives the number of the next.
+fn add_next(
+    alloc: Global,
+    runs: &mut Vec<Run>,
+    taken: &mut Vec<Entry>,
+    run: &Run,
+    is_gone: bool,
+    index: usize,
+    from: u64,
+) -> Result<u64, NoMemory>
+    requires run { IsRun is_gone (run_value run.now) }
+    requires kept { IsKept runs.old.items index (run_value run.now) }
+    requires in_order { AreInOrder taken.old.items }
+    requires each { Each HasUnits taken.old.items }
+    requires more { from < len_of (content_value run.now.content) }
+    ensures bound { IfOk result (λ next. (from < next)
+        × (next ≤ len_of (content_value run.now.content))) }
+    ensures taken { IfOk result (λ next.
+        IsPassed runs.old.items taken.old.items runs.new.items taken.new.items
+        (run_value run.now) from (next - from)
+        ⊎ IsTakenNext is_gone runs.old.items taken.old.items runs.new.items taken.new.items
+        (run_value run.now) from (next - from)) }
+    ensures grows { GrowBy runs.old.items runs.new.items }
+    ensures adds { OnlyAdds index taken.old.items taken.new.items }
+{
+    let ids = ids_from(taken, id_at(run, from), run.len() - from);
+    if !ids.is_new {
+        return Ok(from + ids.len);
+    }
+    let piece = first_piece(&run.content, from, from + ids.len);
+    take_piece(alloc, runs, taken, run, is_gone, index, ids.at, from, piece)?;
+    Ok(from + piece.len)
+}

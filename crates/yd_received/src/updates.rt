@@ -1,0 +1,82 @@
+//! Taking in an update, and what that did.
+
+ghost use Rattle.std.specs.Prelude.{◌≡◌, ◌↔◌, filter, IsTrue, OnOk, OnErr, IfOk};
+ghost use Rattle.yd_ops.specs.Valid.{IsValidUpdate};
+ghost use Rattle.yd_ops.specs.View.{update_value};
+ghost use Rattle.yd_updates.specs.Received.{groups_of};
+ghost use Rattle.yd_entries.specs.Entries.{AreTaken, operations_in, is_of_first, GrowBy};
+ghost use Rattle.yd_entries.specs.Taking.{BringsOperation, AreUnchanged};
+ghost use Rattle.yd_received.specs.Received.{brings, IsBrought};
+ghost use Rattle.yd_received.specs.Structs.{TakesIn, kept_of, IsBroughtBy};
+
+use crate::brought::Brought;
+use crate::restoring::{keep_first, let_wait};
+use crate::structs::take_blocks;
+use yd_entries::{Entry, NoMemory};
+use yd_ops::{Run, Update};
+
+/// Takes in the operations of an update. Where memory ends nothing was taken.
+pub(crate) fn take_update(
+    runs: &mut Vec<Run>,
+    taken: &mut Vec<Entry>,
+    update: &Update,
+) -> Result<Brought, NoMemory>
+    requires update { IsValidUpdate (update_value update.now) }
+    requires taken { AreTaken runs.old.items taken.old.items }
+    ensures taken { OnOk result (TakesIn runs.old.items taken.old.items
+        runs.new.items taken.new.items (groups_of (update_value update.now))) }
+    ensures brings { IfOk result (λ brought. IsTrue (brings brought)
+        ↔ BringsOperation (update_value update.now)
+        (operations_in runs.old.items taken.old.items)) }
+    ensures brought { IfOk result (λ brought. IsBrought brought
+        (record { runs = runs.old.items; entries = taken.old.items })
+        (record { runs = runs.new.items; entries = taken.new.items })) }
+    ensures grows { OnOk result (GrowBy runs.old.items runs.new.items) }
+    ensures unchanged { OnErr result
+        (AreUnchanged runs.old.items taken.old.items runs.new.items taken.new.items) }
+{
+    let alloc = *runs.allocator();
+    let count = runs.len();
+    let mut before = None;
+    match take_blocks(alloc, runs, taken, &mut before, update.blocks.as_slice()) {
+        Ok(more) => Ok(brought(taken, before, count, more)),
+        Err(NoMemory) => {
+            runs.truncate(count);
+            back(taken, before, count);
+            Err(NoMemory)
+        }
+    }
+}
+
+/// What an update brought, which brings something or nothing. Where it lowered something, all
+/// waits.
+fn brought(
+    taken: &mut Vec<Entry>,
+    before: Option<Vec<Entry>>,
+    count: usize,
+    brings: bool,
+) -> Brought
+    ensures { IsBroughtBy count before taken.old.items brings taken.new.items result }
+{
+    if !brings {
+        return Brought::Nothing;
+    }
+    match before {
+        None => Brought::Added,
+        Some(mut entries) => {
+            keep_first(&mut entries, count);
+            let_wait(taken);
+            Brought::Lowered(entries)
+        }
+    }
+}
+
+/// Puts back what was taken of the first runs.
+fn back(taken: &mut Vec<Entry>, before: Option<Vec<Entry>>, count: usize)
+    ensures { taken.new.items ≡ filter (is_of_first count) (kept_of before taken.old.items) }
+{
+    if let Some(entries) = before {
+        *taken = entries;
+    }
+    keep_first(taken, count);
+}
