@@ -83,6 +83,18 @@ module _ (places : Id → Option ℕ) (stretches : List Stretch) (list : List �
     ]
   ]
 
+  -- with its own mark they are marked above that at the start, and none above the next one
+  passed_marks : (start : ℕ) (marks : List ℕ) (counter moved : ℕ) (place at : Option ℕ) (s : IsScanning stretches list after new start marks counter moved place at)
+      (i : ℕ) → i < length marks → (j : ℕ) → IsIn j (s.passed ++ (s.conflicting ++ i ∷ [])) →
+      (start < get_or (set marks i (counter + 1)) j 0) × (get_or (set marks i (counter + 1)) j 0 ≤ counter + 1)
+  passed_marks start marks counter moved place at s i inside j h = (above, still_low marks counter i inside s.marks_low j)
+    where
+      above : start < get_or (set marks i (counter + 1)) j 0
+      above = elim (chain.same_place j i) [
+        | inl t ↦ omega (arith, ap (λ k. get_or (set marks i (counter + 1)) k 0) t.1, same_mark marks i (counter + 1) inside, s.moved_low, s.start_low)
+        | inr t ↦ omega (arith, other_mark marks i (counter + 1) j t.1, above_start start marks counter moved place at s i j t.1 h)
+      ]
+
   -- the place moves behind the next run
   pub scan_moves : (start : ℕ) (marks : List ℕ) (counter moved : ℕ) (place at : Option ℕ) → IsScanning stretches list after new start marks counter moved place at →
       (i : ℕ) → at ≡ Some i → verdict_on (stretch_at stretches i) new (is_above places marks moved (stretch_at stretches i).left) (is_above places marks start (stretch_at stretches i).left) ≡ moves →
@@ -112,15 +124,7 @@ module _ (places : Id → Option ℕ) (stretches : List Stretch) (list : List �
             ∙ ap (λ xs. units_at stretches s.passed ++ xs) (sym (units_append stretches s.conflicting (i ∷ [])))
             ∙ sym (units_append stretches s.passed (s.conflicting ++ i ∷ [])));
         marked_conflicting = λ j h. absurd h;
-        marked_passed = λ j h. elim (chain.same_place j i) [
-          | inl t ↦
-              let m = ap (λ k. get_or (set marks i (counter + 1)) k 0) t.1 in
-              let v = same_mark marks i (counter + 1) (omega (arith, lt, s.marks_len)) in
-              (omega (arith, m, v, s.moved_low, s.start_low), omega (arith, m, v))
-          | inr t ↦
-              let m = other_mark marks i (counter + 1) j t.1 in
-              (omega (arith, m, above_start start marks counter moved place at s i j t.1 h), omega (arith, m, s.marks_low j))
-        ];
+        marked_passed = passed_marks start marks counter moved place at s i (omega (arith, lt, s.marks_len));
         marked_others = λ j p q.
             let n : j ≢ i = λ k. p (in_right_part j s.passed (s.conflicting ++ i ∷ []) (in_right_part j s.conflicting (i ∷ []) (inl k))) in
             omega (arith, other_mark marks i (counter + 1) j n, s.marked_others j (λ k. p (in_left_part j s.passed (s.conflicting ++ i ∷ []) k)) (λ k. p (in_right_part j s.passed (s.conflicting ++ i ∷ []) (in_left_part j s.conflicting (i ∷ []) k))));
