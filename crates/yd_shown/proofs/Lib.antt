@@ -1,6 +1,7 @@
 pub mod AlikeLemmas
 pub mod AloneLemmas
 pub mod AscendLemmas
+pub mod ExampleLemmas
 pub mod FrontLemmas
 pub mod KeyLemmas
 pub mod LiveLemmas

@@ -1,37 +1,9 @@
-use Rattle.std.proofs.Common.{◌≡◌, ◌<◌, ◌^◌, ℕ, zero, suc, Bool, true, ◌&&◌, nat_lt, List, [], ◌∷◌, None, codes, slice_index, refl, arith, tests}
-use Rattle.yd_words.proofs.TestLemmas.{both_hold}
-use Rattle.yd_ids.specs.declared.id.Span.{Span}
-use Rattle.yd_ids.specs.Id.{IsId}
-use Rattle.yd_ids.specs.Set.{AreMaximal}
-use Rattle.yd_units.specs.Half.{AreUnits, IsWhole}
-use Rattle.yd_ops.specs.Value.{StructValue}
-use Rattle.yd_ops.specs.Valid.{AreStructsFrom, IsValidUpdate}
-use Rattle.yd_meaning.specs.Collected.{unit_id}
-use Rattle.yd_meaning.proofs.ExampleLemmas.{unit_is_whole, units_are_whole, first_valid}
-use Rattle.yd_shown.specs.Example.{update_of, key_set_again, text_marked, hello_put, you_put, class_set, kinds_put}
+use Rattle.std.proofs.Common.{[], ◌∷◌, None, codes, refl, arith}
+use Rattle.yd_ops.specs.Valid.{IsValidUpdate}
+use Rattle.yd_meaning.proofs.ExampleLemmas.{unit_is_whole, first_valid}
+use Rattle.yd_shown.specs.Example.{key_set_again, text_marked, hello_put, you_put, class_set, kinds_put}
+use Rattle.yd_shown.proofs.ExampleLemmas.{structs_valid, text_is_whole, unit_is_id}
 use Rattle.yd_shown.proofs.example.are_valid.Goals as goal
-
--- whether no unit is a half
-abbrev are_below : List ℕ → Bool
-are_below [] = true
-are_below (u ∷ us) = nat_lt u 0xD800 && are_below us
-
-below_all : (us : List ℕ) → are_below us ≡ true → (i : ℕ) → slice_index us i < 0xD800
-below_all [] e zero = omega arith
-below_all [] e (suc i) = omega arith
-below_all (u ∷ us) e zero = let (first, rest) = both_hold (nat_lt u 0xD800) (are_below us) e in grind (arith, tests)
-below_all (u ∷ us) e (suc i) = below_all us (both_hold (nat_lt u 0xD800) (are_below us) e).1 i
-
-text_is_whole : (us : List ℕ) → are_below us ≡ true → AreUnits us × IsWhole us
-text_is_whole us e = units_are_whole us (below_all us e)
-
-unit_is_id : (client clock : ℕ) → client < 2 ^ 53 → clock < 2 ^ 53 → IsId (unit_id client clock)
-unit_is_id client clock small below = record { client = small; clock = below }
-
--- an update of such structs is valid
-structs_valid : (client : ℕ) (structs : List StructValue) (deletes : List Span) → client < 2 ^ 53 → AreStructsFrom (record { 0 = client }) 0 structs → AreMaximal deletes →
-    IsValidUpdate (update_of client structs deletes)
-structs_valid client structs deletes small are maximal = record { blocks = (record { client = small; clock = omega arith; structs = are }, tt); deletes = maximal }
 
 again_valid : IsValidUpdate key_set_again
 again_valid = structs_valid 5 _ _ (omega arith) (
