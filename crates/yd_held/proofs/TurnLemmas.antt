@@ -9,12 +9,12 @@ use Rattle.yd_ids.specs.declared.id.Id.{Id}
 use Rattle.yd_ids.specs.Vector.{clock_of}
 use Rattle.yd_ops.specs.declared.runs.Run.{Run}
 use Rattle.yd_ops.specs.Operation.{Operation}
-use Rattle.yd_received.specs.declared.entry.Entry.{Entry}
-use Rattle.yd_received.specs.declared.place.Place.{Place}
-use Rattle.yd_received.specs.Entries.{operations_of_taken, covers, is_held, is_held_at, carried_of}
+use Rattle.yd_entries.specs.declared.entry.Entry.{Entry}
+use Rattle.yd_entries.specs.declared.place.Place.{Place}
+use Rattle.yd_entries.specs.Entries.{operations_of_taken, covers, is_held, is_held_at, carried_of}
 use Rattle.yd_received.specs.Received.{ReceivedValue, IsReceived, held_of, with_place}
-use Rattle.yd_received.proofs.ChangeLemmas.{set_has, set_has_at}
-use Rattle.yd_received.proofs.EntryLemmas.{covers_in}
+use Rattle.yd_entries.proofs.ChangeLemmas.{set_has, set_has_at}
+use Rattle.yd_entries.proofs.EntryLemmas.{covers_in}
 use Rattle.yd_held.specs.Holding.{HoldsEntry}
 use Rattle.yd_held.specs.Readiness.{IsOriginOf}
 use Rattle.yd_held.specs.Turn.{clocks_with, IsNextHeld, AreHeldInTurn}

@@ -9,10 +9,10 @@ use Rattle.yd_ops.specs.declared.runs.Run.{Run}
 use Rattle.yd_updates.specs.Received.{has_operation}
 use Rattle.yd_meaning.specs.Names.{item_of_list}
 use Rattle.yd_meaning.specs.Held.{held_set}
-use Rattle.yd_received.specs.declared.entry.Entry.{Entry}
-use Rattle.yd_received.specs.declared.place.Place.{Place}
-use Rattle.yd_received.specs.declared.place.Place.TheVariants.{Waits, Lost, In}
-use Rattle.yd_received.specs.Entries.{is_held, is_held_at, GrowBy}
+use Rattle.yd_entries.specs.declared.entry.Entry.{Entry}
+use Rattle.yd_entries.specs.declared.place.Place.{Place}
+use Rattle.yd_entries.specs.declared.place.Place.TheVariants.{Waits, Lost, In}
+use Rattle.yd_entries.specs.Entries.{is_held, is_held_at, GrowBy}
 use Rattle.yd_received.specs.Received.{ReceivedValue, IsReceived, taken_of, held_of, with_place, undone}
 use Rattle.yd_held.specs.Held.{HeldValue, HoldsAll}
 use Rattle.yd_held.specs.Numbered.{number_of, is_in_list}

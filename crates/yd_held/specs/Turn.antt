@@ -5,8 +5,8 @@ use Rattle.yd_ids.specs.declared.id.Id.{Id}
 use Rattle.yd_ids.specs.Vector.{clock_of}
 use Rattle.yd_ops.specs.declared.runs.Run.{Run}
 use Rattle.yd_ops.specs.Operation.{Operation}
-use Rattle.yd_received.specs.declared.entry.Entry.{Entry}
-use Rattle.yd_received.specs.Entries.{is_held, carried_of}
+use Rattle.yd_entries.specs.declared.entry.Entry.{Entry}
+use Rattle.yd_entries.specs.Entries.{is_held, carried_of}
 use Rattle.yd_received.specs.Received.{held_of}
 use Rattle.yd_held.specs.Held.{HeldValue}
 use Rattle.yd_held.specs.Readiness.{IsOriginOf}

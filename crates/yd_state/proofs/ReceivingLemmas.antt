@@ -16,7 +16,7 @@ use Rattle.yd_ops.specs.Value.{UpdateValue}
 use Rattle.yd_ops.specs.View.{update_value}
 use Rattle.yd_ops.specs.declared.updates.Update.{Update}
 use Rattle.yd_updates.specs.Received.{Received, nothing_received, received_after, received_more, received_set}
-use Rattle.yd_received.specs.declared.entry.Entry.{Entry}
+use Rattle.yd_entries.specs.declared.entry.Entry.{Entry}
 use Rattle.yd_state.specs.Stretches.{AreSettled}
 
 received_one_more : (r : Received) (us : List UpdateValue) (u : UpdateValue) → received_more r (us ++ u ∷ []) ≡ received_after (received_more r us) u
