@@ -5,6 +5,7 @@ pub mod LogLemmas
 pub mod LogWriterLemmas
 pub mod LogWrittenLemmas
 pub mod PlaceLemmas
+pub mod RefusalLemmas
 pub mod SpellsLemmas
 pub mod VectorWrittenLemmas
 pub mod WrittenLemmas
