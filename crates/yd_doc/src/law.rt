@@ -1,7 +1,6 @@
 //! The laws of replicas, each the contract of a function that does nothing.
 
-ghost use Rattle.std.specs.Prelude.{◌≡◌, ◌≤◌, ℕ, List, None};
-ghost use Rattle.yd_words.specs.Each.{Each};
+ghost use Rattle.std.specs.Prelude.{◌≤◌, ℕ};
 ghost use Rattle.yd_ids.specs.Vector.{clock_of};
 ghost use Rattle.yd_updates.specs.Law.{IsReceived};
 ghost use Rattle.yd_updates.specs.Received.{received_after};
@@ -9,13 +8,7 @@ ghost use Rattle.yd_meaning.specs.Document.{IsDocumentOf};
 ghost use Rattle.yd_meaning.specs.Held.{held_clock, held_set};
 ghost use Rattle.yd_meaning.specs.Law.{IsCompleted};
 ghost use Rattle.yd_grouping.specs.Groupable.{AreGroupable};
-ghost use Rattle.yd_grouping.specs.Grouped.{IsGrouped};
 ghost use Rattle.yd_grouping.specs.Merged.{reply_of};
-ghost use Rattle.yd_editing.specs.Law.{MakesContent, EditIsTaken, IsStepInRange};
-ghost use Rattle.yd_editing.specs.Made.{update_of_edit};
-ghost use Rattle.yd_editing.specs.Refused.{refusal_of};
-ghost use Rattle.yd_editing.specs.Step.{Step};
-ghost use Rattle.yd_doc.specs.Editing.{own_basis};
 ghost use Rattle.yd_doc.specs.Kept.{received_of, own_deletes, own_document};
 
 use crate::replica::Replica;
@@ -58,31 +51,4 @@ pub fn received_can_be_grouped(replica: &Replica)
 {
     // What is kept is looked at, since its invariant says that this is of valid updates.
     let _state = &replica.state;
-}
-
-/// Where an edit is not refused, what is received after it is what was there with the made operations
-/// and the removed ids. Where what is held is honest, it is so at the moment when they are made,
-/// before anything that waited is held, each operation keeps the edit rules, and each stands directly
-/// behind the unit that its step names.
-pub fn edits_are_taken(replica: &Replica)
-    ensures { (steps : List Step) → Each MakesContent steps
-        → refusal_of (own_basis replica.now) steps ≡ None
-        → EditIsTaken replica.now.client (received_of replica.now) steps }
-{
-    // What is kept is looked at, since its invariant says this.
-    let _received = replica.state.received();
-    yd_editing::law::edits_are_taken();
-}
-
-/// The update of an edit is grouped: it is the one grouped update of its operations and deletions.
-/// The ids that a step removes are maximal spans, as those of an `IdSet` are.
-pub fn edits_are_grouped(replica: &Replica)
-    ensures { (steps : List Step) → Each IsStepInRange steps → Each MakesContent steps
-        → refusal_of (own_basis replica.now) steps ≡ None
-        → IsGrouped (update_of_edit (own_basis replica.now) steps) }
-{
-    // What is kept is looked at, since its invariant says this.
-    let _received = replica.state.received();
-    yd_editing::law::edits_are_taken();
-    yd_editing::law::edits_are_valid();
 }

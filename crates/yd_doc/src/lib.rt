@@ -2,7 +2,7 @@
 //!
 //! What it tells is read of its own document ([`Replica`]). This is the document that the operations
 //! and deletions that it received define (`yd_meaning`), in whatever order and however often they
-//! came ([`law`]). An `apply` that finds no memory has
+//! came ([`law`], [`edit_law`]). An `apply` that finds no memory has
 //! received nothing: the replica tells what it told before, and that it is behind.
 //!
 //! ```rust
@@ -13,6 +13,7 @@
 #![tactic(auto)]
 
 mod asking;
+pub mod edit_law;
 mod editing;
 mod fault;
 mod indexing;

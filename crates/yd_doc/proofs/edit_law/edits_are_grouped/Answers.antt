@@ -7,7 +7,7 @@ use Rattle.yd_doc.specs.Editing.{own_basis}
 use Rattle.yd_doc.specs.Kept.{Kept, received_of}
 use Rattle.yd_making.proofs.GivenLemmas.{basis_is, ids_in_range}
 use Rattle.yd_doc.proofs.GroupedEditLemmas.{edit_grouped}
-use Rattle.yd_doc.proofs.law.edits_are_grouped.Goals as goal
+use Rattle.yd_doc.proofs.edit_law.edits_are_grouped.Goals as goal
 
 pub returns : goal.returns
 returns c = λ steps each makes accepted.

@@ -5,7 +5,7 @@ use Rattle.yd_editing.specs.Refused.{refusal_of}
 use Rattle.yd_doc.specs.Editing.{own_basis}
 use Rattle.yd_doc.specs.Kept.{Kept, received_of}
 use Rattle.yd_making.proofs.GivenLemmas.{basis_is}
-use Rattle.yd_doc.proofs.law.edits_are_taken.Goals as goal
+use Rattle.yd_doc.proofs.edit_law.edits_are_taken.Goals as goal
 
 pub returns : goal.returns
 returns c = λ steps makes accepted.
