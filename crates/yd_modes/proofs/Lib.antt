@@ -1,3 +1,4 @@
+pub mod FieldLemmas
 pub mod GatheringLemmas
 pub mod ListLemmas
 pub mod MarkLemmas

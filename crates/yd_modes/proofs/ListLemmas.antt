@@ -1,7 +1,8 @@
 -- What is made of pieces: their values, and their objects.
 use Rattle.std.proofs.Common.{◌≡◌, ◌<◌, ℕ, false, List, [], ◌∷◌, map, length, refl, sym, ap, ◌∙◌, subst, arith, rules}
 use Rattle.std.specs.Bool.{◌==◌}
-use Rattle.std.specs.Prelude.{codes}
+use Rattle.std.proofs.lemmas.Result.{IfOk-weaker}
+use Rattle.std.specs.Prelude.{Result, IfOk, codes}
 use Rattle.yd_any.specs.Tree.{AnyTree, AnyTrees, AnyFields, list, pairs, no_trees, tree, no_fields, field, with_last}
 use Rattle.yd_value.specs.View.{shown_tree, shown_trees, shown_fields, entries_fields}
 use Rattle.yd_value.specs.declared.shown.Shown.{Shown, List as Listed, Fields, the_lemmas}
@@ -75,6 +76,10 @@ with_some [] fs t e some = absurd (omega (arith, some))
 with_some (x ∷ es) fs t e some = subst (λ gs. pairs (field (codes "attributes") (pairs gs) (field (codes "insert") t no_fields)) ≡ with_attributes gs t) e refl
 
 -- ---- what a parent shows
+
+-- what is shown as a tree is shown as the same one
+pub same_shown : {E : Type 0} (result : Result Shown E) (t u : AnyTree) → t ≡ u → IfOk result (λ shown. shown_tree shown ≡ t) → IfOk result (λ shown. shown_tree shown ≡ u)
+same_shown result t u same = IfOk-weaker result (λ shown. shown_tree shown ≡ t) (λ shown. shown_tree shown ≡ u) (λ shown is. is ∙ same)
 
 pub delta_of : (show : Operation → AnyTree) (d : Document) (p : Parent) (way : Way) (ts : List Told) (l : DocList) → way ≡ Delta → l ≡ own_list p →
     ts ≡ map told (pieces_by way show no_fields (seen_units d l)) → list (told_inserts ts) ≡ shown_by way show d p

@@ -5,21 +5,19 @@ use Rattle.std.specs.Vec.Iter.{into_iter_items}
 use Rattle.yd_any.specs.Tree.{list, no_fields}
 use Rattle.yd_doc.specs.Kept.{received_of, own_document}
 use Rattle.yd_ops.specs.Operation.{UnitContent, nested_type, units_of_content}
-use Rattle.yd_ops.specs.declared.lists.Parent.TheVariants.{Item}
 use Rattle.yd_ops.specs.Value.{len_of}
 use Rattle.yd_ops.specs.View.{content_value}
 use Rattle.yd_ops.specs.declared.contents.Content.TheVariants.{Nested}
-use Rattle.yd_shown.specs.Shown.{field_before, fields_under, shown_type, value_within}
+use Rattle.yd_shown.specs.Shown.{value_within}
 use Rattle.yd_state.specs.Lent.{lent_units, units_left}
 use Rattle.yd_value.specs.View.{shown_fields, shown_tree}
 use Rattle.yd_view.proofs.TextLemmas.{fewer_left}
-use Rattle.yd_modes.specs.Gathering.{gathered, made, told, told_inserts, told_values, Gathers}
-use Rattle.yd_modes.specs.Modes.{shown_by}
+use Rattle.yd_modes.specs.Gathering.{gathered, told, Gathers}
 use Rattle.yd_doc.specs.Last.{unit_of_view}
 use Rattle.yd_doc.proofs.LastLemmas.{unit_got}
-use Rattle.yd_modes.specs.Roles.{bare, joined_fields, live_lent, plain_value}
-use Rattle.yd_modes.proofs.ListLemmas.{delta_of, list_of, no_items}
-use Rattle.yd_modes.proofs.MarkLemmas.{joined_none}
+use Rattle.yd_modes.specs.Roles.{bare, live_lent, plain_value}
+use Rattle.yd_modes.proofs.ListLemmas.{delta_of, list_of, no_items, same_shown}
+use Rattle.yd_modes.proofs.FieldLemmas.{all_made, none_made, one_made}
 use Rattle.yd_modes.proofs.SeenLemmas.{pieces_seen, within_bare, within_plain}
 use Rattle.yd_modes.proofs.ShowingLemmas.{deleted_view, live_view, piece_gathered, within_nested, nested_role, under_hidden, under_none, under_shown, nested_unit, not_nested}
 use Rattle.yd_modes.proofs.TakingLemmas.{gathers_none, one_view}
@@ -72,22 +70,18 @@ take_run-returns-in_ok-value-in-Nested n c = on_ok_weaker c.take_value.result (�
 pub show_pieces-returns-in-Delta : goal.show_pieces-returns-in-Delta
 show_pieces-returns-in-Delta n c =
     let d = own_document c.args.replica.now in
-    IfOk-weaker c.delta_of.result (λ shown. shown_tree shown ≡ list (told_inserts (map made c.in_ok-pieces.pieces.items))) (λ shown. shown_tree shown ≡ shown_by c.args.way (value_within c.args.most d) d c.args.parent.now)
-    (λ shown e. e ∙ delta_of (value_within c.args.most d) d c.args.parent.now c.args.way (map made c.in_ok-pieces.pieces.items) c.in_ok-list.list c.in-Delta.is c.in_ok-list.ensures c.in_ok-pieces.ensures)
+    same_shown c.delta_of.result _ _ (delta_of (value_within c.args.most d) d c.args.parent.now c.args.way _ c.in_ok-list.list c.in-Delta.is c.in_ok-list.ensures c.in_ok-pieces.ensures)
     c.delta_of.ensures
 
 pub show_pieces-returns : goal.show_pieces-returns
 show_pieces-returns n c =
     let d = own_document c.args.replica.now in
-    IfOk-weaker c.list_of.result (λ shown. shown_tree shown ≡ list (told_values (map made c.in_ok-pieces.pieces.items))) (λ shown. shown_tree shown ≡ shown_by c.args.way (value_within c.args.most d) d c.args.parent.now)
-    (λ shown e. e ∙ list_of (value_within c.args.most d) d c.args.parent.now c.args.way (map made c.in_ok-pieces.pieces.items) c.in_ok-list.list c.in-Values.is c.in_ok-list.ensures c.in_ok-pieces.ensures)
+    same_shown c.list_of.result _ _ (list_of (value_within c.args.most d) d c.args.parent.now c.args.way _ c.in_ok-list.list c.in-Values.is c.in_ok-list.ensures c.in_ok-pieces.ensures)
     c.list_of.ensures
 
 pub show_nested-returns : goal.show_nested-returns
 show_nested-returns n c =
-    let d = own_document c.args.replica.now in
-    IfOk-weaker c.show_type.result (λ shown. shown_tree shown ≡ shown_type (value_within (c.args.most - 1) d) d (Item c.args.id) c.args.kind.now) (λ shown. shown_tree shown ≡ value_within c.args.most d (bare c.args.id (nested_type c.args.kind.now)))
-    (λ shown e. e ∙ sym (within_nested c.args.most d c.args.id c.args.kind.now (omega (arith, c.if-most-eq0.false))))
+    same_shown c.show_type.result _ _ (sym (within_nested c.args.most (own_document c.args.replica.now) c.args.id c.args.kind.now (omega (arith, c.if-most-eq0.false))))
     c.show_type.ensures
 
 -- ---- a map
@@ -95,36 +89,27 @@ show_nested-returns n c =
 pub show_map-loop-key-init : goal.show_map-loop-key-init
 show_map-loop-key-init n c =
     let d = own_document c.args.replica.now in
-    let show = value_within c.args.most d in
     let gives = c.into_iter-key-iterator.ensures.into_iter_gives in
     record {
-      shown = ap (λ fs. joined_fields fs (fields_under show d c.args.parent.now (into_iter_items c.into_iter-key-iterator.result))) c.new-fields.ensures
-          ∙ ap (fields_under show d c.args.parent.now) (gives.0 ∙ c.in_ok-keys.ensures);
+      shown = none_made (value_within c.args.most d) d c.args.parent.now _ _ _ c.new-fields.ensures (gives.0 ∙ c.in_ok-keys.ensures);
       count = gives.1 ∙ sym c.as_slice-count.ensures.len ∙ ap length (c.as_slice-count.ensures.value ∙ sym gives.0);
     }
 
 pub show_map-loop-key-preserved : goal.show_map-loop-key-preserved
 show_map-loop-key-preserved n c =
     let d = own_document c.args.replica.now in
-    let show = value_within c.args.most d in
-    let old = shown_fields c.loop-key.fields in
-    let rest = fields_under show d c.args.parent.now (into_iter_items c.next.new.self) in
     let steps = c.in-Some.ensures.steps in
     record {
-      shown = c.in_ok-push_value.ensures rest
-          ∙ ap (λ v. joined_fields old (field_before c.in-Some.key v rest)) c.in_ok-value.ensures
-          ∙ ap (λ keys. joined_fields old (fields_under show d c.args.parent.now keys)) (sym steps.0)
-          ∙ c.loop-key.invariant.shown;
+      shown = one_made (value_within c.args.most d) d c.args.parent.now (shown_fields c.loop-key.fields) _ _ c.in-Some.key _ _ (into_iter_items c.next.new.self) c.in_ok-push_value.ensures
+          c.in_ok-value.ensures steps.0 c.loop-key.invariant.shown;
       count = omega (arith, steps.1, c.loop-key.invariant.count, ap length steps.0);
     }
 
 pub show_map-returns : goal.show_map-returns
 show_map-returns n c =
     let d = own_document c.args.replica.now in
-    let none = no_items (into_iter_items c.loop-key.key-iterator) (sym c.loop-key.invariant.count ∙ c.in-None.ensures.steps.0) in
-    sym (joined_none (shown_fields c.loop-key.fields))
-    ∙ ap (λ keys. joined_fields (shown_fields c.loop-key.fields) (fields_under (value_within c.args.most d) d c.args.parent.now keys)) (sym none)
-    ∙ c.loop-key.invariant.shown
+    all_made (value_within c.args.most d) d c.args.parent.now (shown_fields c.loop-key.fields) _ _
+    (no_items (into_iter_items c.loop-key.key-iterator) (sym c.loop-key.invariant.count ∙ c.in-None.ensures.steps.0)) c.loop-key.invariant.shown
 
 pub show_under-returns-in_default : goal.show_under-returns-in_default
 show_under-returns-in_default n c =
@@ -149,9 +134,8 @@ show_under-returns n c =
 pub show_unit-returns-in-Nested : goal.show_unit-returns-in-Nested
 show_unit-returns-in-Nested n c =
     let show = value_within c.args.most (own_document c.args.replica.now) in
-    IfOk-weaker c.show_nested.result (λ shown. shown_tree shown ≡ show (bare c.args.unit.now.id (nested_type c.in-Nested.kind))) (λ shown. shown_tree shown ≡ show (bare c.args.unit.now.id (unit_of_view c.args.unit.now).content))
-    (λ shown e. e ∙ ap (λ u. show (bare c.args.unit.now.id u)) (sym (nested_unit c.args.unit.now c.in-Nested.kind c.in-Nested.is c.requires.within c.requires.one)))
-    c.show_nested.ensures
+    same_shown c.show_nested.result _ _
+    (ap (λ u. show (bare c.args.unit.now.id u)) (sym (nested_unit c.args.unit.now c.in-Nested.kind c.in-Nested.is c.requires.within c.requires.one))) c.show_nested.ensures
 
 pub show_unit-returns-in_default : goal.show_unit-returns-in_default
 show_unit-returns-in_default n c =
