@@ -1,0 +1,64 @@
+//! Where connections come from: a listener, a call, or nothing.
+
+use crate::calling::call;
+use crate::entrance::{Entrance, Seen};
+use crate::stream::Stream;
+use std::alloc::Global;
+use std::net::{Net, SocketAddrV4};
+use std::random::RandomSource;
+use std::time::Clock;
+use tungstenite::{RandomKeys, WebSocket};
+use yd_world::{NoMemory, Outage, Way};
+
+/// Where connections come from.
+#[derive(Drop)]
+pub enum Door<R: Net> {
+    /// No connection comes, or none any more.
+    Shut,
+    /// Connections come in.
+    Open(Entrance<R>),
+    /// One connection was made.
+    Called(WebSocket<Stream<R::Stream>, RandomKeys<R>>),
+}
+
+impl<R: Net + Clock + RandomSource + Copy> Door<R> {
+    /// The door at an address, on this side of it.
+    pub fn open(
+        alloc: Global,
+        outside: &R,
+        address: SocketAddrV4,
+        text: &str,
+        way: Way,
+    ) -> Result<Door<R>, Outage> {
+        match way {
+            Way::Listen => {
+                let entrance = Entrance::open(alloc, outside, address)?;
+                Ok(Door::Open(entrance))
+            }
+            Way::Call => {
+                let line = call(alloc, outside, address, text)?;
+                Ok(Door::Called(line))
+            }
+        }
+    }
+
+    /// What is seen at the door now.
+    pub fn look(
+        &mut self,
+        alloc: Global,
+        outside: &R,
+    ) -> Result<Seen<R::Stream, RandomKeys<R>>, NoMemory> {
+        if let Door::Open(entrance) = self {
+            return entrance.look(alloc, outside);
+        }
+        match self.shut() {
+            Door::Called(line) => Ok(Seen::Entered(line)),
+            _ => Ok(Seen::Nobody),
+        }
+    }
+
+    // Shuts the door, and gives what it was.
+    fn shut(&mut self) -> Door<R> {
+        std::mem::replace(self, Door::Shut)
+    }
+}

@@ -1,0 +1,185 @@
+//! One connection: what comes on it, and what is sent on it.
+
+ghost use Rattle.std.specs.Prelude.{IfOk};
+ghost use Rattle.yd_sockets.specs.Given.{IsWhatCame};
+
+use crate::stream::Stream;
+use std::alloc::Global;
+use std::io;
+use std::io::{ErrorKind, Read, Write};
+use tungstenite::{
+    CloseCode, CloseFrame, Error, MaskKeys, Message, Utf8Bytes, WebSocket, WebSocketConfig,
+};
+use yd_world::{Blob8, NoMemory, Outage};
+
+/// How many bytes a message has at most: those of the largest file, and what is before them.
+const MOST_BYTES: usize = 268_435_520;
+
+/// How many bytes are asked for at once.
+const READ_SIZE: usize = 16_384;
+
+/// What a connection gave.
+#[derive(Debug, Drop)]
+pub enum Given {
+    /// Nothing came.
+    Nothing,
+    /// Something came, and no message is whole by it.
+    Something,
+    /// A binary message came whole.
+    Message(Blob8),
+    /// The connection is over.
+    Ended,
+}
+
+/// The limits of a connection.
+pub fn limits() -> WebSocketConfig {
+    WebSocketConfig::default()
+        .read_buffer_size(READ_SIZE)
+        .max_message_size(Some(MOST_BYTES))
+        .max_frame_size(Some(MOST_BYTES))
+}
+
+/// Whether a growth found no memory.
+pub fn is_no_memory(error: &Error) -> bool {
+    match error {
+        Error::OutOfMemory => true,
+        Error::Io(cause) => is_kind_no_memory(cause),
+        _ => false,
+    }
+}
+
+fn is_kind_no_memory(error: &io::Error) -> bool {
+    match error.kind() {
+        ErrorKind::OutOfMemory => true,
+        _ => false,
+    }
+}
+
+// How a read that gave no message left the connection.
+#[derive(Clone, Copy)]
+enum Progress {
+    /// Nothing came.
+    Still,
+    /// Some bytes came.
+    Moved,
+    /// The connection is over.
+    Over,
+}
+
+/// What came. After a text, or what is against the protocol, the peer is told why it is left.
+pub fn take<S: Read + Write + Drop, K: MaskKeys + Drop>(
+    alloc: Global,
+    line: &mut WebSocket<Stream<S>, K>,
+) -> Result<Given, NoMemory>
+    ensures { IfOk result (λ given. IsWhatCame line.old line.new given) }
+{
+    match line.read() {
+        Ok(Message::Binary(bytes)) => {
+            let bytes = Blob8::copy_of(alloc, bytes.as_slice())?;
+            Ok(Given::Message(bytes))
+        }
+        Ok(Message::Ping(_)) => Ok(Given::Something),
+        Ok(Message::Pong(_)) => Ok(Given::Something),
+        Ok(Message::Text(_)) => {
+            leave(line, CloseCode::Unsupported);
+            Ok(Given::Ended)
+        }
+        Ok(Message::Close(_)) => {
+            let _ = line.flush();
+            Ok(Given::Ended)
+        }
+        Err(error) => match after_error(line, error)? {
+            Progress::Still => Ok(Given::Nothing),
+            Progress::Moved => Ok(Given::Something),
+            Progress::Over => Ok(Given::Ended),
+        },
+    }
+}
+
+// What a read that failed says.
+fn after_error<S: Read + Write + Drop, K: MaskKeys + Drop>(
+    line: &mut WebSocket<Stream<S>, K>,
+    error: Error,
+) -> Result<Progress, NoMemory> {
+    if is_no_memory(&error) {
+        return Err(NoMemory);
+    }
+    match error {
+        Error::Io(cause) => match cause.kind() {
+            ErrorKind::WouldBlock => Ok(progress_of(line)),
+            _ => Ok(Progress::Over),
+        },
+        Error::Capacity(_) => {
+            leave(line, CloseCode::Size);
+            Ok(Progress::Over)
+        }
+        Error::Protocol(_) => {
+            leave(line, CloseCode::Protocol);
+            Ok(Progress::Over)
+        }
+        Error::Utf8 => {
+            leave(line, CloseCode::Invalid);
+            Ok(Progress::Over)
+        }
+        _ => Ok(Progress::Over),
+    }
+}
+
+// Whether some bytes of a message came.
+fn progress_of<S: Read + Write + Drop, K: MaskKeys + Drop>(
+    line: &mut WebSocket<Stream<S>, K>,
+) -> Progress {
+    if line.get_mut().take_moved() {
+        Progress::Moved
+    } else {
+        Progress::Still
+    }
+}
+
+// Tells the peer by a code why it is left, if that can be sent.
+fn leave<S: Read + Write + Drop, K: MaskKeys + Drop>(
+    line: &mut WebSocket<Stream<S>, K>,
+    code: CloseCode,
+) {
+    let frame = CloseFrame {
+        code,
+        reason: Utf8Bytes::from_static(""),
+    };
+    let _ = line.close(Some(frame));
+}
+
+/// Sends a binary message. A failed send may have sent a part of it, and then no other send goes.
+pub fn send<S: Read + Write + Drop, K: MaskKeys + Drop>(
+    alloc: Global,
+    line: &mut WebSocket<Stream<S>, K>,
+    bytes: &[u8],
+) -> Result<(), Outage> {
+    let Ok(message) = Message::binary(alloc, bytes) else {
+        return Err(Outage::NoMemory);
+    };
+    match line.send(message) {
+        Ok(()) => Ok(()),
+        Err(error) => {
+            if is_no_memory(&error) {
+                Err(Outage::NoMemory)
+            } else {
+                Err(Outage::Failed)
+            }
+        }
+    }
+}
+
+/// Tells the peer why it is left, if that can be sent. Of the reason the first 120 bytes go.
+pub fn part<S: Read + Write + Drop, K: MaskKeys + Drop>(
+    alloc: Global,
+    line: &mut WebSocket<Stream<S>, K>,
+    reason: &str,
+) {
+    if reason.len() > 120 {
+        return;
+    }
+    if let Ok(reason) = Utf8Bytes::copy_from_str(alloc, reason) {
+        let code = CloseCode::Policy;
+        let _ = line.close(Some(CloseFrame { code, reason }));
+    }
+}

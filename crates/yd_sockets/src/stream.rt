@@ -1,0 +1,157 @@
+//! A stream whose writes go on where they would block, and which keeps what comes meanwhile.
+
+ghost use Rattle.std.specs.Prelude.{◌≡◌, ◌≢◌, ◌+◌, ◌≤◌, [], length, true, is_err, IfErr, IsErr};
+ghost use Rattle.std.specs.Io.{WritesAtMost};
+ghost use Rattle.std.specs.IoError.{error_kind};
+ghost use Rattle.yd_sockets.specs.Growing.{Grows};
+
+use crate::held::Held;
+use std::alloc::Global;
+use std::io;
+use std::io::{ErrorKind, Read, Write};
+
+/// After so many rounds in which no byte moved, a write is given up.
+const MOST_STILL: u32 = 1_000_000;
+
+/// How many bytes are read at once while a write would block.
+const CHUNK: usize = 4096;
+
+/// A stream under a socket. A write of it never stops half-way because the stream would block; what
+/// comes meanwhile is kept, and later reads give it first. Once a write failed, all later ones fail
+/// at once.
+#[derive(Drop)]
+pub struct Stream<S> {
+    inner: S,
+    held: Held,
+    has_moved: bool,
+    is_broken: bool,
+}
+
+impl<S> Stream<S> {
+    /// The stream, with nothing kept.
+    pub fn new(alloc: Global, inner: S) -> Stream<S>
+        ensures { result.held ≡ [] }
+    {
+        Stream {
+            inner,
+            held: Held::new(alloc),
+            has_moved: false,
+            is_broken: false,
+        }
+    }
+
+    /// The stream below.
+    pub fn inner(&self) -> &S {
+        &self.inner
+    }
+
+    /// Whether bytes came since this was last asked.
+    pub fn take_moved(&mut self) -> bool
+        ensures kept { self.new.held ≡ self.old.held }
+        ensures told { result ≡ self.old.has_moved }
+    {
+        let has_moved = self.has_moved;
+        self.has_moved = false;
+        has_moved
+    }
+}
+
+impl<S: Read + Write + Drop> Stream<S> {
+    // Keeps what has come, if there is room, and tells whether something came.
+    fn hold(&mut self) -> io::Result<bool>
+        ensures grows { Grows self.old.held self.new.held }
+        ensures failed { IfErr result (λ e. error_kind e ≢ ErrorKind.WouldBlock) }
+    {
+        // The memory is found first, so that no byte is lost where there is none.
+        let room = match self.held.make_room() {
+            Ok(room) => room,
+            Err(_) => return Err(io::Error::from(ErrorKind::OutOfMemory)),
+        };
+        if room == 0 {
+            return Ok(false);
+        }
+        let mut chunk = [0u8; CHUNK];
+        match self.inner.read(&mut chunk[..room]) {
+            Ok(count) => self.keep(&chunk[..count]),
+            Err(error) => match error.kind() {
+                ErrorKind::WouldBlock => Ok(false),
+                _ => Err(error),
+            },
+        }
+    }
+
+    // Writes some of the piece, in as many rounds as it takes.
+    fn write_patiently(&mut self, piece: &[u8]) -> io::Result<usize>
+        ensures bound { WritesAtMost result piece.now }
+        ensures grows { Grows self.old.held self.new.held }
+        ensures failed { IfErr result (λ e. error_kind e ≢ ErrorKind.WouldBlock) }
+    {
+        let mut still = 0;
+        for _ in 0..u64::MAX {
+            match self.inner.write(piece) {
+                Ok(count) => return Ok(count),
+                Err(error) => match error.kind() {
+                    ErrorKind::WouldBlock => {}
+                    _ => return Err(error),
+                },
+            }
+            if self.hold()? {
+                still = 0;
+            } else if still < MOST_STILL {
+                still += 1;
+            } else {
+                return Err(io::Error::from(ErrorKind::TimedOut));
+            }
+        }
+        Err(io::Error::from(ErrorKind::TimedOut))
+    }
+}
+
+impl<S> Stream<S> {
+    // Keeps these bytes, and tells whether there are any.
+    fn keep(&mut self, bytes: &[u8]) -> io::Result<bool>
+        requires { length self.old.held + length bytes.now ≤ 67108864 }
+        ensures grows { Grows self.old.held self.new.held }
+        ensures failed { IfErr result (λ e. error_kind e ≢ ErrorKind.WouldBlock) }
+    {
+        if self.held.add(bytes).is_err() {
+            return Err(io::Error::from(ErrorKind::OutOfMemory));
+        }
+        self.has_moved = true;
+        Ok(!bytes.is_empty())
+    }
+}
+
+impl<S: Read + Write + Drop> Read for Stream<S> {
+    fn read(&mut self, buf: &mut [u8]) -> io::Result<usize> {
+        if !self.held.is_empty() {
+            let count = self.held.take(buf);
+            self.held.let_go();
+            return Ok(count);
+        }
+        let count = self.inner.read(buf)?;
+        self.has_moved = true;
+        Ok(count)
+    }
+}
+
+impl<S: Read + Write + Drop> Write for Stream<S> {
+    fn write(&mut self, piece: &[u8]) -> io::Result<usize>
+        ensures bound { WritesAtMost result piece.now }
+        ensures grows { Grows self.old.held self.new.held }
+        ensures failed { IfErr result (λ e. error_kind e ≢ ErrorKind.WouldBlock) }
+        ensures broken { self.old.is_broken ≡ true → IsErr result }
+        ensures breaks { self.new.is_broken ≡ is_err result }
+    {
+        if self.is_broken {
+            return Err(io::Error::from(ErrorKind::BrokenPipe));
+        }
+        let written = self.write_patiently(piece);
+        self.is_broken = written.is_err();
+        written
+    }
+
+    fn flush(&mut self) -> io::Result<()> {
+        self.inner.flush()
+    }
+}
