@@ -19,6 +19,7 @@ mod fault;
 mod indexing;
 mod keys;
 pub mod law;
+mod listing;
 mod opening;
 mod replica;
 mod waiting;

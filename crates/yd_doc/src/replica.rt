@@ -1,7 +1,6 @@
 //! Replicas: what one client received, and what it holds of it.
 
-ghost use Rattle.std.specs.Prelude.{◌≡◌, ◌↔◌, ◌∷◌, [], ℕ, true, false, IsTrue, IfOk, OnOk, OnErr};
-ghost use Rattle.yd_words.specs.Member.{IsIn};
+ghost use Rattle.std.specs.Prelude.{◌≡◌, ◌↔◌, ℕ, true, false, IsTrue, IfOk, OnOk, OnErr};
 ghost use Rattle.yd_ids.specs.Id.{IsClient};
 ghost use Rattle.yd_ids.specs.Vector.{clock_of};
 ghost use Rattle.yd_ops.specs.Valid.{IsValidUpdate};
@@ -9,11 +8,8 @@ ghost use Rattle.yd_ops.specs.View.{update_value};
 ghost use Rattle.yd_updates.specs.Received.{nothing_received, received_after};
 ghost use Rattle.yd_meaning.specs.Held.{held_set, held_clock, waiting_counts};
 ghost use Rattle.yd_meaning.specs.Document.{AreDeletedIn};
-ghost use Rattle.yd_updates.specs.Law.{ArePaired};
-ghost use Rattle.yd_ops.specs.Operation.{Operation};
 ghost use Rattle.yd_grouping.specs.Merged.{reply_of};
 ghost use Rattle.yd_state.specs.Brings.{BringsSomething};
-ghost use Rattle.yd_state.specs.Lent.{lent_units, units_left, last_unit};
 ghost use Rattle.yd_doc.specs.Kept.{received_of, own_deletes, own_document};
 ghost use Rattle.yd_doc.specs.Waiting.{counts_of};
 
@@ -21,10 +17,10 @@ use crate::fault::NoMemory;
 use crate::waiting::Waiting;
 use std::alloc::Global;
 use std::marker::Model;
-use yd_ids::{Client, Id, IdSet, Vector};
+use yd_ids::{Client, IdSet, Vector};
 use yd_merge::write_cut;
-use yd_ops::{List, Update};
-use yd_state::{ListView, State};
+use yd_ops::Update;
+use yd_state::State;
 
 /// What one client received, and what it holds of it. Contracts see what it received
 /// (`received_of`) and the document that it has (`own_document`). This is the one that the received
@@ -167,24 +163,5 @@ impl Replica {
         deletes.union(self.state.named())?;
         let update = write_cut(self.alloc, self.state.received(), vector, deletes)?;
         Ok(update)
-    }
-
-    /// The units of a list in order, deleted ones too; lost ones are in no list. It takes time with the
-    /// logarithm of how many lists there are, and copies no unit.
-    pub fn list(&self, list: &List) -> ListView<'_>
-        ensures units { units_left result ≡ lent_units (own_document self.now) list.now }
-        ensures received { (o : Operation) → IsIn o ((own_document self.now).units list.now)
-            → IsIn o (received_of self.now).operations }
-        ensures whole { ArePaired (received_of self.now).operations }
-    {
-        self.state.list(list)
-    }
-
-    /// The id of the unit that stands last in a list, deleted or not, and none where the list has no
-    /// unit. It takes time with the logarithm of how many lists there are, as `list` does.
-    pub fn last_of(&self, list: &List) -> Option<Id>
-        ensures { result ≡ last_unit (own_document self.now) list.now }
-    {
-        self.state.last_of(list)
     }
 }
