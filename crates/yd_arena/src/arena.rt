@@ -205,8 +205,8 @@ impl Arena {
         self.lists.add(list, behind, new)
     }
 
-    /// Adds the next run of its client in no list, as one that is gone, where there is room. Its place
-    /// is answered. It takes no memory.
+    /// Adds the next run of its client in no list, as one that is gone or lost, where there is room.
+    /// Its place is answered. It takes no memory.
     pub fn add_loose(&mut self, new: Stretch) -> usize
         requires next { new.id.clock ≡ next_clock self.old new.id.client.0 }
         requires filled { 0 < new.len }

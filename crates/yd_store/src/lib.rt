@@ -3,7 +3,8 @@
 //! A store is an arena of runs, and beside it by place the marks of deletion and what the runs
 //! hold. Lists have numbers, in the order in which they were added. An id is found by a bisection;
 //! reading a list follows links and copies nothing. `reserve` takes memory ahead, and then the next
-//! runs of a client go in without any. A call that finds no memory changes nothing but room.
+//! runs of a client go in without any. A call that finds no memory changes no unit, no order and no
+//! mark; one that cuts runs first may have cut them.
 //!
 //! ```rust
 //! let mut store = Store::new(alloc);

@@ -14,9 +14,9 @@ use yd_ops::NoMemory;
 
 impl Store {
     /// Spells the units of a span deleted, all of which are held: their neighbours and their lists
-    /// stay, and what they hold is told no more. Gone ones stay so. A half outside the span whose
-    /// partner is in it becomes U+FFFD. Runs are cut first: at the span's ends, and so that such a
-    /// half is a run of its own. Where it finds no memory, no unit changes.
+    /// stay, and so do marks and counts; what they hold is told no more. Gone ones stay so. A half
+    /// outside the span whose partner is in it becomes U+FFFD. Runs are cut first: at the ends of the
+    /// span, and so that such a half is a run of its own. Where it finds no memory, no unit changes.
     pub fn lower(&mut self, span: Span) -> Result<(), NoMemory>
         requires held { span.clock + span.len ≤ next_clock self.old.placed span.client.0 }
         ensures done { OnOk result (LowersUnits self.old self.new span 1) }

@@ -91,7 +91,8 @@ impl Store {
         self.arena.find(id)
     }
 
-    /// How many runs there are; their places are the numbers below.
+    /// How many places there are, which are the numbers below: those of all runs, also of runs that
+    /// were taken out and have no units.
     pub fn len(&self) -> usize
         ensures { result ≡ length (runs_of self.now.placed) }
     {
@@ -185,7 +186,8 @@ impl Store {
         self.marks.mark(place).deleted
     }
 
-    /// How many units of a list are live: those that count in lengths and are not deleted.
+    /// How many units of a list are live: those that counted in lengths when they were added, and
+    /// are not marked as deleted. `lower` marks none: who spells units deleted marks them besides.
     pub fn live(&self, list: usize) -> u128
         requires { list < count_of self.now.placed }
         ensures { result ≡ get_or self.now.marks.live list 0 }
