@@ -1,10 +1,10 @@
 //! The arena: runs at places, linked in lists, and found by the ids of their units.
 //!
-//! A client's runs fill its clocks from 0 to its next one, so an id is found by a bisection, and just
-//! where its clock is below that. A new run goes where the integration scan of its first unit puts it,
-//! and its list has then grown by the scans of all its units, whether the list keeps the edit rules or
-//! not. A cut changes no unit and no order ([`law`]). A call that finds no memory leaves all units
-//! as they were.
+//! A client's runs fill its clocks from 0 to its next one, so an id is found by a bisection, and
+//! just where its clock is below that. A new run goes where the integration scan of its first unit
+//! puts it. Its list has then grown by the scans of all its units, if it has the left origins of
+//! its runs; it need not keep the edit rules. A cut changes no unit and no order ([`law`]). A call
+//! that finds no memory leaves all units as they were.
 //!
 //! ```rust
 //! let mut arena = Arena::new(alloc);

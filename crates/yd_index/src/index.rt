@@ -10,8 +10,8 @@ use std::alloc::{AllocError, Global};
 use std::marker::Model;
 use yd_ids::{Client, Id};
 
-/// For each client its runs, by the clocks where they begin. A client without units need not have a
-/// line: it has no entry, next clock 0 and no room.
+/// For each client its runs, by the clocks where they begin. A client need not have a line. Without
+/// one it has no entry, next clock 0 and no room.
 #[derive(Drop)]
 pub struct Index {
     lines: Vec<Line>,

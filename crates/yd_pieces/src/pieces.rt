@@ -71,9 +71,9 @@ impl<T: Drop> Pieces<T> {
     }
 
     /// Where the elements that pass end: how many stand before the first that does not, where those
-    /// that pass stand before the others. Otherwise it is some place where one passes in front of
-    /// it, and one behind it does not. It is a bisection over pieces and then in one, and a sum over
-    /// the pieces before it, if it is not in the last one.
+    /// that pass stand before the others. Otherwise it is some place of which the element in front
+    /// passes, and the one behind does not. It is a bisection over pieces and then in one, and a
+    /// sum over the pieces before it, if it is not in the last one.
     pub fn partition_point<P: Test<T>>(&self, test: &P) -> usize
         ensures bound { result ≤ length self.now.items }
         ensures boundary { IsBoundary (P.passes test.now) self.now.items result }

@@ -84,10 +84,10 @@ fn next_place(chains: &Chains, chain: usize, after: Option<usize>) -> Option<usi
 /// The place behind which a new run goes: that which the scan of its first unit finds (Yjs 13,
 /// `integrate`). Its left origin ends the run at `after`, or is absent at the front.
 ///
-/// Marks have a number for each place, and the counter is the last that was given. Each run that is
-/// scanned gets the next one, so that what stands in front of the place has a mark above that at the
-/// start, and what stands behind it one above that at the last move. It takes no memory, and time
-/// with the runs that it scans.
+/// `marks` has a number for each place, and `counter` is the last number that was given. Each run
+/// that is scanned gets the next number. So a scanned run in front of the place that was found has
+/// a number above the counter at the start, and one behind that place a number above the counter at
+/// the last move. It takes no memory, and time with the runs that it scans.
 pub fn scan<I: Finds>(
     chains: &Chains,
     chain: usize,
