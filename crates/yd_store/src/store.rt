@@ -9,7 +9,7 @@ ghost use Rattle.yd_ops.specs.View.{content_value, run_value};
 ghost use Rattle.yd_scan.specs.Stretches.{IsNoLater, EndsLeft};
 ghost use Rattle.yd_arena.specs.Lists.{AreLists, IsLoose};
 ghost use Rattle.yd_arena.specs.Arena.{runs_of, count_of, places_in, next_clock, HasUnit, IsArena};
-ghost use Rattle.yd_marks.specs.Marks.{mark_at, IsBorder, MarksSpan};
+ghost use Rattle.yd_marks.specs.Marks.{AreCounted, mark_at, IsBorder, MarksSpan};
 ghost use Rattle.yd_store.specs.Contents.{told, told_of, run_at};
 ghost use Rattle.yd_store.specs.Store.{spare_of, AreTold, IsKept, KeepsRuns, SplitsAt, StandsIn, AddsRun};
 ghost use Rattle.yd_store.specs.Units.{KeepsUnits, AddsUnits};
@@ -108,11 +108,13 @@ impl Store {
         stands_in(&self.arena, list, id)
     }
 
-    /// That the index finds the runs, and no list has a place twice, as facts for callers.
+    /// That the index finds the runs, no list has a place twice, and each list counts the live units of
+    /// its runs, as facts for callers.
     pub fn is_sound(&self)
         ensures arena { IsArena self.now.placed.lines (runs_of self.now.placed) }
         ensures lists { AreLists self.now.placed.linked }
         ensures told { AreTold (runs_of self.now.placed) (told_of self.now.contents) }
+        ensures counted { AreCounted self.now.placed.linked self.now.marks.rows self.now.marks.live }
     {
         let id = Id {
             client: Client(0),
