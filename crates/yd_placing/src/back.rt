@@ -1,0 +1,20 @@
+//! Entries that are taken out again, the last one first.
+
+ghost use Rattle.yd_placing.specs.Back.{CanBeTakenOut, TakesOut};
+
+use yd_held::Held;
+use yd_kept::Kept;
+
+/// Takes the units of entries out again, which were placed in this order. It takes no memory.
+pub(crate) fn take_out(kept: &mut Kept, held: &Held, order: &[usize])
+    requires { CanBeTakenOut held.now order.now kept.old }
+    ensures { TakesOut held.now order.now kept.old kept.new }
+{
+    let entries = held.received().entries();
+    let mut left = order.len();
+    while left > 0 {
+        left -= 1;
+        let id = entries[order[left]].id;
+        kept.go_back(id.client, id.clock);
+    }
+}

@@ -1,0 +1,24 @@
+//! The laws of placing, each the contract of an empty function.
+
+ghost use Rattle.yd_placing.specs.Law.{EntriesCanBePlaced, TurnStaysHeld, KeepingKeepsAll, StoreTellsLists};
+
+/// What became held can be placed: in a store with all that was held before, or in an empty one.
+pub fn entries_can_be_placed()
+    ensures { EntriesCanBePlaced }
+{}
+
+/// What was held before a `take` that only added units stays held, and stands and is lost as it was.
+pub fn turn_stays_held()
+    ensures { TurnStaysHeld }
+{}
+
+/// Where no unit changes, a store has just what is held still.
+pub fn keeping_keeps_all()
+    ensures { KeepingKeepsAll }
+{}
+
+/// A document that tells the lists of such a store has lists that grew by scans; where the edit
+/// rules are kept these are in the origin order.
+pub fn store_tells_lists()
+    ensures { StoreTellsLists }
+{}
