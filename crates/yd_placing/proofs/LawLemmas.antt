@@ -1,19 +1,22 @@
 -- What was held stays held, so what became held can be placed; and the document of a store with just what is held.
-use Rattle.std.proofs.Common.{◌≡◌, ℕ, ◌<◌, List, [], inl, inr, Some, length, sym, ap, ◌∙◌, subst, arith}
+use Rattle.std.proofs.Common.{◌≡◌, ℕ, ◌<◌, List, [], inl, inr, Some, length, sym, ap, ◌∙◌, subst, arith, ◌∷◌, map, refl}
 use Rattle.std.specs.Prelude.{slice_get}
-use Rattle.yd_words.specs.Member.{IsIn}
+use Rattle.yd_words.specs.Member.{IsIn, AreDistinct}
 use Rattle.yd_words.proofs.OptionLemmas.{some_is}
 use Rattle.yd_words.proofs.TestLemmas.{split}
 use Rattle.yd_ids.specs.declared.id.Id.{Id}
 use Rattle.yd_ids.specs.Vector.{clock_of}
 use Rattle.yd_ops.specs.declared.lists.List.{List as DocList}
 use Rattle.yd_ops.specs.Operation.{Operation}
+use Rattle.yd_origins.specs.Table.{ids_of}
 use Rattle.yd_arena.specs.Arena.{next_clock}
 use Rattle.yd_updates.specs.Received.{IsWritten}
 use Rattle.yd_meaning.specs.Held.{held_set, standing}
 use Rattle.yd_meaning.specs.Law.{IsPartOf}
-use Rattle.yd_meaning.specs.Order.{order_of}
-use Rattle.yd_meaning.specs.Document.{Document}
+use Rattle.yd_meaning.specs.Order.{rows_of, order_of}
+use Rattle.yd_meaning.specs.Document.{Document, operations_at}
+use Rattle.yd_meaning.proofs.DocumentLemmas.{found_before}
+use Rattle.yd_meaning.proofs.StandingTableLemmas.{standing_table}
 use Rattle.yd_growing.specs.Grown.{table_in, StandsHonest}
 use Rattle.yd_growing.specs.Own.{ids_in, HasGrownLists}
 use Rattle.yd_growing.specs.Staying.{StaysHeld}
@@ -122,14 +125,25 @@ keeping_keeps_all held w old new all keeps =
 
 -- ---- the document
 
-ordered : (held : List Operation) → IsWritten held → StandsHonest held → (document : Document) → HasGrownLists document held → (list : DocList) →
-    ids_in document list ≡ order_of (standing held) list
-ordered held w honest document grown list = grown_is_order held w honest list (ids_in document list) (grown.grown list) (λ x up of. (grown.each list x).1 (up, of))
+-- operations of a table are those at their ids
+at_their_ids : (stands : List Operation) → AreDistinct (ids_of (rows_of stands)) → (os : List Operation) → ((o : Operation) → IsIn o os → IsIn o stands) →
+    os ≡ operations_at stands (map (λ (o : Operation). o.id) os)
+at_their_ids stands a [] f = refl
+at_their_ids stands a (o ∷ os) f = ap (λ ps. o ∷ ps) (at_their_ids stands a os (λ p i. f p (inr i)))
+    ∙ sym (found_before stands o (operations_at stands (map (λ (p : Operation). p.id) os)) a (f o (inl refl)))
+
+module _ (held : List Operation) (w : IsWritten held) (document : Document) (grown : HasGrownLists document held) where
+  ordered : StandsHonest held → (list : DocList) → ids_in document list ≡ order_of (standing held) list
+  ordered honest list = grown_is_order held w honest list (ids_in document list) (grown.grown list) (λ x up of. (grown.each list x).1 (up, of))
+
+  units_are : StandsHonest held → (list : DocList) → document.units list ≡ operations_at (standing held) (order_of (standing held) list)
+  units_are honest list = at_their_ids (standing held) (standing_table held w).distinct (document.units list) (grown.as_held list)
+      ∙ ap (operations_at (standing held)) (ordered honest list)
 
 pub store_tells_lists : StoreTellsLists
 store_tells_lists = record {
   grown = lists_grown;
-  ordered = λ held w honest it sound all document tells. ordered held w honest document (lists_grown held w it sound all document tells);
+  defined = λ held w honest it sound all document tells named list. units_are held w document (lists_grown held w it sound all document tells) honest list;
 }
   where
     lists_grown : (held : List Operation) → IsWritten held → (it : KeptValue) → IsSoundStore it.store → KeepsAll held it → (document : Document) →

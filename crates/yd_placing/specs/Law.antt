@@ -1,15 +1,14 @@
 -- The laws of placing, as statements (own).
-use Rattle.std.specs.Prelude.{◌≡◌, ℕ, List, []}
+use Rattle.std.specs.Prelude.{◌≡◌, ℕ, Bool, List, []}
 use Rattle.yd_ids.specs.Vector.{clock_of}
+use Rattle.yd_ids.specs.declared.id.Id.{Id}
 use Rattle.yd_ops.specs.declared.lists.List.{List as DocList}
 use Rattle.yd_ops.specs.Operation.{Operation}
 use Rattle.yd_arena.specs.Arena.{runs_of, count_of, next_clock}
 use Rattle.yd_updates.specs.Received.{IsWritten}
-use Rattle.yd_meaning.specs.Held.{standing}
-use Rattle.yd_meaning.specs.Order.{order_of}
-use Rattle.yd_meaning.specs.Document.{Document}
+use Rattle.yd_meaning.specs.Document.{Document, document_with}
 use Rattle.yd_growing.specs.Grown.{StandsHonest}
-use Rattle.yd_growing.specs.Own.{ids_in, HasGrownLists}
+use Rattle.yd_growing.specs.Own.{HasGrownLists}
 use Rattle.yd_growing.specs.Staying.{StaysHeld}
 use Rattle.yd_filling.specs.Telling.{IsSoundStore, TellsLists}
 use Rattle.yd_kept.specs.Kept.{KeptValue, KeepsHeld}
@@ -43,9 +42,9 @@ abbrev pub KeepingKeepsAll : Type 0
 KeepingKeepsAll = (held : List Operation) → IsWritten held → (old new : KeptValue) → KeepsAll held old → KeepsHeld old new → KeepsAll held new
 
 -- a document that tells the lists of a store with just what is held has grown lists; and where what stands keeps the edit
--- rules, each is in the origin order
+-- rules, each has the operations that are defined, in the origin order
 pub record StoreTellsLists : Type 0 where
   pub grown : (held : List Operation) → IsWritten held → (it : KeptValue) → IsSoundStore it.store → KeepsAll held it → (document : Document) →
       TellsLists document it.names it.store → HasGrownLists document held
-  pub ordered : (held : List Operation) → IsWritten held → StandsHonest held → (it : KeptValue) → IsSoundStore it.store → KeepsAll held it → (document : Document) →
-      TellsLists document it.names it.store → (list : DocList) → ids_in document list ≡ order_of (standing held) list
+  pub defined : (held : List Operation) → IsWritten held → StandsHonest held → (it : KeptValue) → IsSoundStore it.store → KeepsAll held it → (document : Document) →
+      TellsLists document it.names it.store → (named : Id → Bool) (list : DocList) → document.units list ≡ (document_with held named).units list

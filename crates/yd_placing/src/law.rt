@@ -18,7 +18,7 @@ pub fn keeping_keeps_all()
 {}
 
 /// A document that tells the lists of such a store has lists that grew by scans; where the edit
-/// rules are kept these are in the origin order.
+/// rules are kept these are the lists that what is held defines.
 pub fn store_tells_lists()
     ensures { StoreTellsLists }
 {}
