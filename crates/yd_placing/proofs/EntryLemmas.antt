@@ -21,13 +21,13 @@ use Rattle.yd_index.proofs.RowLemmas.{from_says, from_in}
 use Rattle.yd_updates.specs.Received.{has_operation}
 use Rattle.yd_meaning.specs.Held.{standing, is_lost}
 use Rattle.yd_grouping.specs.Groups.{of_run, of_gone, operations_of_group}
-use Rattle.yd_received.specs.declared.entry.Entry.{Entry}
-use Rattle.yd_received.specs.declared.place.Place.{Place}
-use Rattle.yd_received.specs.declared.place.Place.TheVariants.{Waits, Lost, In}
-use Rattle.yd_received.specs.Entries.{units_of as units_of_kept, list_at, operations_of_taken, IsTakenOf, IsTold, TellsRight, covers, is_held, is_listed}
+use Rattle.yd_entries.specs.declared.entry.Entry.{Entry}
+use Rattle.yd_entries.specs.declared.place.Place.{Place}
+use Rattle.yd_entries.specs.declared.place.Place.TheVariants.{Waits, Lost, In}
+use Rattle.yd_entries.specs.Entries.{units_of as units_of_kept, list_at, operations_of_taken, IsTakenOf, IsTold, TellsRight, covers, is_held, is_listed}
 use Rattle.yd_received.specs.Received.{held_of}
-use Rattle.yd_received.proofs.EntriesLemmas.{one_entry}
-use Rattle.yd_received.proofs.EntryLemmas.{covers_in}
+use Rattle.yd_entries.proofs.EntriesLemmas.{one_entry}
+use Rattle.yd_entries.proofs.EntryLemmas.{covers_in}
 use Rattle.yd_held.specs.Held.{HeldValue, HoldsAll}
 use Rattle.yd_held.specs.Placed.{can_stand, IsPlaced}
 use Rattle.yd_held.proofs.HeldEntryLemmas.{is_taken, entry_chosen, id_chosen, chosen_id}

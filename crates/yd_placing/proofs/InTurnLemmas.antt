@@ -5,7 +5,7 @@ use Rattle.yd_words.specs.Member.{IsIn}
 use Rattle.yd_words.proofs.OptionLemmas.{some_is}
 use Rattle.yd_words.proofs.TestLemmas.{same_or_other}
 use Rattle.yd_ops.specs.declared.runs.Run.{Run}
-use Rattle.yd_received.specs.declared.entry.Entry.{Entry}
+use Rattle.yd_entries.specs.declared.entry.Entry.{Entry}
 use Rattle.yd_held.specs.Turn.{clocks_with, IsNextHeld, AreHeldInTurn}
 use Rattle.yd_held.proofs.TurnLemmas.{clocks_own, clocks_other}
 

@@ -30,7 +30,7 @@ use Rattle.yd_filling.proofs.FillingLemmas.{slice_below, filling_starts, filling
 use Rattle.yd_filling.proofs.TellingLemmas.{filled_lists_are_grown}
 use Rattle.yd_kept.specs.Kept.{KeptValue}
 use Rattle.yd_received.specs.Received.{taken_of, held_of}
-use Rattle.yd_received.proofs.WrittenLemmas.{taken_written}
+use Rattle.yd_entries.proofs.WrittenLemmas.{taken_written}
 use Rattle.yd_held.specs.Held.{HeldValue, HoldsAll}
 use Rattle.yd_held.specs.Turn.{AreHeldInTurn, HoldsInTurn}
 use Rattle.yd_held.proofs.HoldingLemmas.{is_written, has_needs}

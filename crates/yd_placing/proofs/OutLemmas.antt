@@ -17,7 +17,7 @@ use Rattle.yd_store.proofs.TakingLemmas.{left_passes}
 use Rattle.yd_filling.proofs.BackLemmas.{below_is, is_below-true}
 use Rattle.yd_filling.proofs.GoingLemmas.{going_back_goes_on}
 use Rattle.yd_kept.specs.Kept.{KeptValue}
-use Rattle.yd_received.specs.declared.entry.Entry.{Entry}
+use Rattle.yd_entries.specs.declared.entry.Entry.{Entry}
 use Rattle.yd_held.specs.Held.{HeldValue}
 use Rattle.yd_held.specs.Turn.{clocks_with, AreHeldInTurn}
 use Rattle.yd_held.proofs.TurnLemmas.{clocks_own, clocks_other}

@@ -21,12 +21,12 @@ use Rattle.yd_filling.proofs.BackLemmas.{below_is}
 use Rattle.yd_filling.proofs.FillingLemmas.{filling_goes_on}
 use Rattle.yd_kept.specs.Kept.{KeptValue, FillsFurther}
 use Rattle.yd_kept.proofs.ChangeLemmas.{further_both}
-use Rattle.yd_received.specs.declared.entry.Entry.{Entry}
-use Rattle.yd_received.specs.Entries.{operations_of_taken, covers, is_held, IsTakenOf}
+use Rattle.yd_entries.specs.declared.entry.Entry.{Entry}
+use Rattle.yd_entries.specs.Entries.{operations_of_taken, covers, is_held, IsTakenOf}
 use Rattle.yd_received.specs.Received.{held_of}
-use Rattle.yd_received.proofs.ChangeLemmas.{entry_got}
-use Rattle.yd_received.proofs.EntriesLemmas.{one_entry}
-use Rattle.yd_received.proofs.EntryLemmas.{covers_in}
+use Rattle.yd_entries.proofs.ChangeLemmas.{entry_got}
+use Rattle.yd_entries.proofs.EntriesLemmas.{one_entry}
+use Rattle.yd_entries.proofs.EntryLemmas.{covers_in}
 use Rattle.yd_held.specs.Held.{HeldValue, HoldsAll}
 use Rattle.yd_held.specs.Turn.{clocks_with, IsNextHeld, AreHeldInTurn}
 use Rattle.yd_held.proofs.HeldEntryLemmas.{chosen_entry, entry_chosen}

@@ -17,15 +17,15 @@ use Rattle.yd_marks.proofs.BorderLemmas.{next_border_of}
 use Rattle.yd_store.specs.Store.{stretch_of, gone_stretch}
 use Rattle.yd_store.specs.Units.{AddsApart}
 use Rattle.yd_kept.specs.Kept.{KeptValue, IsFilled, ComesNextOfSome, FillsByLost, HoldsRun}
-use Rattle.yd_received.specs.declared.entry.Entry.{Entry}
-use Rattle.yd_received.specs.Entries.{operations_told, operations_of_taken, is_listed}
+use Rattle.yd_entries.specs.declared.entry.Entry.{Entry}
+use Rattle.yd_entries.specs.Entries.{operations_told, operations_of_taken, is_listed}
 use Rattle.yd_received.specs.Received.{held_of}
-use Rattle.yd_received.proofs.ChangeLemmas.{entry_got}
+use Rattle.yd_entries.proofs.ChangeLemmas.{entry_got}
 use Rattle.yd_held.specs.Held.{HeldValue, HoldsAll}
 use Rattle.yd_held.specs.Turn.{IsNextHeld}
-use Rattle.yd_merge.specs.declared.group.Group.{Group as OwnedGroup}
-use Rattle.yd_merge.specs.declared.group.Group.TheVariants.{Run as RunGroup, Gone as GoneGroup}
-use Rattle.yd_merge.specs.Builder.{group_value}
+use Rattle.yd_building.specs.declared.group.Group.{Group as OwnedGroup}
+use Rattle.yd_building.specs.declared.group.Group.TheVariants.{Run as RunGroup, Gone as GoneGroup}
+use Rattle.yd_building.specs.Builder.{group_value}
 use Rattle.yd_merge.specs.Told.{group_of_entry}
 use Rattle.yd_placing.specs.Placing.{IsNextFor, AddsEntry, PlacesEntry}
 use Rattle.yd_placing.proofs.EntryLemmas.{IsRunOfEntry, run_of_entry, IsGoneOfEntry, gone_of_entry, entry_taken, gone_unlisted}

@@ -17,8 +17,8 @@ use Rattle.yd_updates.specs.Received.{IsWritten}
 use Rattle.yd_filling.specs.Filling.{ComesNext}
 use Rattle.yd_kept.specs.Kept.{KeptValue, IsFilled, ComesNextOfSome, FillsByLost, KeepsHeld, HoldsRun}
 use Rattle.yd_kept.proofs.ChangeLemmas.{units_keep}
-use Rattle.yd_received.specs.declared.entry.Entry.{Entry}
-use Rattle.yd_received.specs.Entries.{operations_of_taken, is_listed}
+use Rattle.yd_entries.specs.declared.entry.Entry.{Entry}
+use Rattle.yd_entries.specs.Entries.{operations_of_taken, is_listed}
 use Rattle.yd_received.specs.Received.{held_of}
 use Rattle.yd_held.specs.Held.{HeldValue, HoldsAll}
 use Rattle.yd_held.specs.Turn.{IsNextHeld}

@@ -9,7 +9,7 @@ use Rattle.yd_store.specs.Store.{Stored}
 use Rattle.yd_store.specs.Units.{operations_in, HasOperation, HasMarked}
 use Rattle.yd_filling.specs.Back.{is_below, HasGoneBack}
 use Rattle.yd_kept.specs.Kept.{KeptValue}
-use Rattle.yd_received.specs.declared.entry.Entry.{Entry}
+use Rattle.yd_entries.specs.declared.entry.Entry.{Entry}
 use Rattle.yd_held.specs.Held.{HeldValue}
 use Rattle.yd_held.specs.Turn.{AreHeldInTurn}
 

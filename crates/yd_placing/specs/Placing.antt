@@ -11,8 +11,8 @@ use Rattle.yd_updates.specs.Received.{has_operation}
 use Rattle.yd_meaning.specs.Held.{is_lost}
 use Rattle.yd_filling.specs.Telling.{HasAllHeld, ListsAreGrown}
 use Rattle.yd_kept.specs.Kept.{KeptValue, IsFilled, FillsFurther}
-use Rattle.yd_received.specs.declared.entry.Entry.{Entry}
-use Rattle.yd_received.specs.Entries.{operations_of_taken, covers, is_listed}
+use Rattle.yd_entries.specs.declared.entry.Entry.{Entry}
+use Rattle.yd_entries.specs.Entries.{operations_of_taken, covers, is_listed}
 use Rattle.yd_received.specs.Received.{held_of}
 use Rattle.yd_held.specs.Held.{HeldValue}
 use Rattle.yd_held.specs.Turn.{IsNextHeld, AreHeldInTurn}

@@ -1,7 +1,7 @@
 //! The units of one entry.
 
 ghost use Rattle.std.specs.Prelude.{◌≡◌, OnOk, OnErr};
-ghost use Rattle.yd_received.specs.Entries.{is_listed_at};
+ghost use Rattle.yd_entries.specs.Entries.{is_listed_at};
 ghost use Rattle.yd_received.specs.Received.{held_of};
 ghost use Rattle.yd_kept.specs.Kept.{IsFilled, KeepsHeld};
 ghost use Rattle.yd_placing.specs.Placing.{IsNextFor, PlacesEntry};

@@ -1,6 +1,6 @@
 use Rattle.std.proofs.Common.{◌-◌, ◌∙◌, ap, arith, get_or, refl}
 use Rattle.yd_received.specs.Received.{ReceivedValue}
-use Rattle.yd_received.proofs.EntryLemmas.{no_entry}
+use Rattle.yd_entries.proofs.EntryLemmas.{no_entry}
 use Rattle.yd_placing.proofs.OutLemmas.{index_within, taken_below, taken_border, taken_then}
 use Rattle.yd_placing.proofs.back.take_out.Goals as goal
 

@@ -1,7 +1,7 @@
 use Rattle.std.proofs.Common.{◌∙◌, sym, ap, refl}
 use Rattle.yd_kept.proofs.ChangeLemmas.{on_err}
 use Rattle.yd_received.specs.Received.{ReceivedValue}
-use Rattle.yd_received.proofs.EntryLemmas.{no_entry}
+use Rattle.yd_entries.proofs.EntryLemmas.{no_entry}
 use Rattle.yd_placing.proofs.SeenLemmas.{seen_next, seen_filled, seen_fits, seen_comes, listed_placed, lost_placed, gone_placed}
 use Rattle.yd_placing.proofs.StepLemmas.{kept_held}
 use Rattle.yd_placing.proofs.entry.place_entry.Goals as goal
