@@ -1,0 +1,9 @@
+mod RunLemmas
+mod AddingLemmas
+mod LawLemmas
+mod QueueLemmas
+mod NotingLemmas
+mod OpeningLemmas
+mod OutlivingLemmas
+mod TakingLemmas
+mod DroppingLemmas

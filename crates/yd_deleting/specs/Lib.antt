@@ -1,0 +1,4 @@
+pub mod Closing
+pub mod Falling
+pub mod Law
+pub mod Steps
