@@ -13,10 +13,12 @@
 
 mod address;
 mod calling;
+mod counting;
 mod door;
 mod entrance;
 mod held;
 mod line;
+mod look;
 mod sessions;
 mod socket_board;
 mod stream;

@@ -1,6 +1,6 @@
 //! One connection: what comes on it, and what is sent on it.
 
-ghost use Rattle.std.specs.Prelude.{IfOk};
+ghost use Rattle.std.specs.Prelude.{◌≡◌, IfOk, Some};
 ghost use Rattle.yd_sockets.specs.Given.{IsWhatCame};
 
 use crate::stream::Stream;
@@ -32,7 +32,10 @@ pub enum Given {
 }
 
 /// The limits of a connection.
-pub fn limits() -> WebSocketConfig {
+pub fn limits() -> WebSocketConfig
+    ensures message { result.max_message_size ≡ Some 268435520 }
+    ensures frame { result.max_frame_size ≡ Some 268435520 }
+{
     WebSocketConfig::default()
         .read_buffer_size(READ_SIZE)
         .max_message_size(Some(MOST_BYTES))

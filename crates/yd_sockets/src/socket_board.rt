@@ -3,16 +3,18 @@
 ghost use Rattle.std.specs.Prelude.{◌≡◌, ◌<◌, ◌≤◌, Err, None, Some, not, IsOk, OnOk, OnErr, IfOk};
 ghost use Rattle.std.specs.Prelude.{IfSome, MatchOption, length, slice_get};
 ghost use Rattle.std.specs.List.{remove};
-ghost use Rattle.yd_world.specs.Plan.{FailsWhere, one_more};
+ghost use Rattle.yd_world.specs.Plan.{FailsWhere};
 ghost use Rattle.yd_sockets.specs.Board.{ClosesSession, CountsFault, Happens, HappensAt, NotesSend, Starts};
-ghost use Rattle.yd_sockets.specs.Board.{failures_to, first_session, not_started};
+ghost use Rattle.yd_sockets.specs.Board.{failures_to, not_started};
 ghost use Rattle.yd_sockets.specs.Looking.{Looks};
 ghost use Rattle.yd_sockets.specs.Numbers.{IsNowhere, IsOpen};
 
 use crate::address::local_address;
+use crate::counting::{first_session, one_more};
 use crate::door::Door;
 use crate::entrance::Seen;
 use crate::line::Given;
+use crate::look::{Look, MOST_ROUNDS, STILL_ROUNDS};
 use crate::sessions::Sessions;
 use crate::stream::Stream;
 use crate::watch::Watch;
@@ -23,23 +25,6 @@ use std::random::RandomSource;
 use std::time::Clock;
 use tungstenite::{RandomKeys, WebSocket};
 use yd_world::{Event, NoMemory, Outage, Session, Switchboard, Way, What};
-
-/// After so many rounds in which nothing was ready, nothing happened.
-const STILL_ROUNDS: u32 = 1000;
-
-/// After so many rounds without an event, nothing happened, whatever else came.
-const MOST_ROUNDS: u32 = 1_000_000;
-
-/// What a look at the network gave.
-#[derive(Drop)]
-enum Look {
-    /// Nothing was ready.
-    Still,
-    /// Something came that is no event.
-    Moved,
-    /// This happened.
-    Happened(What),
-}
 
 /// Connections of the system. It tells nothing of what comes.
 #[derive(Drop)]
@@ -412,21 +397,4 @@ impl<R: Net + Clock + RandomSource + Copy> Switchboard for SocketBoard<R> {
         }
         Ok(())
     }
-}
-
-// The number of the first session on this side.
-fn first_session(way: Way) -> u64
-    ensures { result ≡ first_session way }
-{
-    match way {
-        Way::Listen => 1,
-        Way::Call => 0,
-    }
-}
-
-// One more, and at 2^64-1 no more.
-fn one_more(count: u64) -> u64
-    ensures { result ≡ one_more count }
-{
-    if count < u64::MAX { count + 1 } else { count }
 }
