@@ -1,14 +1,18 @@
 #!/usr/bin/env bash
 # Server and client over real sockets, in processes of their own: one client; a client that begins
 # before the server; three clients one after another; a port in use; an address of another form.
-# It proves and builds the program, where that was not done, and takes some seconds then.
+# It proves and builds the program, where that was not done, and takes some seconds then. `YDOC=PATH`
+# names a program that is built.
 set -u
 cd "$(dirname "$0")/../crates/ydoc" || exit 1
 work=$(mktemp -d) && trap 'rm -rf "$work"' EXIT
 failed=0
 
-rt run -- merge v1 v1:data/abc.bin >/dev/null 2>"$work/err" || { tail -5 "$work/err"; exit 1; }
-program=$PWD/out/ydoc
+if [ -z "${YDOC:-}" ]; then
+  rt run -- merge v1 v1:data/abc.bin >/dev/null 2>"$work/err" || { tail -5 "$work/err"; exit 1; }
+  YDOC=$PWD/out/ydoc
+fi
+program=$YDOC
 cd "$work" || exit 1
 at=127.0.0.1:47811
 

@@ -10,19 +10,31 @@ has_yjs() {
   node -e 'require("yjs")' 2>/dev/null
 }
 
-# install: gets what is missing of the two packages
+has_provider() {
+  node -e 'require("ws"); require("y-websocket")' 2>/dev/null
+}
+
+# install PACKAGE..: gets these packages, and Node where it is missing
 install() {
-  local missing=(node-yjs)
+  local missing=("$@")
   command -v node >/dev/null || missing+=(nodejs)
   local get=(apt-get -qq -o Acquire::Retries=1 -o Acquire::http::Timeout=20)
   "${get[@]}" install -y --no-install-recommends "${missing[@]}" ||
     { "${get[@]}" update && "${get[@]}" install -y --no-install-recommends "${missing[@]}"; }
 }
 
-if ! has_yjs && ! { install >/dev/null 2>&1 && has_yjs; }; then
+if ! has_yjs && ! { install node-yjs >/dev/null 2>&1 && has_yjs; }; then
   echo 'interop: not run, since the packages nodejs and node-yjs cannot be had here'
   exit 0
 fi
 # The worked cases, and then the sessions; with a word only sessions whose names have it.
 [ $# -gt 0 ] || node cases.js || exit 1
+# Server and client over real sockets, with the provider and the server of y-websocket.
+if [ $# -eq 0 ]; then
+  if has_provider || { install node-ws node-y-websocket >/dev/null 2>&1 && has_provider; }; then
+    node sockets.js || exit 1
+  else
+    echo 'interop: no sockets, since the packages node-ws and node-y-websocket cannot be had here'
+  fi
+fi
 exec node interop.js "$@"

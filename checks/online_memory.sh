@@ -1,0 +1,78 @@
+#!/usr/bin/env bash
+# Each of the first 200 growths of `show`, `merge` and `serve` is refused in turn. The program then
+# writes what it writes with memory, or ends as without memory. It takes a C compiler and minutes.
+# `YDOC=PATH` names a program that is built; GROWTHS is another number of growths.
+set -u
+cd "$(dirname "$0")/../crates/ydoc" || exit 1
+work=$(mktemp -d) && trap 'rm -rf "$work"' EXIT
+failed=0
+
+if [ -z "${YDOC:-}" ]; then
+  rt run -- merge v1 v1:data/abc.bin >/dev/null 2>"$work/err" || { tail -5 "$work/err"; exit 1; }
+  YDOC=$PWD/out/ydoc
+fi
+cd "$work" || exit 1
+at=127.0.0.1:47831
+printf '\1\1\1\0\4\1\1t\3abc\0' >1
+printf '\1\1\2\0\4\1\1t\1b\0' >2
+
+cat >refuse.c <<'C'
+#include <stdlib.h>
+extern void *__libc_malloc(size_t);
+extern void *__libc_realloc(void *, size_t);
+extern void *__libc_memalign(size_t, size_t);
+static long growths;
+static int refused(void) {
+    const char *at = getenv("REFUSE");
+    return ++growths == (at ? atol(at) : 0);
+}
+void *malloc(size_t n) { return refused() ? 0 : __libc_malloc(n); }
+void *realloc(void *old, size_t n) { return refused() ? 0 : __libc_realloc(old, n); }
+void *aligned_alloc(size_t a, size_t n) { return refused() ? 0 : __libc_memalign(a, n); }
+int posix_memalign(void **out, size_t a, size_t n) {
+    if (refused()) return 12;
+    *out = __libc_memalign(a, n);
+    return 0;
+}
+C
+cc -shared -fPIC -o refuse.so refuse.c || exit 1
+
+# judged NAME STATUS: it wrote what it writes with memory, or it had none and wrote nothing
+judged() {
+  if [ "$2" -eq 0 ] && cmp -s out "$1.out"; then
+    return
+  elif [ "$2" -eq 5 ] && [ ! -s out ]; then
+    without=$((without + 1))
+  else
+    echo "checks/online_memory.sh: $1, growth $growth: status $2"
+    failed=1
+  fi
+}
+
+# served: one server, and a client that tries as long as the server is there
+served() {
+  REFUSE=$growth LD_PRELOAD=$work/refuse.so "$YDOC" serve "$at" 1000 v1:1 >out 2>err &
+  local server=$!
+  while kill -0 "$server" 2>/dev/null; do
+    "$YDOC" sync "$at" 2000 v1:2 >/dev/null 2>&1
+    [ $? -eq 6 ] || break
+  done
+  wait "$server"
+}
+
+"$YDOC" merge v1 v1:1 v1:2 >merge.out
+cp merge.out serve.out
+"$YDOC" show --text t v1:1 v1:2 >show.out
+without=0
+for growth in $(seq 1 "${GROWTHS:-200}"); do
+  for name in show merge; do
+    words=(show --text t)
+    [ "$name" = show ] || words=(merge v1)
+    REFUSE=$growth LD_PRELOAD=$work/refuse.so "$YDOC" "${words[@]}" v1:1 v1:2 >out 2>err
+    judged "$name" $?
+  done
+  served
+  judged serve $?
+done
+[ "$failed" -eq 0 ] && echo "checks/online_memory.sh: ok, without memory $without times"
+exit "$failed"
