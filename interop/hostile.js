@@ -14,7 +14,7 @@ const Y = require('yjs');
 const { ending, isOpen, pause, until, useUp, ydoc } = require('./online.js');
 
 const PORT = 47823;
-const TURNS = 200000;
+const TURNS = 40000;
 const STEP1 = Buffer.from([0, 0, 1, 0]);
 // Asks who is there. Its answer, the entries of nobody, is short.
 const ASKS = Buffer.from([3]);
@@ -129,8 +129,10 @@ async function main() {
     const end = `${code} ${reason}`;
     ends.set(end, (ends.get(end) ?? 0) + 1);
   }));
-  await pause(3000);
-  const open = many.filter(({ readyState }) => readyState === WebSocket.OPEN).length;
+  const opened = () => many.filter(({ readyState }) => readyState === WebSocket.OPEN).length;
+  const closed = () => [...ends.values()].reduce((sum, count) => sum + count, 0);
+  await until('the end of 1,024 handshakes', () => opened() + closed() === 1024);
+  const open = opened();
   await told('1,024 more sessions', `${open} open, ${JSON.stringify([...ends])}`, session);
   many.forEach((socket) => socket.terminate());
 
