@@ -5,3 +5,4 @@ pub mod KeyLemmas
 pub mod LawLemmas
 pub mod ProperLemmas
 pub mod RemadeLemmas
+pub mod TurnLemmas

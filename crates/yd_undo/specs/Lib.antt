@@ -3,3 +3,4 @@ pub mod Law
 pub mod Remade
 pub mod Stacks
 pub mod Steps
+pub mod Turn

@@ -8,6 +8,8 @@
 //! ```rust
 //! let mut undo = Undo::new(alloc, 100);
 //! undo.note(&update)?;
+//! let undone = undo.undo(&mut replica)?;
+//! let again = undo.redo(&mut replica)?;
 //! ```
 #![tactic(auto)]
 
@@ -17,6 +19,7 @@ pub mod law;
 mod remaking;
 mod stacks;
 mod steps;
+mod turn;
 
 pub use entry::Entry;
 pub use stacks::Undo;
