@@ -1,11 +1,13 @@
 //! The index of a position.
 
-ghost use Rattle.std.specs.Prelude.{◌≡◌, IfOk};
+ghost use Rattle.std.specs.Prelude.{◌≡◌, IfOk, IfSome};
+ghost use Rattle.yd_ops.specs.Valid.{IsParent};
 ghost use Rattle.yd_ops.specs.declared.lists.Parent.TheVariants.{Root as OfRoot, Item as OfItem};
 ghost use Rattle.yd_doc.specs.Kept.{own_document};
 ghost use Rattle.yd_places.specs.Place.{end_of, place_of, place_of_unit, list_of_parent, whole_place};
 
 use crate::counting::count_to;
+use yd_doc::law::received_can_be_grouped;
 use yd_doc::{NoMemory, Replica};
 use yd_ids::Id;
 use yd_ops::{List, Parent};
@@ -17,6 +19,17 @@ use yd_position::{Position, Target};
 /// lost, or where the id is none of a nested type (Yjs 13, createAbsolutePositionFromRelativePosition;
 /// that units that were undone are not followed is own).
 pub fn index_of(replica: &Replica, position: &Position) -> Result<Option<(List, u64)>, NoMemory>
+    ensures place { IfOk result (λ place. place ≡ place_of replica.now position.now) }
+    ensures in_range { IfOk result (λ place. IfSome place (λ both. IsParent both.0.parent)) }
+{
+    // What is received is looked at, since its lists are in range.
+    received_can_be_grouped(replica);
+    let place = place_of(replica, position)?;
+    Ok(place)
+}
+
+/// The list that a position is in, and its index there.
+fn place_of(replica: &Replica, position: &Position) -> Result<Option<(List, u64)>, NoMemory>
     ensures { IfOk result (λ place. place ≡ place_of replica.now position.now) }
 {
     match &position.target {
