@@ -6,19 +6,20 @@ use Rattle.yd_playing.proofs.EndLemmas.{lines_end}
 use Rattle.yd_playing.specs.declared.fault.LineCause.{LineCause}
 use Rattle.yd_updates.specs.Received.{received_set}
 use Rattle.yd_world.specs.Shelf.{Shelf}
-use Rattle.yd_world.specs.Traffic.{Traffic}
 use Rattle.yd_ending.specs.Lines.{refused_line}
 use Rattle.yd_ending.specs.Script.{refused_script_line}
 use Rattle.yd_files.proofs.VerdictLemmas.{files_judged, stand_apart, stand_one, stops_one}
 use Rattle.yd_files.specs.Files.{File}
 use Rattle.yd_files.specs.Verdict.{Inputs, IsTold, StandFor, StopsAt, Verdict, accepted, missing, refused, too_large}
-use Rattle.yd_app.proofs.WordLemmas.{asked_or_not, asks_same}
-use Rattle.yd_app.specs.Command.{Command, edit}
+use Rattle.yd_asking.proofs.WordLemmas.{asked_or_not, asks_same}
+use Rattle.yd_asking.specs.Command.{Command, IsOnline, edit, serve, sync}
 use Rattle.yd_app.specs.Commands.Edit.{lines_of_first}
-use Rattle.yd_app.specs.Due.{Due, IsDue, Refuses, lacking, no_step_2, output, over_limit, refusal, usage}
+use Rattle.yd_app.specs.Due.{Due, IsDue, IsDueIn, IsDueOver, Refuses, lacking, no_step_2, output, over_limit, refusal, usage}
 use Rattle.yd_app.specs.Law.{OneIsDue}
+use Rattle.yd_app.specs.Link.{Link}
+use Rattle.yd_app.specs.Online.{GoesOnline, IsOutputOver, IsRefusalOver, OfInputs, WantsStep2}
 use Rattle.yd_app.specs.Output.{AreMade, IsOutputOf, IsRefusalOf, output_of}
-use Rattle.yd_app.specs.Words.{AreOfNoForm, Asks, AsksFor}
+use Rattle.yd_asking.specs.Words.{AreOfNoForm, Asks, AsksFor}
 
 -- what holds of what is asked for holds of each thing that is asked for
 pub asked : (words : List (List ℕ)) (Holds : Command → List File → Type 0) (command : Command) (files : List File) → AsksFor words Holds → Asks words command files → Holds command files
@@ -42,6 +43,8 @@ due_of file missing = lacking file.name
 -- it makes one row of updates
 made_one : (command : Command) (inputs : Inputs) (made other : List UpdateValue) → AreMade command inputs made → AreMade command inputs other → made ≡ other
 made_one (edit client name) inputs made other a b = lines_end.one_row client _ _ made other a b
+made_one (serve address turns) inputs made other a b = absurd a
+made_one (sync address turns) inputs made other a b = absurd a
 made_one command inputs made other a b = a ∙ sym b
 
 -- it writes one output
@@ -65,13 +68,23 @@ output_made : (command : Command) (inputs : Inputs) (made : List UpdateValue) �
 output_made command inputs made are = let document = document_of (received_set inputs.updates) in
     (output_of command inputs document made, record { document = document; is_document = refl; made = made; are_made = are; bytes_are = refl })
 
--- one of the two comes
-output_or_refusal : (command : Command) (inputs : Inputs) → ((bytes : List ℕ) × IsOutputOf command inputs bytes) ⊎ ((line : List ℕ) × IsRefusalOf command inputs line)
+-- one of the two comes, or it uses the network
+output_or_refusal : (command : Command) (inputs : Inputs) → ((bytes : List ℕ) × IsOutputOf command inputs bytes) ⊎ ((line : List ℕ) × IsRefusalOf command inputs line) ⊎ IsOnline command
 output_or_refusal (edit client name) inputs = elim (lines_end.some client (received_set inputs.updates) (lines_of_first inputs.scripts)) [
   | inl played ↦ inl (output_made (edit client name) inputs played.0 played.1)
-  | inr stops ↦ inr (refused_script_line name stops.0 stops.1, (stops.0, stops.1, stops.2, refl))
+  | inr stops ↦ inr (inl (refused_script_line name stops.0 stops.1, (stops.0, stops.1, stops.2, refl)))
 ]
+output_or_refusal (serve address turns) inputs = inr (inr tt)
+output_or_refusal (sync address turns) inputs = inr (inr tt)
 output_or_refusal command inputs = inl (output_made command inputs [] refl)
+
+-- one that uses the network makes and refuses nothing of its inputs alone
+online_apart : (command : Command) (inputs : Inputs) → IsOnline command → ((bytes : List ℕ) × IsOutputOf command inputs bytes) ⊎ ((line : List ℕ) × IsRefusalOf command inputs line) → ⊥
+online_apart (serve address turns) inputs online (inl made) = made.1.are_made
+online_apart (serve address turns) inputs online (inr told) = told.1
+online_apart (sync address turns) inputs online (inl made) = made.1.are_made
+online_apart (sync address turns) inputs online (inr told) = told.1
+online_apart command inputs online some = absurd online
 
 -- ---- what is due
 
@@ -92,13 +105,13 @@ refusal_answers told line command files (inl r) = inr (inl (r.0, refused r.1, r.
 refusal_answers told line command files (inr r) = inr (inr (r.0, r.1, line, r.2, refl))
 
 -- what is due is one of these
-judged : (words : List (List ℕ)) (told : Option Shelf) (traffic : Option Traffic) (due : Due) → IsDue words told traffic due → Judged words told due
-judged words told traffic usage d = inl (d, refl)
-judged words told traffic (refusal line) d = inr (record { command = d.command; files = d.files; asks = d.asks; holds = refusal_answers told line d.command d.files d.holds })
-judged words told traffic (over_limit name) d = inr (record { command = d.command; files = d.files; asks = d.asks; holds = inr (inl (d.holds.0, too_large, d.holds.1, ap over_limit d.holds.2)) })
-judged words told traffic (lacking name) d = inr (record { command = d.command; files = d.files; asks = d.asks; holds = inr (inl (d.holds.0, missing, d.holds.1, ap lacking d.holds.2)) })
-judged words told traffic no_step_2 d = absurd d
-judged words told traffic (output bytes) d = inr (record { command = d.command; files = d.files; asks = d.asks; holds = inl (d.holds.0, d.holds.1, bytes, d.holds.2, refl) })
+judged : (words : List (List ℕ)) (told : Option Shelf) (due : Due) → IsDue words told due → Judged words told due
+judged words told usage d = inl (d, refl)
+judged words told (refusal line) d = inr (record { command = d.command; files = d.files; asks = d.asks; holds = refusal_answers told line d.command d.files d.holds })
+judged words told (over_limit name) d = inr (record { command = d.command; files = d.files; asks = d.asks; holds = inr (inl (d.holds.0, too_large, d.holds.1, ap over_limit d.holds.2)) })
+judged words told (lacking name) d = inr (record { command = d.command; files = d.files; asks = d.asks; holds = inr (inl (d.holds.0, missing, d.holds.1, ap lacking d.holds.2)) })
+judged words told no_step_2 d = absurd d
+judged words told (output bytes) d = inr (record { command = d.command; files = d.files; asks = d.asks; holds = inl (d.holds.0, d.holds.1, bytes, d.holds.2, refl) })
 
 -- of files one thing is due
 answers_one : (shelf : Shelf) (command : Command) (files : List File) (due other : Due) → Answers (Some shelf) due command files → Answers (Some shelf) other command files → due ≡ other
@@ -126,41 +139,91 @@ judged_one words shelf due other (inl a) (inr b) = absurd (a.0 b.command b.files
 judged_one words shelf due other (inr a) (inl b) = absurd (b.0 a.command a.files a.asks)
 judged_one words shelf due other (inr a) (inr b) = answers_one shelf b.command b.files due other (asked words (Answers (Some shelf) due) b.command b.files a b.asks) b.holds
 
+-- of files of a command that uses the network nothing is due
+answers_offline : (shelf : Shelf) (command : Command) (files : List File) (inputs : Inputs) (due : Due) → StandFor (Some shelf) files inputs → IsOnline command → Answers (Some shelf) due command files → ⊥
+answers_offline shelf command files inputs due stand online (inl a) = online_apart command a.0 online (inl (a.2, a.3))
+answers_offline shelf command files inputs due stand online (inr (inl a)) = stand_apart shelf files inputs a.0 a.1 stand a.2
+answers_offline shelf command files inputs due stand online (inr (inr a)) = online_apart command a.0 online (inr (a.2, a.3))
+
+judged_offline : (words : List (List ℕ)) (shelf : Shelf) (due : Due) → Judged words (Some shelf) due → GoesOnline words (Some shelf) → ⊥
+judged_offline words shelf due (inl a) goes = a.0 goes.command goes.files goes.asks
+judged_offline words shelf due (inr a) goes =
+    answers_offline shelf goes.command goes.files goes.holds.0 due goes.holds.1 goes.holds.2 (asked words (Answers (Some shelf) due) goes.command goes.files a goes.asks)
+
 -- ---- lemmas for callers
 
 -- what is due is one thing
-pub due_one : (words : List (List ℕ)) (told : Option Shelf) (traffic : Option Traffic) (due other : Due) → IsTold told → IsDue words told traffic due → IsDue words told traffic other → due ≡ other
-due_one words None traffic due other is_told a b = absurd is_told
-due_one words (Some shelf) traffic due other is_told a b = judged_one words shelf due other (judged words (Some shelf) traffic due a) (judged words (Some shelf) traffic other b)
+pub due_one : (words : List (List ℕ)) (told : Option Shelf) (due other : Due) → IsTold told → IsDue words told due → IsDue words told other → due ≡ other
+due_one words None due other is_told a b = absurd is_told
+due_one words (Some shelf) due other is_told a b = judged_one words shelf due other (judged words (Some shelf) due a) (judged words (Some shelf) other b)
 
--- and there is one
-due_some : (words : List (List ℕ)) (shelf : Shelf) (traffic : Option Traffic) → (due : Due) × IsDue words (Some shelf) traffic due
-due_some words shelf traffic =
+-- and then the words do not ask for the network
+pub due_offline : (words : List (List ℕ)) (told : Option Shelf) (due : Due) → IsTold told → IsDue words told due → GoesOnline words told → ⊥
+due_offline words None due is_told a goes = is_told
+due_offline words (Some shelf) due is_told a goes = judged_offline words shelf due (judged words (Some shelf) due a) goes
+
+-- what is made, refused or wanted over the network is so of a command that uses it
+pub output_online : (link : Link) (command : Command) (inputs : Inputs) (bytes : List ℕ) → IsOutputOver link command inputs bytes → IsOnline command
+output_online link (serve address turns) inputs bytes is = tt
+output_online link (sync address turns) inputs bytes is = tt
+output_online link command inputs bytes is = absurd is
+
+refusal_online : (link : Link) (command : Command) (inputs : Inputs) (line : List ℕ) → IsRefusalOver link command inputs line → IsOnline command
+refusal_online link (sync address turns) inputs line is = tt
+refusal_online link command inputs line is = absurd is
+
+wants_online : (link : Link) (command : Command) (inputs : Inputs) → WantsStep2 link command inputs → IsOnline command
+wants_online link (sync address turns) inputs is = tt
+wants_online link command inputs is = absurd is
+
+-- so the words ask for the network
+pub goes_online : (words : List (List ℕ)) (told : Option Shelf) (Holds : Command → Inputs → Type 0) → ((command : Command) (inputs : Inputs) → Holds command inputs → IsOnline command)
+    → AsksFor words (λ command files. OfInputs told files (Holds command)) → GoesOnline words told
+goes_online words told Holds online w = record { command = w.command; files = w.files; asks = w.asks; holds = (w.holds.0, w.holds.1, online w.command w.holds.0 w.holds.2) }
+
+pub over_online : (words : List (List ℕ)) (told : Option Shelf) (link : Link) (due : Due) → IsDueOver words told link due → GoesOnline words told
+over_online words told link usage d = absurd d
+over_online words told link (refusal line) d = goes_online words told (λ command inputs. IsRefusalOver link command inputs line) (λ command inputs is. refusal_online link command inputs line is) d
+over_online words told link (over_limit name) d = absurd d
+over_online words told link (lacking name) d = absurd d
+over_online words told link no_step_2 d = goes_online words told (WantsStep2 link) (wants_online link) d
+over_online words told link (output bytes) d = goes_online words told (λ command inputs. IsOutputOver link command inputs bytes) (λ command inputs is. output_online link command inputs bytes is) d
+
+-- what is due in the one way or the other is what is due by the files, where something is
+pub due_in_one : (words : List (List ℕ)) (told : Option Shelf) (link : Link) (due other : Due) → IsTold told → IsDue words told due → IsDueIn words told link other → due ≡ other
+due_in_one words told link due other is_told a (inl b) = due_one words told due other is_told a b
+due_in_one words told link due other is_told a (inr b) = absurd (due_offline words told due is_told a (over_online words told link other b))
+
+-- there is one thing that is due, or the words ask for the network
+due_some : (words : List (List ℕ)) (shelf : Shelf) → ((due : Due) × IsDue words (Some shelf) due) ⊎ GoesOnline words (Some shelf)
+due_some words shelf =
     elim (asked_or_not words) [
       | inl a ↦ by_files a.0 a.1 a.2 (files_judged.files shelf a.1)
-      | inr never ↦ (usage, never)
+      | inr never ↦ inl (usage, never)
     ]
   where
-    by_first : (command : Command) (files : List File) → Asks words command files → (file : File) (verdict : Verdict) → StopsAt (Some shelf) files file verdict → (due : Due) × IsDue words (Some shelf) traffic due
+    by_first : (command : Command) (files : List File) → Asks words command files → (file : File) (verdict : Verdict) → StopsAt (Some shelf) files file verdict → (due : Due) × IsDue words (Some shelf) due
     by_first command files asks file (accepted content) stops = absurd stops.not_accepted
     by_first command files asks file (refused fault) stops = (refusal (refused_line file fault), record { command = command; files = files; asks = asks; holds = inl (file, fault, stops, refl) })
     by_first command files asks file too_large stops = (over_limit file.name, record { command = command; files = files; asks = asks; holds = (file, stops, refl) })
     by_first command files asks file missing stops = (lacking file.name, record { command = command; files = files; asks = asks; holds = (file, stops, refl) })
 
     by_command : (command : Command) (files : List File) → Asks words command files → (inputs : Inputs) → StandFor (Some shelf) files inputs
-        → ((bytes : List ℕ) × IsOutputOf command inputs bytes) ⊎ ((line : List ℕ) × IsRefusalOf command inputs line) → (due : Due) × IsDue words (Some shelf) traffic due
-    by_command command files asks inputs read (inl made) = (output made.0, record { command = command; files = files; asks = asks; holds = (inputs, read, made.1) })
-    by_command command files asks inputs read (inr told) = (refusal told.0, record { command = command; files = files; asks = asks; holds = inr (inputs, read, told.1) })
+        → ((bytes : List ℕ) × IsOutputOf command inputs bytes) ⊎ ((line : List ℕ) × IsRefusalOf command inputs line) ⊎ IsOnline command → ((due : Due) × IsDue words (Some shelf) due) ⊎ GoesOnline words (Some shelf)
+    by_command command files asks inputs read (inl made) = inl (output made.0, record { command = command; files = files; asks = asks; holds = (inputs, read, made.1) })
+    by_command command files asks inputs read (inr (inl told)) = inl (refusal told.0, record { command = command; files = files; asks = asks; holds = inr (inputs, read, told.1) })
+    by_command command files asks inputs read (inr (inr online)) = inr (record { command = command; files = files; asks = asks; holds = (inputs, read, online) })
 
     by_files : (command : Command) (files : List File) → Asks words command files
         → ((inputs : Inputs) × StandFor (Some shelf) files inputs) ⊎ ((file : File) × (verdict : Verdict) × StopsAt (Some shelf) files file verdict)
-        → (due : Due) × IsDue words (Some shelf) traffic due
+        → ((due : Due) × IsDue words (Some shelf) due) ⊎ GoesOnline words (Some shelf)
     by_files command files asks (inl read) = by_command command files asks read.0 read.1 (output_or_refusal command read.0)
-    by_files command files asks (inr stops) = by_first command files asks stops.0 stops.1 stops.2
+    by_files command files asks (inr stops) = inl (by_first command files asks stops.0 stops.1 stops.2)
 
 -- so one thing is due
 pub one_is_due : OneIsDue
 one_is_due = record {
   some = due_some;
-  one = λ words shelf traffic due other a b. due_one words (Some shelf) traffic due other tt a b;
+  one = λ words shelf due other a b. due_one words (Some shelf) due other tt a b;
+  apart = λ words shelf due a goes. due_offline words (Some shelf) due tt a goes;
 }

@@ -1,9 +1,8 @@
 pub mod CheckLemmas
 pub mod DueLemmas
+pub mod EndsLemmas
 pub mod LawLemmas
 pub mod MakingLemmas
 pub mod MergeLemmas
-pub mod RequestLemmas
+pub mod OnlineLemmas
 pub mod RunLemmas
-pub mod TableLemmas
-pub mod WordLemmas

@@ -6,21 +6,22 @@ use Rattle.yd_ops.specs.Value.{UpdateValue}
 use Rattle.yd_parts.specs.Fault.{Fault}
 use Rattle.yd_world.specs.Shelf.{Shelf}
 use Rattle.yd_files.proofs.KindLemmas.{read_exactly}
-use Rattle.yd_files.proofs.VerdictLemmas.{stand_one, stand_valid}
+use Rattle.yd_files.proofs.VerdictLemmas.{stand_valid}
 use Rattle.yd_files.specs.Files.{File}
 use Rattle.yd_files.specs.Verdict.{AreRead, Content, Inputs, StandFor, StandsIn, one_update, updates_in}
 use Rattle.yd_files.specs.declared.kind.Kind.{Kind}
-use Rattle.yd_app.proofs.LawLemmas.{received_same}
-use Rattle.yd_app.proofs.WordLemmas.{asks_same}
-use Rattle.yd_app.specs.Command.{Command, convert, merge, vector}
+use Rattle.yd_app.proofs.LawLemmas.{received_same, written_alone}
+use Rattle.yd_asking.specs.Command.{Command, convert, merge, vector}
 use Rattle.yd_app.specs.Commands.Convert.{StandsAgain, converted_bytes, converted_output}
 use Rattle.yd_app.specs.Commands.Vector.{vector_bytes}
 use Rattle.yd_grouping.specs.Reach.{reach_of}
 use Rattle.yd_app.specs.Law.{FitsIn, MergeRunsConverge, MergesAreConverted, MergesConverge, Runs, WritesOfMerge, file_in, kind_of}
+use Rattle.yd_app.specs.Link.{Link}
+use Rattle.yd_app.specs.Online.{IsOutputOver}
 use Rattle.yd_app.specs.Output.{IsOutputOf}
 use Rattle.yd_ending.specs.Writing.{TakesAll}
-use Rattle.yd_app.specs.declared.format.Format.{Format}
-use Rattle.yd_app.specs.declared.format.Format.TheVariants.{V1, V2}
+use Rattle.yd_asking.specs.declared.format.Format.{Format}
+use Rattle.yd_asking.specs.declared.format.Format.TheVariants.{V1, V2}
 
 -- ---- the same changes
 
@@ -36,20 +37,22 @@ merges_same command shelf other files others one another of read also contents =
     λ bytes others_bytes a b.
     output_same command one another bytes others_bytes of (ap received_grouped (received_same one.updates another.updates (stand_valid shelf files one read) (stand_valid other others another also) contents)) a b
 
--- what a run of a command has written
-pub written_of : (command : Command) (inputs : Inputs) (words : List (List ℕ)) (shelf : Shelf) (taken now : Option (List ℕ)) → Runs command inputs words shelf taken now → (bytes : List ℕ) × IsOutputOf command inputs bytes × TakesAll taken now bytes
-written_of command inputs words shelf taken now runs =
-    let w = runs.writes in
-    let same = asks_same words w.command command w.files runs.files w.asks runs.asks in
-    let read : StandFor (Some shelf) runs.files w.holds.0 = subst (λ (files : List File). StandFor (Some shelf) files w.holds.0) same.1 w.holds.1 in
-    let one : w.holds.0 ≡ inputs = stand_one shelf runs.files w.holds.0 inputs read runs.stand in
-    (w.holds.2, subst (λ (i : Inputs). IsOutputOf command i w.holds.2) one (subst (λ (c : Command). IsOutputOf c w.holds.0 w.holds.2) same.0 w.holds.3), w.holds.4)
+-- what a run of a command that makes nothing over the network has written
+pub written_of : (command : Command) (inputs : Inputs) (words : List (List ℕ)) (shelf : Shelf) (link : Link) (taken now : Option (List ℕ)) → ((bytes : List ℕ) → ¬ (IsOutputOver link command inputs bytes)) → Runs command inputs words shelf link taken now
+    → (bytes : List ℕ) × IsOutputOf command inputs bytes × TakesAll taken now bytes
+written_of command inputs words shelf link taken now none runs = written_alone command inputs words shelf link taken now runs.files runs.asks runs.stand none runs.writes
+
+-- a merge makes nothing over the network
+merges_alone : (command : Command) (inputs : Inputs) (link : Link) → WritesOfMerge command → (bytes : List ℕ) → ¬ (IsOutputOver link command inputs bytes)
+merges_alone (merge form) inputs link of bytes over = over
+merges_alone vector inputs link of bytes over = over
+merges_alone command inputs link of bytes over = of
 
 -- two runs over the same changes have written the same
 pub merge_runs_same : MergeRunsConverge
-merge_runs_same command one another words others shelf other taken now took took_now of a b contents =
-    let x = written_of command one words shelf taken now a in
-    let y = written_of command another others other took took_now b in
+merge_runs_same command one another words others shelf other link another_link taken now took took_now of a b contents =
+    let x = written_of command one words shelf link taken now (merges_alone command one link of) a in
+    let y = written_of command another others other another_link took took_now (merges_alone command another another_link of) b in
     let alike : x.0 ≡ y.0 = merges_same command shelf other a.files b.files one another of a.stand b.stand contents x.0 y.0 x.1 y.1 in
     (x.0, x.2, subst (λ (l : List ℕ). TakesAll took took_now l) (sym alike) y.2)
 

@@ -4,5 +4,7 @@ pub mod Convert
 pub mod Cut
 pub mod Edit
 pub mod Merge
+pub mod Serve
 pub mod Show
+pub mod Sync
 pub mod Vector

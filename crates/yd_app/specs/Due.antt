@@ -2,14 +2,15 @@
 use Rattle.std.specs.Prelude.{◌≡◌, ◌⊎◌, ℕ, List, [], ◌∷◌, Option}
 use Rattle.yd_parts.specs.Fault.{Fault}
 use Rattle.yd_world.specs.Shelf.{Shelf}
-use Rattle.yd_world.specs.Traffic.{Traffic}
 use Rattle.yd_ending.specs.Lines.{limit_line, no_step_2_line, read_fault_line, refused_line, usage_line}
 use Rattle.yd_ending.specs.Status as status
 use Rattle.yd_files.specs.Files.{File}
 use Rattle.yd_files.specs.Verdict.{Inputs, StandFor, StopsAt, missing, refused, too_large}
-use Rattle.yd_app.specs.Command.{Command}
+use Rattle.yd_asking.specs.Command.{Command}
+use Rattle.yd_app.specs.Link.{Link}
+use Rattle.yd_app.specs.Online.{IsOutputOver, IsRefusalOver, OfInputs, WantsStep2}
 use Rattle.yd_app.specs.Output.{IsOutputOf, IsRefusalOf}
-use Rattle.yd_app.specs.Words.{AreOfNoForm, AsksFor}
+use Rattle.yd_asking.specs.Words.{AreOfNoForm, AsksFor}
 
 -- how the program is used; the line of what is refused; the name of a file that is too large; the name that the library lacks; that
 -- no step 2 came; or the bytes that the command makes
@@ -27,15 +28,29 @@ Refuses told command files line =
     ((file : File) × (fault : Fault) × StopsAt told files file (refused fault) × (line ≡ refused_line file fault))
     ⊎ ((inputs : Inputs) × StandFor told files inputs × IsRefusalOf command inputs line)
 
--- usage where the words are of no form; what the command makes of its files where all are accepted; and else what the first is that
--- is not: refused, too large or missing; or what the command refuses of its files where all are accepted
-abbrev pub IsDue : List (List ℕ) → Option Shelf → Option Traffic → Due → Type 0
-IsDue words told traffic usage = AreOfNoForm words
-IsDue words told traffic (refusal line) = AsksFor words (λ command files. Refuses told command files line)
-IsDue words told traffic (over_limit name) = AsksFor words (λ command files. (file : File) × StopsAt told files file too_large × (name ≡ file.name))
-IsDue words told traffic (lacking name) = AsksFor words (λ command files. (file : File) × StopsAt told files file missing × (name ≡ file.name))
-IsDue words told traffic no_step_2 = ⊥
-IsDue words told traffic (output bytes) = AsksFor words (λ command files. (inputs : Inputs) × StandFor told files inputs × IsOutputOf command inputs bytes)
+-- by the words and the files alone: usage where the words are of no form; what the command makes of its files where all are accepted; and
+-- else what the first is that is not: refused, too large or missing; or what the command refuses of its files where all are accepted
+abbrev pub IsDue : List (List ℕ) → Option Shelf → Due → Type 0
+IsDue words told usage = AreOfNoForm words
+IsDue words told (refusal line) = AsksFor words (λ command files. Refuses told command files line)
+IsDue words told (over_limit name) = AsksFor words (λ command files. (file : File) × StopsAt told files file too_large × (name ≡ file.name))
+IsDue words told (lacking name) = AsksFor words (λ command files. (file : File) × StopsAt told files file missing × (name ≡ file.name))
+IsDue words told no_step_2 = ⊥
+IsDue words told (output bytes) = AsksFor words (λ command files. (inputs : Inputs) × StandFor told files inputs × IsOutputOf command inputs bytes)
+
+-- by what came over the network, where all files are accepted: what the command writes, the line of the message that it refuses, or that
+-- no step 2 came
+abbrev pub IsDueOver : List (List ℕ) → Option Shelf → Link → Due → Type 0
+IsDueOver words told link usage = ⊥
+IsDueOver words told link (refusal line) = AsksFor words (λ command files. OfInputs told files (λ inputs. IsRefusalOver link command inputs line))
+IsDueOver words told link (over_limit name) = ⊥
+IsDueOver words told link (lacking name) = ⊥
+IsDueOver words told link no_step_2 = AsksFor words (λ command files. OfInputs told files (WantsStep2 link command))
+IsDueOver words told link (output bytes) = AsksFor words (λ command files. OfInputs told files (λ inputs. IsOutputOver link command inputs bytes))
+
+-- in the one way or the other
+abbrev pub IsDueIn : List (List ℕ) → Option Shelf → Link → Due → Type 0
+IsDueIn words told link due = IsDue words told due ⊎ IsDueOver words told link due
 
 -- its status
 abbrev pub status_of_due : Due → ℕ

@@ -7,28 +7,30 @@ use Rattle.yd_updates.specs.Agreement.{AreAlike, Agree, HaveSameContents, SayThe
 use Rattle.yd_v2.specs.Reading.{most_structs}
 use Rattle.yd_world.specs.Shelf.{Shelf}
 use Rattle.yd_ending.specs.Writing.{TakesAll}
-use Rattle.yd_world.specs.Traffic.{Traffic}
 use Rattle.yd_files.specs.Files.{File}
 use Rattle.yd_files.specs.Verdict.{Inputs, StandFor}
 use Rattle.yd_files.specs.declared.kind.Kind.{Kind}
 use Rattle.yd_files.specs.declared.kind.Kind.TheVariants as kinds
-use Rattle.yd_app.specs.Command.{Command, check, convert, merge, show, vector}
+use Rattle.yd_asking.specs.Command.{Command, check, convert, merge, show, vector}
 use Rattle.yd_app.specs.Due.{Due, IsDue}
+use Rattle.yd_app.specs.Link.{Link}
+use Rattle.yd_app.specs.Online.{GoesOnline}
 use Rattle.yd_app.specs.Output.{IsMadeOf, IsOutputOf}
 use Rattle.yd_app.specs.Run.{Writes}
-use Rattle.yd_app.specs.Words.{Asks}
-use Rattle.yd_app.specs.declared.format.Format.{Format}
-use Rattle.yd_app.specs.declared.format.Format.TheVariants.{V1, V2}
+use Rattle.yd_asking.specs.Words.{Asks}
+use Rattle.yd_asking.specs.declared.format.Format.{Format}
+use Rattle.yd_asking.specs.declared.format.Format.TheVariants.{V1, V2}
 use Rattle.yd_modes.specs.declared.mode.Mode.{Mode}
 
 -- words ask for one command of one list of files at most
 abbrev pub AskForOne : Type 0
 AskForOne = (words : List (List ℕ)) (command other : Command) (files others : List File) → Asks words command files → Asks words other others → (command ≡ other) × (files ≡ others)
 
--- where a library tells, one thing is due
+-- where a library tells, one thing is due by the words and the files alone, or the words ask for the network
 pub record OneIsDue : Type 0 where
-  pub some : (words : List (List ℕ)) (shelf : Shelf) (traffic : Option Traffic) → (due : Due) × IsDue words (Some shelf) traffic due
-  pub one : (words : List (List ℕ)) (shelf : Shelf) (traffic : Option Traffic) (due other : Due) → IsDue words (Some shelf) traffic due → IsDue words (Some shelf) traffic other → due ≡ other
+  pub some : (words : List (List ℕ)) (shelf : Shelf) → ((due : Due) × IsDue words (Some shelf) due) ⊎ GoesOnline words (Some shelf)
+  pub one : (words : List (List ℕ)) (shelf : Shelf) (due other : Due) → IsDue words (Some shelf) due → IsDue words (Some shelf) other → due ≡ other
+  pub apart : (words : List (List ℕ)) (shelf : Shelf) (due : Due) → IsDue words (Some shelf) due → GoesOnline words (Some shelf) → ⊥
 
 -- the updates of both have the same operations and deletions, in any order and repeated, and operations with one id are alike
 pub record HaveOneContents (one other : List UpdateValue) : Type 0 where
@@ -52,16 +54,16 @@ ShowsConverge = (shelf other : Shelf) (files others : List File) (one another : 
     (bytes others_bytes : List ℕ) → IsOutputOf (show mode root) one bytes → IsOutputOf (show mode root) another others_bytes → bytes ≡ others_bytes
 
 -- the words ask to show the root in the mode, of files that are read as these inputs, and what is promised for status 0 was written
-pub record Shows (mode : Mode) (root : List ℕ) (inputs : Inputs) (words : List (List ℕ)) (shelf : Shelf) (taken now : Option (List ℕ)) : Type 0 where
+pub record Shows (mode : Mode) (root : List ℕ) (inputs : Inputs) (words : List (List ℕ)) (shelf : Shelf) (link : Link) (taken now : Option (List ℕ)) : Type 0 where
   pub files : List File
   pub asks : Asks words (show mode root) files
   pub stand : StandFor (Some shelf) files inputs
-  pub writes : Writes words (Some shelf) taken now
+  pub writes : Writes words (Some shelf) link taken now
 
 -- two runs that show a root in one mode of the same changes and answer 0 have written the same
 abbrev pub RunsConverge : Type 0
-RunsConverge = (mode : Mode) (root : List ℕ) (one another : Inputs) (words others : List (List ℕ)) (shelf other : Shelf) (taken now took took_now : Option (List ℕ)) →
-    Shows mode root one words shelf taken now → Shows mode root another others other took took_now → AreSameChanges one.updates another.updates →
+RunsConverge = (mode : Mode) (root : List ℕ) (one another : Inputs) (words others : List (List ℕ)) (shelf other : Shelf) (link another_link : Link) (taken now took took_now : Option (List ℕ)) →
+    Shows mode root one words shelf link taken now → Shows mode root another others other another_link took took_now → AreSameChanges one.updates another.updates →
     (written : List ℕ) × TakesAll taken now written × TakesAll took took_now written
 
 -- ---- merges
@@ -79,16 +81,16 @@ MergesConverge = (command : Command) (shelf other : Shelf) (files others : List 
     (bytes others_bytes : List ℕ) → IsOutputOf command one bytes → IsOutputOf command another others_bytes → bytes ≡ others_bytes
 
 -- the words ask for the command of files that are read as these inputs, and what is promised for status 0 was written
-pub record Runs (command : Command) (inputs : Inputs) (words : List (List ℕ)) (shelf : Shelf) (taken now : Option (List ℕ)) : Type 0 where
+pub record Runs (command : Command) (inputs : Inputs) (words : List (List ℕ)) (shelf : Shelf) (link : Link) (taken now : Option (List ℕ)) : Type 0 where
   pub files : List File
   pub asks : Asks words command files
   pub stand : StandFor (Some shelf) files inputs
-  pub writes : Writes words (Some shelf) taken now
+  pub writes : Writes words (Some shelf) link taken now
 
 -- two runs that merge the same changes in one format, or tell their vector, and answer 0 have written the same
 abbrev pub MergeRunsConverge : Type 0
-MergeRunsConverge = (command : Command) (one another : Inputs) (words others : List (List ℕ)) (shelf other : Shelf) (taken now took took_now : Option (List ℕ)) → WritesOfMerge command →
-    Runs command one words shelf taken now → Runs command another others other took took_now → AreSameChanges one.updates another.updates →
+MergeRunsConverge = (command : Command) (one another : Inputs) (words others : List (List ℕ)) (shelf other : Shelf) (link another_link : Link) (taken now took took_now : Option (List ℕ)) → WritesOfMerge command →
+    Runs command one words shelf link taken now → Runs command another others other another_link took took_now → AreSameChanges one.updates another.updates →
     (written : List ℕ) × TakesAll taken now written × TakesAll took took_now written
 
 -- ---- checks
@@ -101,8 +103,8 @@ ChecksConverge = (shelf other : Shelf) (files others : List File) (one another :
 
 -- two runs that check the same changes, which agree, and answer 0 have written the same
 abbrev pub CheckRunsConverge : Type 0
-CheckRunsConverge = (one another : Inputs) (words others : List (List ℕ)) (shelf other : Shelf) (taken now took took_now : Option (List ℕ)) →
-    Runs check one words shelf taken now → Runs check another others other took took_now →
+CheckRunsConverge = (one another : Inputs) (words others : List (List ℕ)) (shelf other : Shelf) (link another_link : Link) (taken now took took_now : Option (List ℕ)) →
+    Runs check one words shelf link taken now → Runs check another others other another_link took took_now →
     Agree one.updates → Agree another.updates → AreSameChanges one.updates another.updates →
     (written : List ℕ) × TakesAll taken now written × TakesAll took took_now written
 

@@ -1,11 +1,9 @@
-pub mod Asking
-pub mod Command
 pub mod Commands
 pub mod Due
 pub mod Ending
 pub mod Law
+pub mod Link
+pub mod Online
 pub mod Output
 pub mod Run
 pub mod Stopping
-pub mod Table
-pub mod Words

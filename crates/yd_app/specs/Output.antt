@@ -6,7 +6,7 @@ use Rattle.yd_updates.specs.Received.{received_set}
 use Rattle.yd_files.specs.Verdict.{Inputs}
 use Rattle.yd_v1.specs.Log.{StandsForLog}
 use Rattle.yd_v1.specs.LogWriting.{log_bytes}
-use Rattle.yd_app.specs.Command.{Command, check, convert, cut, edit, merge, pack, show, vector}
+use Rattle.yd_asking.specs.Command.{Command, check, convert, cut, edit, merge, pack, serve, show, sync, vector}
 use Rattle.yd_app.specs.Commands.Check.{check_output}
 use Rattle.yd_app.specs.Commands.Convert.{ConvertedStandsAgain, converted_output}
 use Rattle.yd_app.specs.Commands.Cut.{CutStandsAgain, cut_output}
@@ -14,11 +14,14 @@ use Rattle.yd_app.specs.Commands.Edit.{EditStandsAgain, IsRefusedLine, MakesUpda
 use Rattle.yd_app.specs.Commands.Merge.{MergedStandsAgain, merged_output}
 use Rattle.yd_app.specs.Commands.Show.{shown_line}
 use Rattle.yd_app.specs.Commands.Vector.{VectorStandsAgain, vector_output}
-use Rattle.yd_app.specs.declared.format.Format.TheVariants.{V1}
+use Rattle.yd_asking.specs.declared.format.Format.TheVariants.{V1}
 
--- the updates that the command makes on what its inputs hold: those of the lines of a script, and else none
+-- the updates that the command makes on what its inputs hold: those of the lines of a script, and else none. A command that uses the
+-- network makes nothing of its inputs alone
 abbrev pub AreMade : Command → Inputs → List UpdateValue → Type 0
 AreMade (edit client name) inputs made = MakesUpdates client inputs made
+AreMade (serve address turns) inputs made = ⊥
+AreMade (sync address turns) inputs made = ⊥
 AreMade command inputs made = made ≡ []
 
 -- what the command writes of its inputs, of a document of what their updates bring together, and of the updates that it made
@@ -31,6 +34,8 @@ output_of vector inputs document made = vector_output inputs.updates
 output_of (cut name) inputs document made = cut_output inputs.kinds inputs.vectors inputs.updates
 output_of (edit client name) inputs document made = merged_output V1 made
 output_of check inputs document made = check_output inputs.updates
+output_of (serve address turns) inputs document made = []
+output_of (sync address turns) inputs document made = []
 
 -- what `convert` and `pack` write stands for the updates again, and what `merge`, `vector`, `cut` and `edit` write for the merge, its vector, the cut
 -- and what was made
@@ -43,6 +48,8 @@ StandsForAgain vector inputs = VectorStandsAgain inputs.updates
 StandsForAgain (cut name) inputs = CutStandsAgain inputs.kinds inputs.vectors inputs.updates
 StandsForAgain (edit client name) inputs = EditStandsAgain client inputs
 StandsForAgain check inputs = Unit {0}
+StandsForAgain (serve address turns) inputs = Unit {0}
+StandsForAgain (sync address turns) inputs = Unit {0}
 
 -- the bytes are what the command writes of its inputs
 pub record IsOutputOf (command : Command) (inputs : Inputs) (bytes : List ℕ) : Type 0 where

@@ -4,13 +4,16 @@
 ghost use Rattle.std.specs.Prelude.{◌≡◌, [], Some};
 ghost use Rattle.yd_world.specs.MemoryLibrary.{shelf_of};
 ghost use Rattle.yd_world.specs.MemorySink.{IsCalm};
-ghost use Rattle.yd_world.specs.ScriptBoard.{traffic_of};
+ghost use Rattle.yd_world.specs.ScriptBoard.{failed_sends, traffic_of};
+ghost use Rattle.yd_serving.specs.Board.{board_of};
 ghost use Rattle.yd_app.specs.Law.{AskForOne, CheckRunsConverge, ChecksConverge, MergeRunsConverge, MergesAreConverted, MergesConverge, OneIsDue, RunsConverge, ShowsConverge};
-ghost use Rattle.yd_app.specs.Run.{Follows, Writes};
+ghost use Rattle.yd_app.specs.Link.{link_of};
+ghost use Rattle.yd_app.specs.Online.{HasItsTurns};
+ghost use Rattle.yd_app.specs.Run.{Follows, FollowsOnline, Writes};
 
 use crate::program::run;
-use crate::word::Word;
 use std::alloc::Global;
+use yd_asking::Word;
 use yd_world::{MemoryLibrary, MemorySink, ScriptBoard};
 
 /// Words ask for one command of one list of files at most.
@@ -18,8 +21,8 @@ pub fn words_ask_for_one()
     ensures { AskForOne }
 {}
 
-/// Where a library tells, one thing is due: the usage line, the output, or what the first file is
-/// that is not accepted.
+/// Where a library tells, one thing is due by the words and the files: the usage line, the output,
+/// or what the first file is that is not accepted; or the words ask for the network.
 pub fn one_is_due()
     ensures { OneIsDue }
 {}
@@ -68,7 +71,8 @@ pub fn merges_are_converted()
 {}
 
 /// The program over things in memory. Where no failure is set, the status is that of what is due,
-/// or memory is wanted; and status 0 has written the output.
+/// or memory is wanted; over the network, where the board has an event for each turn, it is 0, 1, 8
+/// or that. Status 0 has written the output.
 pub fn run_in_memory(
     alloc: Global,
     words: &[Word],
@@ -78,8 +82,13 @@ pub fn run_in_memory(
     board: &mut ScriptBoard,
 ) -> u8
     ensures completes { library.old.plan.failures ≡ [] → IsCalm out.old
-        → Follows words.now (Some (shelf_of library.old)) (Some (traffic_of board.old)) result }
-    ensures converges { result ≡ 0 → Writes words.now (Some (shelf_of library.old))
+        → Follows words.now (Some (shelf_of library.old)) result }
+    ensures completes_online { library.old.plan.failures ≡ [] → IsCalm out.old
+        → board.old.plan.failures ≡ [] → HasItsTurns words.now (Some (traffic_of board.old))
+        → FollowsOnline words.now (Some (shelf_of library.old)) result }
+    ensures converges { result ≡ 0 → Writes words.now (Some (shelf_of library.old)) (link_of
+        (board_of (Some (traffic_of board.old)) board.old.plan.faults (failed_sends board.old.sent))
+        (board_of (Some (traffic_of board.new)) board.new.plan.faults (failed_sends board.new.sent)))
         (Some out.old.bytes) (Some out.new.bytes) }
 {
     run(alloc, words, library, out, err, board)

@@ -12,17 +12,12 @@
 //! ```
 #![tactic(auto)]
 
-mod command;
 mod commands;
 mod fault;
 mod format;
 pub mod law;
-mod mode;
 mod program;
-mod request;
-mod word;
 
-pub use fault::NoMemory;
 pub use program::run;
-pub use word::Word;
+pub use yd_asking::{NoMemory, Word};
 pub use yd_ending::write_out;

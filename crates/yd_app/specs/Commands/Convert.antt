@@ -8,8 +8,8 @@ use Rattle.yd_v1.specs.Grammar.{StandsForV1}
 use Rattle.yd_v2.specs.Grammar.{StandsForV2}
 use Rattle.yd_v2.specs.Reading.{most_structs}
 use Rattle.yd_v2.specs.Writing.{v2_file}
-use Rattle.yd_app.specs.declared.format.Format.{Format}
-use Rattle.yd_app.specs.declared.format.Format.TheVariants.{V1, V2}
+use Rattle.yd_asking.specs.declared.format.Format.{Format}
+use Rattle.yd_asking.specs.declared.format.Format.TheVariants.{V1, V2}
 
 -- the update's spelling in a format: its fields one behind the other, or in their columns
 abbrev pub converted_bytes : Format → UpdateValue → List ℕ

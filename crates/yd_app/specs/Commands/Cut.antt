@@ -7,8 +7,8 @@ use Rattle.yd_ops.specs.Value.{UpdateValue}
 use Rattle.yd_files.specs.declared.kind.Kind.{Kind}
 use Rattle.yd_files.specs.declared.kind.Kind.TheVariants as kinds
 use Rattle.yd_app.specs.Commands.Convert.{StandsAgain, converted_bytes}
-use Rattle.yd_app.specs.declared.format.Format.{Format}
-use Rattle.yd_app.specs.declared.format.Format.TheVariants.{V1, V2}
+use Rattle.yd_asking.specs.declared.format.Format.{Format}
+use Rattle.yd_asking.specs.declared.format.Format.TheVariants.{V1, V2}
 
 -- the format of a file of the kind
 abbrev pub form_of_kind : Kind → Format

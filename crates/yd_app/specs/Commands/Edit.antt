@@ -10,7 +10,7 @@ use Rattle.yd_script.specs.Lines.{Numbered, script_lines}
 use Rattle.yd_updates.specs.Received.{received_set}
 use Rattle.yd_files.specs.Verdict.{Inputs}
 use Rattle.yd_app.specs.Commands.Merge.{MergedStandsAgain}
-use Rattle.yd_app.specs.declared.format.Format.TheVariants.{V1}
+use Rattle.yd_asking.specs.declared.format.Format.TheVariants.{V1}
 
 -- the lines of the first script; without one there is none
 abbrev pub lines_of_first : List (List ℕ) → List Numbered

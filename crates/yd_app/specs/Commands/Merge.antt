@@ -3,7 +3,7 @@ use Rattle.std.specs.Prelude.{ℕ, List}
 use Rattle.yd_grouping.specs.Merged.{merge_of}
 use Rattle.yd_ops.specs.Value.{UpdateValue}
 use Rattle.yd_app.specs.Commands.Convert.{StandsAgain, converted_bytes}
-use Rattle.yd_app.specs.declared.format.Format.{Format}
+use Rattle.yd_asking.specs.declared.format.Format.{Format}
 
 -- the merge of the updates, in a format
 abbrev pub merged_output : Format → List UpdateValue → List ℕ

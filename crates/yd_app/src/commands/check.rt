@@ -4,7 +4,7 @@ ghost use Rattle.std.specs.Prelude.{◌≡◌, ◌++◌, None, Some, IfOk, OnOk}
 ghost use Rattle.yd_words.specs.Each.{Each};
 ghost use Rattle.yd_ops.specs.Valid.{IsValidUpdate};
 ghost use Rattle.yd_files.specs.Seen.{inputs_of};
-ghost use Rattle.yd_app.specs.Command.{check as checks};
+ghost use Rattle.yd_asking.specs.Command.{check as checks};
 ghost use Rattle.yd_app.specs.Commands.Check.{count_line, findings_text, verdict_line};
 ghost use Rattle.yd_app.specs.Output.{IsMadeOf};
 

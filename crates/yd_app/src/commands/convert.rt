@@ -4,12 +4,13 @@ ghost use Rattle.std.specs.Prelude.{IfOk};
 ghost use Rattle.yd_words.specs.Each.{Each};
 ghost use Rattle.yd_ops.specs.Valid.{IsValidUpdate};
 ghost use Rattle.yd_files.specs.Seen.{inputs_of};
-ghost use Rattle.yd_app.specs.Command.{convert as converts};
+ghost use Rattle.yd_asking.specs.Command.{convert as converts};
 ghost use Rattle.yd_app.specs.Output.{IsMadeOf};
 
 use crate::fault::NoMemory;
-use crate::format::{Format, write_in};
+use crate::format::write_in;
 use std::alloc::Global;
+use yd_asking::Format;
 use yd_files::Inputs;
 
 /// The bytes of the one update, in another format or the same.

@@ -5,13 +5,14 @@ ghost use Rattle.yd_words.specs.Each.{Each};
 ghost use Rattle.yd_ops.specs.Valid.{IsValidUpdate};
 ghost use Rattle.yd_ops.specs.View.{update_value};
 ghost use Rattle.yd_files.specs.Seen.{inputs_of};
-ghost use Rattle.yd_app.specs.Command.{cut as cuts};
-ghost use Rattle.yd_app.specs.Commands.Cut.{CutStands, CutStandsAgain, cut_bytes, cut_output, form_of, form_of_kind};
+ghost use Rattle.yd_asking.specs.Command.{cut as cuts};
+ghost use Rattle.yd_app.specs.Commands.Cut.{CutStands, CutStandsAgain, cut_bytes, cut_output, form_of};
 ghost use Rattle.yd_app.specs.Output.{IsMadeOf};
 
 use crate::fault::NoMemory;
-use crate::format::{Format, write_in};
+use crate::format::{format_of, write_in};
 use std::alloc::Global;
+use yd_asking::Format;
 use yd_files::{Inputs, Kind};
 use yd_ids::Vector;
 use yd_ops::Update;
@@ -78,17 +79,7 @@ fn form(kinds: &[Kind]) -> Format
     ensures { result ≡ form_of kinds.now }
 {
     match kinds {
-        [_, kind, ..] => form_of_file(*kind),
-        _ => Format::V1,
-    }
-}
-
-// The format of a file of the kind.
-fn form_of_file(kind: Kind) -> Format
-    ensures { result ≡ form_of_kind kind }
-{
-    match kind {
-        Kind::V2 => Format::V2,
+        [_, kind, ..] => format_of(*kind),
         _ => Format::V1,
     }
 }

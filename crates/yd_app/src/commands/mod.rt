@@ -1,14 +1,17 @@
 //! The commands, each in a file of its own: bytes made of what files stand for.
 
-ghost use Rattle.std.specs.Prelude.{map, IfOk, IfErr};
+ghost use Rattle.std.specs.Prelude.{◌≡◌, ◌⊎◌, map, IfOk, IfErr};
 ghost use Rattle.yd_words.specs.Each.{Each};
 ghost use Rattle.yd_ops.specs.Valid.{IsValidUpdate};
 ghost use Rattle.yd_files.specs.Counts.{count_of};
 ghost use Rattle.yd_files.specs.Reading.{ReadsCalmly};
 ghost use Rattle.yd_files.specs.Seen.{file_of, inputs_of};
-ghost use Rattle.yd_app.specs.Command.{command_of, HasRange, IsOfInputs};
+ghost use Rattle.yd_serving.specs.Board.{board_of};
+ghost use Rattle.yd_asking.specs.Command.{command_of, HasRange, IsOfInputs, IsOnline};
+ghost use Rattle.yd_app.specs.Link.{link_of};
+ghost use Rattle.yd_app.specs.Online.{HasTurns, OfInputs, TradesTurns};
 ghost use Rattle.yd_app.specs.Output.{IsMadeOf};
-ghost use Rattle.yd_app.specs.Stopping.{MakesOn, StopsMaking};
+ghost use Rattle.yd_app.specs.Stopping.{IsNoLinkFault, MakesIn, MakesOn, MakesOver, StopsMaking};
 
 mod check;
 mod convert;
@@ -16,29 +19,67 @@ mod cut;
 mod edit;
 mod merge;
 mod pack;
+mod reply;
+mod serve;
 mod show;
+mod sync;
 mod vector;
 
-use crate::command::Command;
 use std::alloc::Global;
+use yd_asking::Command;
 use yd_ending::Stop;
 use yd_files::{File, Inputs, read_files};
-use yd_world::Library;
+use yd_world::{Library, Switchboard};
 
-/// What the command makes of its files, or why it stops. `pack` writes while it reads; all other
-/// commands are of what the files stand for together.
-pub fn make_of<'a, L: Library>(
+/// What the command makes of its files, and over the network where it uses one; or why it stops.
+pub fn make_of<'a, L: Library, B: Switchboard>(
+    alloc: Global,
+    command: Command<'a>,
+    library: &mut L,
+    files: &[File<'a>],
+    board: &mut B,
+) -> Result<Vec<u8>, Stop<'a>>
+    requires range { HasRange (command_of command) }
+    ensures makes { MakesIn (L.is_calm library.old) (link_of
+        (board_of (B.told board.old) (B.faults board.old) (B.send_faults board.old))
+        (board_of (B.told board.new) (B.faults board.new) (B.send_faults board.new)))
+        (command_of command.entry) (map file_of files.now) (L.told library.old)
+        (L.told library.new) (count_of (L.faults library.old) (L.faults library.new)) result }
+    ensures calm { L.is_calm library.old → ReadsCalmly (L.told library.old)
+        (map file_of files.now) (count_of (L.faults library.old) (L.faults library.new)) }
+    ensures linked { B.is_calm board.old → HasTurns (command_of command.entry) (B.told board.old)
+        → IsNoLinkFault result × (B.faults board.new ≡ B.faults board.old) }
+    ensures board { (board.new ≡ board.old) ⊎ OfInputs (L.told library.old)
+        (map file_of files.now) (λ inputs. TradesTurns (link_of
+        (board_of (B.told board.old) (B.faults board.old) (B.send_faults board.old))
+        (board_of (B.told board.new) (B.faults board.new) (B.send_faults board.new)))
+        (command_of command.entry)) }
+{
+    if command.is_online() {
+        let inputs = read_files(alloc, library, files)?;
+        let output = make_online(alloc, command, &inputs, board)?;
+        return Ok(output);
+    }
+    let output = make_alone(alloc, command, library, files)?;
+    Ok(output)
+}
+
+// What the command makes of its files alone, or why it stops. `pack` writes while it reads; all
+// other commands are of what the files stand for together.
+fn make_alone<'a, L: Library>(
     alloc: Global,
     command: Command<'a>,
     library: &mut L,
     files: &[File<'a>],
 ) -> Result<Vec<u8>, Stop<'a>>
     requires range { HasRange (command_of command) }
+    requires alone { ¬ (IsOnline (command_of command)) }
     ensures makes { MakesOn (L.is_calm library.old) (command_of command.entry)
         (map file_of files.now) (L.told library.old) (L.told library.new)
         (count_of (L.faults library.old) (L.faults library.new)) result }
     ensures calm { L.is_calm library.old → ReadsCalmly (L.told library.old)
         (map file_of files.now) (count_of (L.faults library.old) (L.faults library.new)) }
+    ensures linked { IsNoLinkFault result }
 {
     match command {
         Command::Pack => {
@@ -50,6 +91,33 @@ pub fn make_of<'a, L: Library>(
             let output = output_of(alloc, command, &inputs)?;
             Ok(output)
         }
+    }
+}
+
+// What the command makes over the network of what its files stand for, or why it stops.
+fn make_online<'a, B: Switchboard>(
+    alloc: Global,
+    command: Command<'a>,
+    inputs: &Inputs,
+    board: &mut B,
+) -> Result<Vec<u8>, Stop<'a>>
+    requires valid { Each IsValidUpdate (inputs_of inputs.now).updates }
+    requires online { IsOnline (command_of command) }
+    ensures makes { MakesOver (link_of
+        (board_of (B.told board.old) (B.faults board.old) (B.send_faults board.old))
+        (board_of (B.told board.new) (B.faults board.new) (B.send_faults board.new)))
+        (command_of command.entry) (inputs_of inputs.now) result }
+    ensures linked { B.is_calm board.old → HasTurns (command_of command.entry) (B.told board.old)
+        → IsNoLinkFault result × (B.faults board.new ≡ B.faults board.old) }
+    ensures few { TradesTurns (link_of
+        (board_of (B.told board.old) (B.faults board.old) (B.send_faults board.old))
+        (board_of (B.told board.new) (B.faults board.new) (B.send_faults board.new)))
+        (command_of command.entry) }
+{
+    match command {
+        Command::Serve { address, turns } => serve::serve(alloc, address, turns, inputs, board),
+        Command::Sync { address, turns } => sync::sync(alloc, address, turns, inputs, board),
+        _ => unreachable!(),
     }
 }
 
@@ -72,5 +140,7 @@ fn output_of<'a>(alloc: Global, command: Command<'a>, inputs: &Inputs) -> Result
         Command::Cut { .. } => Ok(cut::cut(alloc, inputs)?),
         Command::Edit { client, script } => edit::edit(alloc, client, script, inputs),
         Command::Check => Ok(check::check(alloc, inputs)?),
+        Command::Serve { .. } => unreachable!(),
+        Command::Sync { .. } => unreachable!(),
     }
 }

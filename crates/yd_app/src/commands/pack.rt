@@ -4,7 +4,7 @@ ghost use Rattle.std.specs.Prelude.{map, IfOk, IfErr};
 ghost use Rattle.yd_files.specs.Counts.{count_of};
 ghost use Rattle.yd_files.specs.Reading.{ReadsCalmly, StopsAmong};
 ghost use Rattle.yd_files.specs.Seen.{file_of};
-ghost use Rattle.yd_app.specs.Command.{pack as packs};
+ghost use Rattle.yd_asking.specs.Command.{pack as packs};
 ghost use Rattle.yd_app.specs.Stopping.{MakesOf};
 
 use std::alloc::Global;

@@ -11,7 +11,7 @@ ghost use Rattle.yd_ops.specs.declared.lists.Parent.TheVariants.{Root as RootOf}
 ghost use Rattle.yd_shown.specs.Shown.{own_list, printed_text, shown};
 ghost use Rattle.yd_units.specs.Text.{text_of};
 ghost use Rattle.yd_files.specs.Seen.{inputs_of};
-ghost use Rattle.yd_app.specs.Command.{show as shows};
+ghost use Rattle.yd_asking.specs.Command.{show as shows};
 ghost use Rattle.yd_app.specs.Commands.Show.{shown_line};
 ghost use Rattle.yd_app.specs.Output.{IsMadeOf};
 

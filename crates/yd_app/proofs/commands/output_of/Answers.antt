@@ -1,8 +1,8 @@
 use Rattle.std.proofs.Common.{sym, subst}
 use Rattle.yd_files.specs.Seen.{inputs_of}
-use Rattle.yd_app.specs.Command.{command_of}
+use Rattle.yd_asking.specs.Command.{command_of}
 use Rattle.yd_app.specs.Output.{IsMadeOf}
-use Rattle.yd_app.specs.declared.command.Command.{Command as CommandSeen}
+use Rattle.yd_asking.specs.declared.command.Command.{Command as CommandSeen}
 use Rattle.yd_app.proofs.commands.output_of.Goals as goal
 
 pub returns-in_ok-cut-in-Cut-clause-made : goal.returns-in_ok-cut-in-Cut-clause-made

@@ -3,7 +3,7 @@ use Rattle.yd_checking.specs.Findings.{findings_of}
 use Rattle.yd_checking.specs.declared.checking.Findings.{Findings}
 use Rattle.yd_ops.specs.View.{update_value}
 use Rattle.yd_files.specs.Seen.{inputs_of}
-use Rattle.yd_app.specs.Command.{check}
+use Rattle.yd_asking.specs.Command.{check}
 use Rattle.yd_app.specs.Commands.Check.{findings_text}
 use Rattle.yd_app.proofs.MakingLemmas.{made_of_updates}
 use Rattle.yd_app.proofs.commands.check.check.Goals as goal

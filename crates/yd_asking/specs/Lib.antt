@@ -1,0 +1,4 @@
+pub mod Asking
+pub mod Command
+pub mod Table
+pub mod Words
