@@ -46,8 +46,9 @@ const LINES = {
   },
 };
 
-/** Lines on what fails outside and on how a refusal is told: Yjs has no call for these. */
-const OF_YDOC_ALONE = /^(err|err-at|err-bytes|fronts|piece|(library|out|err)-fails)$/;
+/** Lines on what fails outside, on a network, and on how a refusal is told: Yjs has no call for these. */
+const OF_YDOC_ALONE = /^(err|err-at|err-bytes|fronts|piece|(library|out|err|board)-fails)$/;
+const OF_A_NETWORK = /^(opened|received|closed|idle|moment|sends|fails-to-send|closes)$/;
 
 /** Reads a file of cases. Each case has the files that stand before the first one. */
 function casesOf(text) {
@@ -57,8 +58,8 @@ function casesOf(text) {
     const [word, rest] = split(line);
     if (word === 'case') {
       cases.push({ name: rest, files: new Map(shared.files), runs: [], out: [] });
-    } else if (OF_YDOC_ALONE.test(word)) {
-      cases.at(-1).isOfYdocAlone = true;
+    } else if (OF_YDOC_ALONE.test(word) || OF_A_NETWORK.test(word)) {
+      (cases.at(-1) ?? shared).isOfYdocAlone = true;
     } else if (LINES[word] !== undefined) {
       LINES[word](cases.at(-1) ?? shared, rest);
     } else {

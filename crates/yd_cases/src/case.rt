@@ -3,6 +3,7 @@
 use crate::bytes::{number_of, read_bytes};
 use crate::failing::Failing;
 use crate::fronts::Fronts;
+use crate::network::Network;
 use crate::slip::Slip;
 use crate::stored::{Stored, add_file, file_of};
 use std::alloc::Global;
@@ -36,6 +37,8 @@ pub struct Case<'a> {
     pub piece: Option<usize>,
     /// What fails of the library.
     pub library: Failing,
+    /// What happens on the network, behind what happens in each case, and what is wanted of it.
+    pub network: Network,
     /// What fails of the output.
     pub out: Failing,
     /// What fails of the error stream.
@@ -61,6 +64,7 @@ impl<'a> Case<'a> {
             fronts: None,
             piece: None,
             library: Failing::new(alloc),
+            network: Network::new(alloc),
             out: Failing::new(alloc),
             err: Failing::new(alloc),
             status: None,
@@ -109,7 +113,7 @@ impl<'a> Case<'a> {
             "err" => add_line(&mut self.wanted_err, rest)?,
             "out-bytes" => read_bytes(alloc, &mut self.wanted_out, rest)?,
             "err-bytes" => read_bytes(alloc, &mut self.wanted_err, rest)?,
-            _ => return Err(Slip::UnknownWord),
+            _ => self.network.take(alloc, word, rest)?,
         }
         Ok(())
     }

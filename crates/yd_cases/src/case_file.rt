@@ -1,16 +1,20 @@
-//! A file of cases: files that each of them has, and cases.
+//! A file of cases: files and a network that each of them has, and cases.
 
 use crate::case::Case;
+use crate::network::Network;
 use crate::slip::{Fault, Slip};
 use crate::stored::{Stored, add_file};
 use std::alloc::Global;
 
-/// What a file of cases has. The files that stand before the first case are in each library.
+/// What a file of cases has. The files that stand before the first case are in each library, and what
+/// happens there happens first in each case.
 #[derive(Drop)]
 pub struct CaseFile<'a> {
     alloc: Global,
     /// The shared files.
     pub files: Vec<Stored<'a>>,
+    /// What happens on the network first, and which calls to it fail.
+    pub network: Network,
     /// The cases, in the order of the file. No two have one name.
     pub cases: Vec<Case<'a>>,
 }
@@ -21,6 +25,7 @@ impl<'a> CaseFile<'a> {
         let mut file = CaseFile {
             alloc,
             files: Vec::new(alloc),
+            network: Network::new(alloc),
             cases: Vec::new(alloc),
         };
         let mut line = 0u64;
@@ -52,7 +57,7 @@ impl<'a> CaseFile<'a> {
         match self.cases.last_mut() {
             Some(case) => case.take(self.alloc, self.files.as_slice(), word, rest),
             None if word == "file" => add_file(self.alloc, &mut self.files, rest),
-            None => Err(Slip::UnknownWord),
+            None => self.network.take(self.alloc, word, rest),
         }
     }
 

@@ -9,6 +9,7 @@ mod case;
 mod case_file;
 mod failing;
 mod fronts;
+mod network;
 mod order;
 mod playing;
 mod report;
@@ -77,7 +78,7 @@ fn play(alloc: Global, text: &str) -> Result<Report, Fault> {
     let file = CaseFile::read(alloc, text)?;
     let mut report = Report::new(alloc);
     for case in &file.cases {
-        if let Err(slip) = play_case(alloc, file.files.as_slice(), case, &mut report) {
+        if let Err(slip) = play_case(alloc, &file, case, &mut report) {
             let line = case.line;
             return Err(Fault { line, slip });
         }

@@ -1,7 +1,9 @@
 //! Playing a case.
 
 use crate::case::{Case, Run};
+use crate::case_file::CaseFile;
 use crate::failing::Failing;
+use crate::network::told_to;
 use crate::order::{orders, put_in_order};
 use crate::report::{Report, Wanted};
 use crate::slip::Slip;
@@ -14,7 +16,7 @@ use yd_world::{MemoryLibrary, MemorySink, ScriptBoard};
 /// Plays each run of a case in each of its orders, and reports what is not as it is wanted.
 pub(crate) fn play_case(
     alloc: Global,
-    shared: &[Stored<'_>],
+    shared: &CaseFile<'_>,
     case: &Case<'_>,
     report: &mut Report,
 ) -> Result<(), Slip> {
@@ -43,7 +45,7 @@ fn words_of(alloc: Global, run: &Run<'_>, number: usize) -> Result<Vec<Word>, Sl
 // Plays words with each front of the case's file, or once where it asks for no fronts.
 fn play_fronts(
     alloc: Global,
-    shared: &[Stored<'_>],
+    shared: &CaseFile<'_>,
     case: &Case<'_>,
     words: &[Word],
     report: &mut Report,
@@ -51,7 +53,7 @@ fn play_fronts(
     let Some(fronts) = &case.fronts else {
         return play_words(alloc, shared, case, words, None, report);
     };
-    let len = file_of(case.files.as_slice(), shared, fronts.name)?.len();
+    let len = file_of(case.files.as_slice(), shared.files.as_slice(), fronts.name)?.len();
     for front in 0..len {
         play_words(alloc, shared, case, words, Some(front), report)?;
     }
@@ -60,23 +62,34 @@ fn play_fronts(
 
 fn play_words(
     alloc: Global,
-    shared: &[Stored<'_>],
+    shared: &CaseFile<'_>,
     case: &Case<'_>,
     words: &[Word],
     front: Option<usize>,
     report: &mut Report,
 ) -> Result<(), Slip> {
-    let mut library = library_of(alloc, shared, case, front)?;
+    let mut library = library_of(alloc, shared.files.as_slice(), case, front)?;
     let mut out = sink_of(alloc, &case.out)?;
     let mut err = sink_of(alloc, &case.err)?;
-    let mut board = ScriptBoard::new(alloc);
+    let mut board = board_of(alloc, shared, case)?;
     // It is `run` over these things, so each case makes both calls.
     let status = run_in_memory(alloc, words, &mut library, &mut out, &mut err, &mut board);
     let wanted_err = err_of(alloc, case, front)?;
     let wanted = Wanted { case, words, front };
     report.expect_status(wanted, status)?;
     report.expect_bytes(wanted, "out", case.wanted_out.as_slice(), out.as_slice())?;
-    report.expect_bytes(wanted, "err", wanted_err.as_slice(), err.as_slice())
+    report.expect_bytes(wanted, "err", wanted_err.as_slice(), err.as_slice())?;
+    let told = told_to(alloc, &board)?;
+    let wanted_told = case.network.wanted.as_bytes();
+    report.expect_bytes(wanted, "network", wanted_told, told.as_bytes())
+}
+
+// What happens in each case, and then what happens in this one.
+fn board_of(alloc: Global, shared: &CaseFile<'_>, case: &Case<'_>) -> Result<ScriptBoard, Slip> {
+    let mut board = ScriptBoard::new(alloc);
+    shared.network.put_on(alloc, &mut board)?;
+    case.network.put_on(alloc, &mut board)?;
+    Ok(board)
 }
 
 // The shared files, the case's own in their place, and the front in place of its whole file.
