@@ -7,17 +7,18 @@ use std::env;
 use std::io::ErrorKind;
 use std::process::ExitCode;
 use yd_app::{NoMemory, Word, run, write_out};
-use yd_world::{FileLibrary, ScriptBoard, StdSink};
+use yd_sockets::{SocketBoard, local_address};
+use yd_world::{FileLibrary, StdSink};
 
 fn main(rt: HostRuntime) -> ExitCode {
     let mut library = FileLibrary::new(&rt);
     let mut out = StdSink::out(&rt);
     let mut err = StdSink::err(&rt);
-    let mut board = ScriptBoard::new(rt.alloc());
+    let mut board = SocketBoard::new(rt.alloc(), &rt);
     let status = match words(&rt) {
         Ok(words) => run(
             rt.alloc(),
-            words.as_slice(),
+            formed(words.as_slice()),
             &mut library,
             &mut out,
             &mut err,
@@ -29,6 +30,19 @@ fn main(rt: HostRuntime) -> ExitCode {
         }
     };
     ExitCode::from(status)
+}
+
+// The words, or none where a server or a client is asked for at an address that is none of this
+// machine: then they are of no form.
+fn formed(words: &[Word]) -> &[Word] {
+    let [command, address, ..] = words else {
+        return words;
+    };
+    let is_online = command.as_str() == "serve" || command.as_str() == "sync";
+    if is_online && local_address(address.as_str()).is_none() {
+        return &words[..0];
+    }
+    words
 }
 
 // The words behind the program's name, or none where one is not UTF-8.
