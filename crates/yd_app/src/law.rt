@@ -1,12 +1,14 @@
-//! The laws of words and of what is written, each the contract of an empty function, and the program over
-//! things in memory.
+//! The laws of words and of what is written, each the contract of an empty function, and the
+//! program over things in memory.
 
 ghost use Rattle.std.specs.Prelude.{◌≡◌, [], Some};
 ghost use Rattle.yd_world.specs.MemoryLibrary.{shelf_of};
 ghost use Rattle.yd_world.specs.MemorySink.{IsCalm};
 ghost use Rattle.yd_world.specs.ScriptBoard.{failed_sends, traffic_of};
 ghost use Rattle.yd_serving.specs.Board.{board_of};
-ghost use Rattle.yd_app.specs.Law.{AskForOne, CheckRunsConverge, ChecksConverge, MergeRunsConverge, MergesAreConverted, MergesConverge, OneIsDue, RunsConverge, ShowsConverge};
+ghost use Rattle.yd_app.specs.Law.{AskForOne, OneIsDue, RunsConverge, ShowsConverge};
+ghost use Rattle.yd_app.specs.Law.{CheckRunsConverge, ChecksConverge};
+ghost use Rattle.yd_app.specs.Law.{MergeRunsConverge, MergesAreConverted, MergesConverge};
 ghost use Rattle.yd_app.specs.Link.{link_of};
 ghost use Rattle.yd_app.specs.Online.{HasItsTurns};
 ghost use Rattle.yd_app.specs.Run.{Follows, FollowsOnline, Writes};

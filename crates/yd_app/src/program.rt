@@ -15,16 +15,16 @@ use yd_asking::{Word, request_of};
 use yd_ending::{Stop, deliver, report};
 use yd_world::{Library, Sink, Switchboard};
 
-/// Does what the words ask for, and answers the status. The words that run are
-/// `show MODE NAME FILE..`, `convert FORM FILE`, `pack FILE..`, `merge FORM FILE..`,
-/// `vector FILE..`, `cut VECTORFILE FILE`, `edit CLIENT SCRIPT FILE..`, `check FILE..`,
-/// `serve ADDRESS TURNS FILE` and `sync ADDRESS TURNS FILE`. MODE is `--text`, `--delta`, `--array`,
-/// `--map` or `--tree`, FORM is `v1` or `v2`, and FILE is `v1:NAME` or `v2:NAME`. `FILE..` is one or
-/// more, for `edit` none or more, and each may also be `log:NAME`. VECTORFILE and SCRIPT are any words:
-/// the names of a state vector's file and of a script's. ADDRESS is any word. CLIENT is a number up to
-/// 2^53-1 in decimal digits, TURNS one up to 2^32-1. Files are read and judged one by one in the order
-/// of the words, then the lines of a script or what comes over the network, and nothing is written to
-/// out before all are accepted.
+/// Does what the words ask for, and answers the status. The words that run are `show MODE NAME
+/// FILE..`, `convert FORM FILE`, `pack FILE..`, `merge FORM FILE..`, `vector FILE..`, `cut
+/// VECTORFILE FILE`, `edit CLIENT SCRIPT FILE..`, `check FILE..`, `serve ADDRESS TURNS FILE` and
+/// `sync ADDRESS TURNS FILE`. MODE is `--text`, `--delta`, `--array`, `--map` or `--tree`, FORM
+/// is `v1` or `v2`, and FILE is `v1:NAME` or `v2:NAME`. `FILE..` is one or more, for `edit` none
+/// or more, and each may also be `log:NAME`. VECTORFILE and SCRIPT are any words: the names of a
+/// state vector's file and of a script's. ADDRESS is any word. CLIENT is a number up to 2^53-1 in
+/// decimal digits, TURNS one up to 2^32-1. Files are read and judged one by one in the order of
+/// the words, then the lines of a script or what comes over the network, and nothing is written
+/// to out before all are accepted.
 pub fn run<L: Library, S: Sink, B: Switchboard>(
     alloc: Global,
     words: &[Word],
@@ -85,8 +85,8 @@ fn make<'a, L: Library, B: Switchboard>(
 ) -> Result<Vec<u8>, Stop<'a>>
     ensures makes { MakesAsked (L.is_calm library.old) (link_of
         (board_of (B.told board.old) (B.faults board.old) (B.send_faults board.old))
-        (board_of (B.told board.new) (B.faults board.new) (B.send_faults board.new))) words.now (L.told library.old)
-        (L.told library.new) (count_of (L.faults library.old) (L.faults library.new)) result }
+        (board_of (B.told board.new) (B.faults board.new) (B.send_faults board.new)))
+        words.now (L.told library.old) (L.told library.new) (count_of (L.faults library.old) (L.faults library.new)) result }
     ensures reads { L.is_calm library.old → ReadsAsked words.now (L.told library.old)
         (count_of (L.faults library.old) (L.faults library.new)) }
     ensures linked { B.is_calm board.old → HasItsTurns words.now (B.told board.old)

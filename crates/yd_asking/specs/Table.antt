@@ -50,6 +50,7 @@ abbrev pub show_to : Option Mode → List ℕ → List (List ℕ) → Begun
 show_to None root names = None
 show_to (Some mode) root names = Some (show mode root, names)
 
+-- the words behind `show`, read so
 abbrev pub show_in : List (List ℕ) → Begun
 show_in [] = None
 show_in (word ∷ []) = None
@@ -60,6 +61,7 @@ abbrev pub convert_to : Option Format → List (List ℕ) → Begun
 convert_to None names = None
 convert_to (Some form) names = Some (convert form, names)
 
+-- the words behind `convert`, read so
 abbrev pub convert_in : List (List ℕ) → Begun
 convert_in [] = None
 convert_in (form ∷ names) = convert_to (format_in form) names
@@ -73,6 +75,7 @@ abbrev pub merge_to : Option Format → List (List ℕ) → Begun
 merge_to None names = None
 merge_to (Some form) names = Some (merge form, names)
 
+-- the words behind `merge`, read so
 abbrev pub merge_in : List (List ℕ) → Begun
 merge_in [] = None
 merge_in (form ∷ names) = merge_to (format_in form) names
@@ -91,6 +94,7 @@ abbrev pub edit_by : Option ℕ → List ℕ → List (List ℕ) → Begun
 edit_by None name names = None
 edit_by (Some client) name names = Some (edit (record { 0 = client }) name, names)
 
+-- the words behind `edit`, read so
 abbrev pub edit_in : List (List ℕ) → Begun
 edit_in [] = None
 edit_in (word ∷ []) = None
@@ -105,6 +109,7 @@ abbrev pub serve_for : Option ℕ → List ℕ → List (List ℕ) → Begun
 serve_for None address names = None
 serve_for (Some turns) address names = Some (serve address turns, names)
 
+-- the words behind `serve`, read so
 abbrev pub serve_in : List (List ℕ) → Begun
 serve_in [] = None
 serve_in (address ∷ []) = None
@@ -115,6 +120,7 @@ abbrev pub sync_for : Option ℕ → List ℕ → List (List ℕ) → Begun
 sync_for None address names = None
 sync_for (Some turns) address names = Some (sync address turns, names)
 
+-- the words behind `sync`, read so
 abbrev pub sync_in : List (List ℕ) → Begun
 sync_in [] = None
 sync_in (address ∷ []) = None
@@ -122,6 +128,7 @@ sync_in (address ∷ word ∷ names) = sync_for (number_in (2 ^ 32) word) addres
 
 -- ---- the table
 
+-- each command that runs, with what reads the words behind its name
 abbrev pub table : List Row
 table =
     record { name = codes "show"; arguments = show_in }
