@@ -92,8 +92,7 @@ impl Kept {
         self.names.last_of(parent, before)
     }
 
-    /// The first item of a span below which no item of the span has a list, as `Names::first_item`
-    /// finds it.
+    /// The first item of a span that has a list, as `Names::first_item` finds it.
     pub fn first_item(&self, span: Span) -> Option<Id>
         requires { IsSpan span }
         ensures { IsFirstItem self.now.names span result }

@@ -7,11 +7,21 @@ use Rattle.std.specs.Ordering.{nat_cmp, is_gt}
 use Rattle.std.specs.BTreeSet.{BTreeSet, contains}
 use Rattle.std.proofs.lemmas.List.{map-append, take-map, length-map, length-append}
 use Rattle.yd_ids.specs.declared.id.Span.{Span}
+use Rattle.yd_ids.specs.declared.id.Id.{Id}
+use Rattle.yd_ids.specs.Id.{IsSpan}
+use Rattle.yd_ids.specs.Span.{InSpan}
+use Rattle.yd_ids.proofs.IdLemmas.{same_numbers}
+use Rattle.yd_words.proofs.TestLemmas.{split}
+use Rattle.yd_words.proofs.OptionLemmas.{some_is}
+use Rattle.std.proofs.lemmas.Option.{slice_get_within}
+use Rattle.std.specs.Option.{is_some}
+use Rattle.yd_ops.specs.declared.lists.Parent.{Parent}
+use Rattle.yd_ops.specs.declared.lists.Parent.TheVariants.{Root, Item}
 use Rattle.yd_ops.specs.declared.lists.List.{List as DocList}
 use Rattle.yd_meaning.specs.Names.{item_of_list, item_of_parent}
 use Rattle.yd_names.specs.Coding.{code_of_list}
-use Rattle.yd_names.specs.Items.{code_of_item, HasItems, IsFirstClock}
-use Rattle.yd_names.specs.Names.{code_of_own, AreCoded}
+use Rattle.yd_names.specs.Items.{code_of_item, HasList, HasItems, IsFirstItem, IsFirstClock, IsLookedThrough, span_behind}
+use Rattle.yd_names.specs.Names.{code_of_own, AreCoded, IsLastOf}
 use Rattle.yd_names.proofs.CodesLemmas.{got_before}
 use Rattle.yd_names.proofs.NamesLemmas.{got_in_front}
 
@@ -115,3 +125,50 @@ module _ (items : BTreeSet ℕ) (span : Span) (low high : ℕ) (lowest : low ≡
             (least (code_of_item item) (not_above low (code_of_item item) up, is_below (code_of_item item) high down) known)) in
             omega (arith, lowest, i.0, from, le)),
       )
+
+-- ---- the first that has a list
+
+pub looking_begins : (names : List DocList) (span : Span) → IsSpan span → IsLookedThrough names span span
+looking_begins names span is = record { is_span = is; among = λ item i. i; all = λ item h i. i }
+
+module _ (names : List DocList) (items : BTreeSet ℕ) (has : HasItems names items) (span rest : Span) (was : IsLookedThrough names span rest) where
+  pub looking_ends : IsFirstClock items rest None → IsFirstItem names span None
+  looking_ends none = λ item h i. none item (has item h) (was.all item h i)
+
+  pub looking_finds : (item : Id) → item.client.0 ≡ rest.client.0 → IsFirstClock items rest (Some item.clock) → HasList names item → IsFirstItem names span (Some item)
+  looking_finds item same first h = (
+    was.among item (sym same, first.0, first.1),
+    (λ other l i. first.2 other (has other l) (was.all other l i)),
+    h,
+  )
+
+  pub looking_goes_on : (clock : ℕ) (more : Span) → IsFirstClock items rest (Some clock) → (HasList names (record { client = rest.client; clock = clock }) → ⊥) →
+      more ≡ span_behind rest clock → IsLookedThrough names span more
+  looking_goes_on clock more first none e = subst (IsLookedThrough names span) (sym e) (record {
+    is_span = let is = was.is_span.end in record { client = was.is_span.client; end = omega (arith, is, first.1) };
+    among = λ item i. was.among item (i.0, omega (arith, i.1, first.0), omega (arith, i.1, i.2));
+    all = λ item h i. let r = was.all item h i in (r.0, above item h r (first.2 item (has item h) r), omega (arith, r.2, first.1));
+  })
+    where
+      above : (item : Id) → HasList names item → InSpan rest item → clock ≤ item.clock → clock + 1 ≤ item.clock
+      above item h r le = elim (split item.clock clock) [
+        | inr lt ↦ omega (arith, lt)
+        | inl more ↦ absurd (none (subst (HasList names) (same_numbers item (record { client = rest.client; clock = clock }) (sym r.0) (omega (arith, le, more))) h))
+      ]
+
+pub looking_smaller : (rest : Span) (clock : ℕ) → rest.clock ≤ clock → clock < rest.clock + rest.len → (span_behind rest clock).len < rest.len
+looking_smaller rest clock low high = omega (arith, low, high)
+
+-- ---- whether an item has a list
+
+pub list_here : (names : List DocList) (item : Id) (top : ℕ) (last : Option ℕ) → IsLastOf names (Item item) top last → is_some last ≡ true → HasList names item
+list_here names item top None is e = absurd (true≢false (sym e))
+list_here names item top (Some n) is e = record { number = n; list = is.0.list; there = is.0.there; own = ap item_of_parent is.0.own }
+
+pub list_nowhere : (names : List DocList) (item : Id) (last : Option ℕ) → IsLastOf names (Item item) (length names) last → is_some last ≡ false → HasList names item → ⊥
+list_nowhere names item (Some n) is e h = true≢false e
+list_nowhere names item None is e h = is h.number h.list (slice_get_within names h.number h.list h.there) h.there (parent_is h.list.parent item h.own)
+  where
+    parent_is : (p : Parent) (item : Id) → item_of_parent p ≡ Some item → p ≡ Item item
+    parent_is (Root name) item e = (let w : None ≡ Some item = e in absurd cc)
+    parent_is (Item id) item e = ap (λ (x : Id). Item x) (some_is id item e)

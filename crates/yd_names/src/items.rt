@@ -1,11 +1,11 @@
 //! Items that have lists, in the order of their ids.
 
-ghost use Rattle.std.specs.Prelude.{◌≡◌, ℕ, true, OnOk, IfSome};
+ghost use Rattle.std.specs.Prelude.{◌≡◌, ◌<◌, ◌+◌, ℕ, true, OnOk, IfSome};
 ghost use Rattle.std.specs.Ordering.{nat_cmp};
 ghost use Rattle.std.specs.BTreeSet.{contains};
 ghost use Rattle.yd_ids.specs.Id.{IsSpan};
 ghost use Rattle.yd_meaning.specs.Names.{item_of_parent};
-ghost use Rattle.yd_names.specs.Items.{code_of_item, IsFirstClock};
+ghost use Rattle.yd_names.specs.Items.{code_of_item, IsFirstClock, span_behind};
 
 use std::collections::BTreeSet;
 use yd_ids::{Id, Span};
@@ -36,6 +36,19 @@ pub(crate) fn first_clock(items: &BTreeSet<u128>, span: Span) -> Option<u64>
     });
     let code = *items.range(low..low + span.len as u128).next()?;
     Some(span.clock + (code - low) as u64)
+}
+
+/// The span's ids behind one of its clocks.
+pub(crate) fn span_behind(span: Span, clock: u64) -> Span
+    requires is_span { IsSpan span }
+    requires inside { clock < span.clock + span.len }
+    ensures { result ≡ span_behind span clock }
+{
+    Span {
+        client: span.client,
+        clock: clock + 1,
+        len: span.clock + span.len - (clock + 1),
+    }
 }
 
 /// The code of an item.

@@ -1,15 +1,15 @@
 //! Names of lists, by their numbers.
 
-ghost use Rattle.std.specs.Prelude.{◌≡◌, ◌≢◌, ◌++◌, ◌∷◌, [], ℕ, Some, length, map, take, slice_get, IfSome, IfNone, OnOk, OnErr};
+ghost use Rattle.std.specs.Prelude.{◌≡◌, ◌≢◌, true, false, ◌++◌, ◌∷◌, [], ℕ, Some, length, map, take, slice_get, IfSome, IfNone, OnOk, OnErr};
 ghost use Rattle.yd_names.specs.Coding.{code_of_parent};
 ghost use Rattle.yd_names.specs.Codes.{last_place};
 ghost use Rattle.yd_ids.specs.Id.{IsSpan};
-ghost use Rattle.yd_names.specs.Items.{IsFirstItem};
+ghost use Rattle.yd_names.specs.Items.{HasList, IsFirstItem};
 ghost use Rattle.yd_names.specs.Names.{code_of_own, IsOf, IsLastOf, top_of};
 
 use crate::codes::Codes;
 use crate::coding::{code_of_list, code_of_parent};
-use crate::items::{add_item, first_clock};
+use crate::items::{add_item, first_clock, span_behind};
 use crate::same::{is_same_list, is_same_parent};
 use std::alloc::Global;
 use std::collections::BTreeSet;
@@ -111,19 +111,33 @@ impl Names {
         }
     }
 
-    /// The first item of a span below which no item of the span has a list. So all items of a span
-    /// that have lists are found from its front on, and no id between them is looked at. It takes
-    /// time with the logarithm of how many items had lists; it may answer one whose lists were
-    /// dropped.
+    /// The first item of a span that has a list. So all items of a span that have lists are found from
+    /// its front on, and no id between them is looked at. It takes time with the logarithm of how many
+    /// items have lists, and a look-up for each whose lists were dropped.
     pub fn first_item(&self, span: Span) -> Option<Id>
         requires { IsSpan span }
         ensures { IsFirstItem self.now span result }
     {
-        let clock = first_clock(&self.items, span)?;
-        Some(Id {
-            client: span.client,
-            clock,
-        })
+        let mut rest = span;
+        while let Some(clock) = first_clock(&self.items, rest) {
+            let item = Id {
+                client: rest.client,
+                clock,
+            };
+            if self.has_list(item) {
+                return Some(item);
+            }
+            rest = span_behind(rest, clock);
+        }
+        None
+    }
+
+    /// The item has a list.
+    fn has_list(&self, item: Id) -> bool
+        ensures here { result ≡ true → HasList self.now item }
+        ensures other { result ≡ false → HasList self.now item → ⊥ }
+    {
+        self.last_of(&Parent::Item(item), None).is_some()
     }
 
     /// One name more, which gets the next number.
