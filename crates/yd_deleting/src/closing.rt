@@ -17,8 +17,8 @@ use yd_ids::{Id, IdSet, Span};
 use yd_kept::Kept;
 use yd_ops::{NoMemory, Parent};
 
-/// Adds the units of all lists under the spans, and under those that are added, but for the lists of
-/// items that were deleted. Each list is opened once.
+/// Adds the units of all lists under the spans, and under those that are added, but for the lists
+/// of items that were deleted. Each list is opened once.
 pub(crate) fn close(
     alloc: Global,
     spans: &mut Vec<Span>,

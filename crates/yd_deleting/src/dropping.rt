@@ -14,10 +14,11 @@ use yd_kept::Kept;
 use yd_ops::NoMemory;
 
 /// What is deleted besides the deleted ids, since deletions name some, and since units came.
-/// `waiting` has those named ids that were not held before, and `named` those that are named besides;
-/// each may have more of the named ids. It takes a look-up for each span of these and for each row
-/// of units that came, and a few steps for each run and each list that falls. Of a named span that
-/// was deleted in part all ids are answered again, and lists under the deleted part are passed.
+/// `waiting` has those named ids that were not held before, and `named` those that are named
+/// besides; each may have more of the named ids. It takes a look-up for each span of these and
+/// for each row of units that came, and a few steps for each run and each list that falls. Of a
+/// named span that was deleted in part all ids are answered again, and lists under the deleted
+/// part are passed.
 pub fn deletions_besides(
     alloc: Global,
     kept: &Kept,

@@ -16,8 +16,8 @@ use yd_ids::{Id, IdSet, Span};
 use yd_kept::Kept;
 use yd_ops::NoMemory;
 
-/// Adds what is not last in a list, of the units of a span of it. Where the last one is among these,
-/// it adds what stands before it too, back to a run that was deleted.
+/// Adds what is not last in a list, of the units of a span of it. Where the last one is among
+/// these, it adds what stands before it too, back to a run that was deleted.
 pub(crate) fn add_outlived(
     spans: &mut Vec<Span>,
     kept: &Kept,
