@@ -45,8 +45,8 @@ pub record BecameNamed (part held : List Operation) (named more : Id → Bool) (
 abbrev pub is_gone : List Span → List Span → Id → Bool
 is_gone old besides x = is_named old x || is_named besides x
 
--- what was deleted in a part, and what is deleted besides: it is closed; it is sound; it is in each closed set that has what
--- was deleted; and where what stands keeps the edit rules, it is what the definitions delete
+-- what was deleted in a part, and what is deleted besides: it is closed; it is sound; and it is in each closed set that has
+-- what was deleted
 pub record GoesOnDeleted (lists : DocList → List Id) (held : List Operation) (more was now : Id → Bool) : Type 0 where
   pub closed : AreClosedDeletions lists held more now
   pub sound : AreSoundDeletions held more now
