@@ -1,5 +1,5 @@
 -- Rows that are read one after another.
-use Rattle.std.proofs.Common.{◌≡◌, ℕ, ◌+◌, ◌<◌, ◌≤◌, List, [], ◌∷◌, ◌++◌, length, map, drop, get_or, Option, Some, None, IsTrue, refl, sym, ap, ◌∙◌, arith}
+use Rattle.std.proofs.Common.{◌≡◌, ℕ, ◌+◌, ◌<◌, ◌≤◌, List, [], ◌∷◌, ◌++◌, length, map, drop, get_or, Option, Some, None, IsTrue, refl, sym, ap, ◌∙◌}
 use Rattle.std.proofs.lemmas.List.{drop_all, drop_more}
 use Rattle.serde_json.specs.Data.{Data}
 use Rattle.serde_json.specs.View.{items_of, view}
@@ -9,7 +9,6 @@ use Rattle.yd_any.specs.Tree.{AnyTree, AnyTrees, no_trees, tree, with_last}
 use Rattle.yd_any.specs.Valid.{is_valid_any}
 use Rattle.yd_ops.specs.Valid.{AreValidTrees}
 use Rattle.yd_script.specs.Given.{elements_of, step_before, tree_before, trees_in, value_in}
-use Rattle.yd_script.specs.Reading.{line_in_list}
 use Rattle.yd_script.specs.declared.target.TargetStep.{TargetStep}
 
 -- the first of what is left, and the rest
@@ -57,12 +56,6 @@ step_moved front step None = refl
 pub elements_same : (ds : List Data) → elements_of (items_of ds) ≡ ds
 elements_same [] = refl
 elements_same (d ∷ ds) = ap (λ (es : List Data). d ∷ es) (elements_same ds)
-
--- a line has a word and a target
-pub short_none : (vs : List Value) → length vs < 2 → line_in_list (map view vs) ≡ None
-short_none [] short = refl
-short_none (v ∷ []) short = refl
-short_none (v ∷ w ∷ vs) short = absurd (omega (arith, short))
 
 -- a value more
 pub trees_more : (all : Option AnyTrees) (vs : List Value) (i : ℕ) (x : Value) (ts : AnyTrees) (t : AnyTree) → i < length vs → x ≡ get_or vs i x →

@@ -1,9 +1,9 @@
 -- What stands in the array of a line: numbers, values, kinds of types, and targets (own; JSON as `serde_json` reads it).
-use Rattle.std.specs.Prelude.{◌≡◌, ℕ, ◌^◌, ◌-◌, List, [], ◌∷◌, nat_le, if◌then◌else◌, Option, Some, None, option_and_then, Result, codes}
+use Rattle.std.specs.Prelude.{◌≡◌, ℕ, ℤ, ◌^◌, ◌-◌, List, [], ◌∷◌, nat_le, unsigned_abs, if◌then◌else◌, Option, Some, None, option_and_then, Result, codes}
 use Rattle.std.proofs.Common.{Ok, Err}
 use Rattle.std.specs.Str.{bytes_eq}
 use Rattle.serde_json.specs.Data.{Data, Items, no_items, item}
-use Rattle.serde_json.specs.Find.{as_array, as_number, as_str, as_u64}
+use Rattle.serde_json.specs.Find.{as_array, as_i64, as_number, as_str, as_u64}
 use Rattle.yd_any.specs.Tree.{AnyTree, AnyTrees, no_trees, tree}
 use Rattle.yd_any.specs.DataTree.{data_tree}
 use Rattle.yd_any.specs.Outcome.{judged}
@@ -36,6 +36,10 @@ most_units = 2 ^ 53 - 1
 -- an index or a length: a whole number of that range
 abbrev pub number_in : Data → Option ℕ
 number_in d = option_and_then (λ n. if nat_le n most_units then Some n else None) (option_and_then as_u64 (as_number d))
+
+-- an association: a whole number of that size, or one below 0
+abbrev pub assoc_in : Data → Option ℤ
+assoc_in d = option_and_then (λ z. if nat_le (unsigned_abs z) most_units then Some z else None) (option_and_then as_i64 (as_number d))
 
 -- the tree, where there is one
 abbrev pub tree_in : Result AnyTree JsonFault → Option AnyTree

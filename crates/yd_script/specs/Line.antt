@@ -1,5 +1,5 @@
 -- What a line of a script asks for, without where its texts lie in memory (own).
-use Rattle.std.specs.Prelude.{ℕ, List, IsTrue}
+use Rattle.std.specs.Prelude.{ℕ, ℤ, List, IsTrue}
 use Rattle.yd_any.specs.Tree.{AnyTree, AnyTrees}
 use Rattle.yd_any.specs.AnyView.{any_tree, any_trees}
 use Rattle.yd_any.specs.JsonView.{json_tree}
@@ -9,6 +9,7 @@ use Rattle.yd_ops.specs.Valid.{AreValidTrees}
 use Rattle.yd_script.specs.declared.line.Change.{Change as ChangeSeen}
 use Rattle.yd_script.specs.declared.line.Change.TheVariants.{Insert, Embed, Delete, Format, Push, Child, Set, SetType, Unset}
 use Rattle.yd_script.specs.declared.line.Line.{Line as LineSeen}
+use Rattle.yd_script.specs.declared.line.Line.TheVariants.{Change as Changes, Mark, InsertAt, Undo, Redo}
 use Rattle.yd_script.specs.declared.target.Target.{Target as TargetSeen}
 use Rattle.yd_script.specs.declared.target.TargetStep.{TargetStep}
 
@@ -64,15 +65,27 @@ IsValidChange (unset key) = Unit {0}
 
 -- ---- lines
 
--- where a change is made, and which
-pub record Line : Type 0 where
-  pub target : Target
-  pub change : Change
+-- a change is made at a target; the place at an index of a target is kept under a name; a text comes in at the place of a name; the
+-- newest entry is undone, or the newest undo
+pub data Line : Type 0 where
+  changes : Target → Change → Line
+  mark : List ℕ → Target → ℕ → ℤ → Line
+  insert_at : List ℕ → List ℕ → Line
+  undo : Line
+  redo : Line
 
 -- the line that the code has
 abbrev pub line_of : LineSeen → Line
-line_of line = record { target = target_of line.target; change = change_of line.change }
+line_of (Changes target change) = changes (target_of target) (change_of change)
+line_of (Mark name place) = mark name (target_of place.target) place.index place.assoc
+line_of (InsertAt name text) = insert_at name text
+line_of Undo = undo
+line_of Redo = redo
 
 -- its change has values that an update carries
 abbrev pub IsValidLine : Line → Type 0
-IsValidLine line = IsValidChange line.change
+IsValidLine (changes target change) = IsValidChange change
+IsValidLine (mark name target index assoc) = Unit {0}
+IsValidLine (insert_at name text) = Unit {0}
+IsValidLine undo = Unit {0}
+IsValidLine redo = Unit {0}

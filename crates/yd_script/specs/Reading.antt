@@ -1,13 +1,13 @@
--- Which line a text is: a JSON array of a word, a target and what goes with the word (own; JSON as `serde_json` reads it).
-use Rattle.std.specs.Prelude.{ℕ, List, [], ◌∷◌, if◌then◌else◌, Option, Some, None, option_and_then, codes}
+-- Which line a text is: a JSON array of a word and what goes with it, for a change a target first (own; JSON as `serde_json` reads it).
+use Rattle.std.specs.Prelude.{ℕ, ℤ, List, [], ◌∷◌, if◌then◌else◌, Option, Some, None, option_and_then, codes}
 use Rattle.std.specs.Str.{bytes_eq}
 use Rattle.serde_json.specs.Data.{Data}
 use Rattle.serde_json.specs.Find.{as_array, as_str}
 use Rattle.serde_json.specs.Read.{read as read_text}
 use Rattle.yd_any.specs.Tree.{AnyTree, AnyTrees}
 use Rattle.yd_ops.specs.declared.kinds.Kind.{Kind}
-use Rattle.yd_script.specs.Given.{elements_of, number_in, value_in, values_in, kind_in, target_in}
-use Rattle.yd_script.specs.Line.{Target, Change, insert, embed, delete, format, push, child, set, settype, unset, Line}
+use Rattle.yd_script.specs.Given.{elements_of, number_in, assoc_in, value_in, values_in, kind_in, target_in}
+use Rattle.yd_script.specs.Line.{Target, Change, insert, embed, delete, format, push, child, set, settype, unset, Line, changes, mark, insert_at, undo, redo}
 
 -- ---- what goes with each word
 
@@ -101,7 +101,7 @@ abbrev pub unset_in : List Data → Option Change
 unset_in (key ∷ []) = unset_of (as_str key)
 unset_in _ = None
 
--- ---- the line
+-- ---- changes
 
 -- a change of a text, by its word and what goes with it
 abbrev pub text_change_in : List ℕ → List Data → Option Change
@@ -121,14 +121,56 @@ change_in word rest =
     else (if bytes_eq word (codes "unset") then unset_in rest else text_change_in word rest))))
 
 -- a change with its target, where both are there
-abbrev pub line_with : Option Change → Option Target → Option Line
-line_with (Some change) (Some target) = Some (record { target = target; change = change })
-line_with _ _ = None
+abbrev pub changes_of : Option Change → Option Target → Option Line
+changes_of (Some change) (Some target) = Some (changes target change)
+changes_of _ _ = None
 
--- the word stands first, and the target behind it
+-- `TARGET,..`, with the word of a change
+abbrev pub changes_in : List ℕ → List Data → Option Line
+changes_in word (target ∷ rest) = changes_of (change_in word rest) (target_in target)
+changes_in word [] = None
+
+-- ---- places that are kept
+
+-- a mark
+abbrev pub mark_of : Option (List ℕ) → Option Target → Option ℕ → Option ℤ → Option Line
+mark_of (Some name) (Some target) (Some index) (Some assoc) = Some (mark name target index assoc)
+mark_of _ _ _ _ = None
+
+-- `NAME, TARGET, INDEX, ASSOC`
+abbrev pub mark_in : List Data → Option Line
+mark_in (name ∷ target ∷ index ∷ assoc ∷ []) = mark_of (as_str name) (target_in target) (number_in index) (assoc_in assoc)
+mark_in _ = None
+
+-- an insertion at a mark
+abbrev pub insert_at_of : Option (List ℕ) → Option (List ℕ) → Option Line
+insert_at_of (Some name) (Some text) = Some (insert_at name text)
+insert_at_of _ _ = None
+
+-- `NAME, TEXT`
+abbrev pub insert_at_in : List Data → Option Line
+insert_at_in (name ∷ text ∷ []) = insert_at_of (as_str name) (as_str text)
+insert_at_in _ = None
+
+-- ---- the line
+
+-- a word that stands alone
+abbrev pub alone : Line → List Data → Option Line
+alone line [] = Some line
+alone line _ = None
+
+-- a line by its word, and what goes with it
+abbrev pub line_of_word : List ℕ → List Data → Option Line
+line_of_word word rest =
+    if bytes_eq word (codes "mark") then mark_in rest
+    else (if bytes_eq word (codes "insertat") then insert_at_in rest
+    else (if bytes_eq word (codes "undo") then alone undo rest
+    else (if bytes_eq word (codes "redo") then alone redo rest else changes_in word rest)))
+
+-- the word stands first
 abbrev pub line_in_list : List Data → Option Line
-line_in_list (word ∷ target ∷ rest) = line_with (option_and_then (λ w. change_in w rest) (as_str word)) (target_in target)
-line_in_list _ = None
+line_in_list (word ∷ rest) = option_and_then (λ w. line_of_word w rest) (as_str word)
+line_in_list [] = None
 
 -- the line that a JSON value is
 abbrev pub line_in_data : Data → Option Line

@@ -6,7 +6,7 @@ ghost use Rattle.yd_any.specs.AnyView.{any_tree, any_trees};
 ghost use Rattle.yd_any.specs.JsonView.{json_tree};
 ghost use Rattle.yd_any.specs.Valid.{is_valid_any, is_valid_json};
 ghost use Rattle.yd_ops.specs.Valid.{AreValidTrees};
-ghost use Rattle.yd_script.specs.Given.{Answers, number_in, trees_in, value_in, values_in};
+ghost use Rattle.yd_script.specs.Given.{Answers, assoc_in, number_in, trees_in, value_in, values_in};
 
 use crate::fault::LineFault;
 use serde_json::Value;
@@ -22,6 +22,17 @@ pub fn number_of(value: &Value) -> Option<u64>
 {
     let number = value.as_u64()?;
     if number > MOST_UNITS {
+        return None;
+    }
+    Some(number)
+}
+
+/// An association: a whole number of the same size, or one below 0.
+pub fn assoc_of(value: &Value) -> Option<i64>
+    ensures { result ≡ assoc_in (view value.now) }
+{
+    let number = value.as_i64()?;
+    if number.unsigned_abs() > MOST_UNITS {
         return None;
     }
     Some(number)

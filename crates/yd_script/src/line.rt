@@ -4,13 +4,31 @@ use crate::target::Target;
 use yd_any::{Any, AnyList, Json, Text};
 use yd_ops::Kind;
 
-/// A change of a root or of a type in it.
+/// What a line asks for.
 #[derive(Drop)]
-pub struct Line {
-    /// Where it is made.
+pub enum Line {
+    /// A change of a root or of a type in it.
+    Change { target: Target, change: Change },
+    /// `["mark",NAME,TARGET,INDEX,ASSOC]`: the place is kept under the name.
+    Mark { name: Text, place: Place },
+    /// `["insertat",NAME,TEXT]`: the text comes in at the place under the name.
+    InsertAt { name: Text, text: Text },
+    /// `["undo"]`: the newest edit that is not undone yet is undone.
+    Undo,
+    /// `["redo"]`: the newest undo is undone.
+    Redo,
+}
+
+/// A place at an index of a root or of a type in it.
+#[derive(Drop)]
+pub struct Place {
+    /// The root or the type.
     pub target: Target,
-    /// What is made.
-    pub change: Change,
+    /// The index, from 0 to 2^53-1.
+    pub index: u64,
+    /// Below 0 the place keeps to what comes before it, and else to what comes behind it. It is from
+    /// -(2^53-1) to 2^53-1.
+    pub assoc: i64,
 }
 
 /// A change of a text, a list or a map. Indexes and lengths count live counted units, of which a text

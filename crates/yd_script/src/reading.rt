@@ -5,7 +5,7 @@ ghost use Rattle.serde_json.specs.Errors.{IsMemory};
 ghost use Rattle.serde_json.specs.View.{view};
 ghost use Rattle.yd_script.specs.Given.{Answers};
 ghost use Rattle.yd_script.specs.Line.{IsValidChange, IsValidLine, change_of as change_seen, line_of};
-ghost use Rattle.yd_script.specs.Reading.{change_in, line_in, line_in_data, line_in_list, text_change_in};
+ghost use Rattle.yd_script.specs.Reading.{alone as line_alone, change_in, changes_in, line_in, line_in_data, line_in_list, line_of_word as word_line, text_change_in};
 ghost use Rattle.yd_script.specs.declared.fault.LineFault.TheVariants.{NoMemory, BadLine};
 
 use crate::arguments::{
@@ -13,6 +13,7 @@ use crate::arguments::{
 };
 use crate::fault::LineFault;
 use crate::line::{Change, Line};
+use crate::places::{insert_at_of, mark_of};
 use crate::targets::target_of;
 use serde_json::Value;
 use std::alloc::Global;
@@ -56,14 +57,56 @@ fn line_of_list(alloc: Global, items: &[Value]) -> Result<Line, LineFault>
     ensures valid { IfOk result (λ line. IsValidLine (line_of line)) }
 {
     match items {
-        [word, target, rest @ ..] => match word.as_str() {
-            Some(word) => {
-                let change = change_of(alloc, word, rest)?;
-                let target = target_of(alloc, target)?;
-                Ok(Line { target, change })
-            }
+        [word, rest @ ..] => match word.as_str() {
+            Some(word) => line_of_word(alloc, word, rest),
             None => Err(LineFault::BadLine),
         },
+        _ => Err(LineFault::BadLine),
+    }
+}
+
+fn line_of_word(alloc: Global, word: &str, rest: &[Value]) -> Result<Line, LineFault>
+    ensures line { Answers line_of (word_line word.now (map view rest.now)) result }
+    ensures valid { IfOk result (λ line. IsValidLine (line_of line)) }
+{
+    if word == "mark" {
+        return mark_of(alloc, rest);
+    }
+    if word == "insertat" {
+        return insert_at_of(alloc, rest);
+    }
+    if word == "undo" {
+        return alone(Line::Undo, rest);
+    }
+    if word == "redo" {
+        return alone(Line::Redo, rest);
+    }
+    changes_of(alloc, word, rest)
+}
+
+/// A line of a word alone.
+fn alone(line: Line, rest: &[Value]) -> Result<Line, LineFault>
+    requires { IsValidLine (line_of line) }
+    ensures line { Answers line_of (line_alone (line_of line) (map view rest.now)) result }
+    ensures valid { IfOk result (λ line. IsValidLine (line_of line)) }
+{
+    match rest {
+        [] => Ok(line),
+        _ => Err(LineFault::BadLine),
+    }
+}
+
+/// `TARGET,..`
+fn changes_of(alloc: Global, word: &str, rest: &[Value]) -> Result<Line, LineFault>
+    ensures line { Answers line_of (changes_in word.now (map view rest.now)) result }
+    ensures valid { IfOk result (λ line. IsValidLine (line_of line)) }
+{
+    match rest {
+        [target, rest @ ..] => {
+            let change = change_of(alloc, word, rest)?;
+            let target = target_of(alloc, target)?;
+            Ok(Line::Change { target, change })
+        }
         _ => Err(LineFault::BadLine),
     }
 }
