@@ -1,2 +1,4 @@
 pub mod EndLemmas
 pub mod PlayedLemmas
+pub mod PlaysLemmas
+pub mod ReceivedLemmas

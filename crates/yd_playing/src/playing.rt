@@ -4,29 +4,33 @@ ghost use Rattle.std.specs.Prelude.{◌≡◌, Some, map, IfOk, IfErr, OnErr};
 ghost use Rattle.yd_words.specs.Each.{Each};
 ghost use Rattle.yd_ops.specs.Valid.{IsValidUpdate};
 ghost use Rattle.yd_ops.specs.View.{update_value};
-ghost use Rattle.yd_updates.specs.Received.{received_after, received_more};
+ghost use Rattle.yd_updates.specs.Received.{received_more};
 ghost use Rattle.yd_script.specs.Line.{IsValidLine, line_of};
 ghost use Rattle.yd_script.specs.Lines.{numbered_of, script_lines};
 ghost use Rattle.yd_script.specs.Reading.{line_in};
 ghost use Rattle.yd_doc.specs.Kept.{received_of};
-ghost use Rattle.yd_playing.specs.Played.{ArePlayed, IsCarriedOut, HasPlayed};
-ghost use Rattle.yd_playing.specs.Stopped.{StopsFor, IsRefusedFor, IsUnread, refused_by};
+ghost use Rattle.yd_playing.specs.Answer.{PlaysAs, AreValid};
+ghost use Rattle.yd_playing.specs.Desk.{desk_of};
+ghost use Rattle.yd_playing.specs.Ended.{text_ends};
+ghost use Rattle.yd_playing.specs.Played.{ArePlayed, HasPlayed};
+ghost use Rattle.yd_playing.specs.Stopped.{StopsFor, IsUnread};
 
-use crate::carrying::carry_out;
+use crate::desk::Desk;
 use crate::fault::{LineCause, PlayFault};
-use crate::leading::lead;
+use crate::lines::{play_asked, push_made};
 use std::alloc::Global;
+use yd_doc::Replica;
 use yd_doc::law::own_document_is_defined;
-use yd_doc::{EditFault, Replica};
 use yd_ops::Update;
 use yd_script::{Line, LineFault, Lines, NumberedLine, read_line};
 use yd_v1::UpdateList;
 
-/// Carries out the lines of a script in their order, each as one edit of the replica, and answers
-/// the updates that they made. The first line that is no line, or whose target leads to no live type,
-/// or whose edit is refused, ends it: its number and why are answered. The replica has then taken the
-/// updates of the lines before, and so it has where a growth found no memory. It takes the time of the
-/// edits.
+/// Plays the lines of a script in their order, and answers the updates that they made: a mark keeps a
+/// place and makes none, and each other line is one edit of the replica. Each edit is noted for an
+/// undo, but undos and redos are not. The first line that is no line, or whose target leads to no live
+/// type, or that names no mark, or whose edit is refused, ends it: its number and why are answered.
+/// The replica has then taken the updates of the lines before, and so it has where a growth found no
+/// memory. It takes the time of the edits, and for an insertion at a mark time with the marks.
 pub fn play(alloc: Global, replica: &mut Replica, script: &str) -> Result<UpdateList, PlayFault>
     ensures played { IfOk result (λ updates. ArePlayed replica.old.client
         (received_of replica.old) (script_lines script.now) (map update_value updates)) }
@@ -40,42 +44,31 @@ pub fn play(alloc: Global, replica: &mut Replica, script: &str) -> Result<Update
     ensures client { replica.new.client ≡ replica.old.client }
 {
     let mut updates = UpdateList::new(alloc);
+    let mut desk = Desk::new(alloc);
     let mut lines = Lines::of(script);
     while let Some(line) = lines.next() {
-        let update = play_line(alloc, replica, &line)?;
-        updates.push(update)?;
+        let made = play_line(alloc, replica, &mut desk, &line)?;
+        push_made(&mut updates, made)?;
     }
     Ok(updates)
 }
 
-/// Carries out one line.
+/// Plays one line.
 fn play_line(
     alloc: Global,
     replica: &mut Replica,
+    desk: &mut Desk,
     line: &NumberedLine<'_>,
-) -> Result<Update, PlayFault>
-    ensures done { IfOk result (λ update. IsCarriedOut replica.old.client
-        (received_of replica.old) (numbered_of line.now).text (update_value update)) }
-    ensures received { IfOk result (λ update. received_of replica.new
-        ≡ received_after (received_of replica.old) (update_value update)) }
-    ensures valid { IfOk result (λ update. IsValidUpdate (update_value update)) }
-    ensures refused { IfErr result (IsRefusedFor replica.old.client (received_of replica.old)
-        (numbered_of line.now)) }
-    ensures unchanged { OnErr result (received_of replica.new ≡ received_of replica.old) }
+) -> Result<Option<Update>, PlayFault>
+    ensures plays { PlaysAs (text_ends replica.old.client (desk_of replica.old desk.old)
+        (numbered_of line.now).text) (numbered_of line.now).number (received_of replica.old)
+        (desk_of replica.new desk.new) result }
+    ensures valid { IfOk result AreValid }
     ensures client { replica.new.client ≡ replica.old.client }
 {
     own_document_is_defined(replica);
-    let Line { target, change } = read(alloc, line)?;
-    match lead(replica, target) {
-        Ok(parent) => match carry_out(alloc, replica, parent, change) {
-            Ok(update) => Ok(update),
-            Err(fault) => Err(refused(line.number, fault)),
-        },
-        Err(step) => Err(PlayFault::Refused {
-            number: line.number,
-            cause: LineCause::NoTarget(step),
-        }),
-    }
+    let asked = read(alloc, line)?;
+    play_asked(alloc, replica, desk, line.number, asked)
 }
 
 /// What a line asks for.
@@ -91,18 +84,5 @@ fn read(alloc: Global, line: &NumberedLine<'_>) -> Result<Line, PlayFault>
             number: line.number,
             cause: LineCause::BadLine,
         }),
-    }
-}
-
-/// The edit of the line with a number is refused, or no memory was there for it.
-fn refused(number: u64, fault: EditFault) -> PlayFault
-    ensures { result ≡ refused_by number fault }
-{
-    match fault {
-        EditFault::NoMemory => PlayFault::NoMemory,
-        _ => PlayFault::Refused {
-            number,
-            cause: LineCause::Edit(fault),
-        },
     }
 }

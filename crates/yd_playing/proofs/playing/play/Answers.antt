@@ -1,5 +1,4 @@
-use Rattle.std.proofs.Common.{◌≡◌, List, [], ◌∷◌, ◌++◌, map, sym, ap, ◌∙◌, subst}
-use Rattle.std.proofs.lemmas.List.{map-append}
+use Rattle.std.proofs.Common.{◌≡◌, List, Ok, ◌++◌, map, refl, sym, ◌∙◌, subst}
 use Rattle.yd_words.specs.Each.{Each}
 use Rattle.yd_words.proofs.EachLemmas.{each_append}
 use Rattle.yd_ids.specs.declared.id.Client.{Client}
@@ -8,8 +7,13 @@ use Rattle.yd_ops.specs.Value.{UpdateValue}
 use Rattle.yd_ops.specs.View.{update_value}
 use Rattle.yd_script.specs.Lines.{numbered_of, script_lines}
 use Rattle.yd_doc.specs.Kept.{received_of}
-use Rattle.yd_playing.specs.Played.{IsCarriedOut, SoFar, HasPlayed}
-use Rattle.yd_playing.proofs.PlayedLemmas.{one_more, on_error}
+use Rattle.yd_playing.specs.Answer.{updates_in}
+use Rattle.yd_playing.specs.Desk.{desk_of, first_desk}
+use Rattle.yd_playing.specs.Ended.{text_ends}
+use Rattle.yd_playing.specs.Played.{SoFar, HasPlayed}
+use Rattle.yd_playing.specs.Stopped.{StopsFor, IsLeft, IsStop}
+use Rattle.yd_playing.proofs.PlayedLemmas.{at_end, one_more, on_error, passed_on, played_here, stops_here}
+use Rattle.yd_playing.proofs.ReceivedLemmas.{script_received}
 use Rattle.yd_playing.proofs.playing.play.Goals as goal
 
 pub loop-line-preserved : goal.loop-line-preserved
@@ -19,30 +23,75 @@ loop-line-preserved c =
     let r = received_of c.args.replica.now in
     let lines = script_lines c.args.script.now in
     let text = numbered_of c.in-Some.line in
-    let update = update_value c.in_ok-update.update in
-    let more : map update_value c.push.new.self ≡ map update_value loop.updates ++ update ∷ [] =
-    ap (map update_value) c.in_ok-push.ensures.appended ∙ map-append update_value loop.updates (c.in_ok-update.update ∷ []) in
+    let desk = desk_of loop.replica loop.desk in
+    let next = desk_of c.play_line.new.replica c.play_line.new.desk in
+    let us = map update_value loop.updates in
+    let vs = updates_in c.in_ok-made.made in
+    let more : map update_value c.push_made.new.updates ≡ us ++ vs = c.in_ok-push_made.ensures.added in
     record {
       client = c.play_line.ensures.client ∙ loop.invariant.client;
-      so_far = subst (λ (us : List UpdateValue). SoFar client r (received_of c.play_line.new.replica) lines c.next.new.self us) (sym more)
-          (one_more client r (received_of loop.replica) (received_of c.play_line.new.replica) lines c.next.new.self loop.lines text (map update_value loop.updates) update
-          loop.invariant.so_far c.in-Some.ensures
-          (subst (λ (k : Client). IsCarriedOut k (received_of loop.replica) text.text update) loop.invariant.client c.in_ok-update.ensures.done) c.in_ok-update.ensures.received);
-      valid = subst (Each IsValidUpdate) (sym more) (each_append IsValidUpdate (map update_value loop.updates) (update ∷ []) loop.invariant.valid (c.in_ok-update.ensures.valid, tt));
+      so_far = subst (λ (ws : List UpdateValue). SoFar client r next lines c.next.new.self ws) (sym more)
+          (one_more client r desk next lines c.next.new.self loop.lines text us vs loop.invariant.so_far c.in-Some.ensures
+          (subst (λ (k : Client). text_ends k desk text.text ≡ Ok (record { updates = vs; desk = next })) loop.invariant.client c.in_ok-made.ensures.plays));
+      valid = subst (Each IsValidUpdate) (sym more) (each_append IsValidUpdate us vs loop.invariant.valid c.in_ok-made.ensures.valid);
     }
 
-pub returns-in_err-push-clause-front : goal.returns-in_err-push-clause-front
-returns-in_err-push-clause-front c =
+pub returns-in_err-push_made-clause-front : goal.returns-in_err-push_made-clause-front
+returns-in_err-push_made-clause-front c =
     let loop = c.loop-line in
     let client = c.args.replica.now.client in
     let r = received_of c.args.replica.now in
     let lines = script_lines c.args.script.now in
     let text = numbered_of c.in-Some.line in
-    let update = update_value c.in_ok-update.update in
-    on_error (HasPlayed client r (received_of c.play_line.new.replica) lines) c.from_residual-in_err-push.result (
+    let desk = desk_of loop.replica loop.desk in
+    let next = desk_of c.play_line.new.replica c.play_line.new.desk in
+    let us = map update_value loop.updates in
+    let vs = updates_in c.in_ok-made.made in
+    on_error (HasPlayed client r (received_of c.play_line.new.replica) lines) c.from_residual-in_err-push_made.result (
+      next,
       c.next.new.self,
-      map update_value loop.updates ++ update ∷ [],
-      one_more client r (received_of loop.replica) (received_of c.play_line.new.replica) lines c.next.new.self loop.lines text (map update_value loop.updates) update
-          loop.invariant.so_far c.in-Some.ensures
-          (subst (λ (k : Client). IsCarriedOut k (received_of loop.replica) text.text update) loop.invariant.client c.in_ok-update.ensures.done) c.in_ok-update.ensures.received,
+      us ++ vs,
+      one_more client r desk next lines c.next.new.self loop.lines text us vs loop.invariant.so_far c.in-Some.ensures
+          (subst (λ (k : Client). text_ends k desk text.text ≡ Ok (record { updates = vs; desk = next })) loop.invariant.client c.in_ok-made.ensures.plays),
+      refl,
     )
+
+pub returns-in_err-made-clause-front : goal.returns-in_err-made-clause-front
+returns-in_err-made-clause-front c =
+    let loop = c.loop-line in
+    let client = c.args.replica.now.client in
+    let r = received_of c.args.replica.now in
+    let lines = script_lines c.args.script.now in
+    let text = numbered_of c.in-Some.line in
+    let desk = desk_of loop.replica loop.desk in
+    on_error (HasPlayed client r (received_of c.play_line.new.replica) lines) c.from_residual.result
+    (played_here client r desk lines c.next.new.self loop.lines text (map update_value loop.updates) (received_of c.play_line.new.replica) loop.invariant.so_far c.in-Some.ensures
+    (subst (λ (k : Client). IsLeft desk.received (received_of c.play_line.new.replica) (text_ends k desk text.text)) loop.invariant.client c.in_err-made.ensures.plays.1))
+
+pub returns-in_err-made-clause-stops : goal.returns-in_err-made-clause-stops
+returns-in_err-made-clause-stops c =
+    let loop = c.loop-line in
+    let client = c.args.replica.now.client in
+    let r = received_of c.args.replica.now in
+    let lines = script_lines c.args.script.now in
+    let text = numbered_of c.in-Some.line in
+    let desk = desk_of loop.replica loop.desk in
+    passed_on (StopsFor client r lines) c.from_residual.result c.in_err-made.field-0.0 c.from_residual.ensures.1
+    (stops_here client r desk lines c.next.new.self loop.lines text (map update_value loop.updates) c.in_err-made.field-0.0 loop.invariant.so_far c.in-Some.ensures
+    (subst (λ (k : Client). IsStop text.number (text_ends k desk text.text) c.in_err-made.field-0.0) loop.invariant.client c.in_err-made.ensures.plays.0))
+
+pub returns-clause-played : goal.returns-clause-played
+returns-clause-played c =
+    let loop = c.loop-line in (
+      desk_of loop.replica loop.desk,
+      at_end c.args.replica.now.client (received_of c.args.replica.now) (desk_of loop.replica loop.desk) (script_lines c.args.script.now) loop.lines (map update_value loop.updates)
+          loop.invariant.so_far c.in_default.ensures,
+    )
+
+pub returns-clause-received : goal.returns-clause-received
+returns-clause-received c =
+    let loop = c.loop-line in
+    script_received c.args.replica.now.client (script_lines c.args.script.now) (first_desk (received_of c.args.replica.now))
+    (record { updates = map update_value loop.updates; desk = desk_of loop.replica loop.desk })
+    (at_end c.args.replica.now.client (received_of c.args.replica.now) (desk_of loop.replica loop.desk) (script_lines c.args.script.now) loop.lines (map update_value loop.updates)
+    loop.invariant.so_far c.in_default.ensures)

@@ -1,23 +1,16 @@
-use Rattle.std.proofs.Common.{sym, subst}
-use Rattle.yd_ops.specs.View.{update_value}
+use Rattle.std.proofs.Common.{Result, sym, subst}
 use Rattle.yd_script.specs.Line.{line_of}
-use Rattle.yd_script.specs.Lines.{numbered_of}
-use Rattle.yd_doc.specs.Kept.{received_of, own_document}
-use Rattle.yd_playing.specs.Stopped.{IsRefusedFor}
-use Rattle.yd_playing.proofs.PlayedLemmas.{edit_done, edit_refused}
+use Rattle.yd_doc.specs.Kept.{own_document, received_of}
+use Rattle.yd_playing.specs.Answer.{PlaysAs}
+use Rattle.yd_playing.specs.Desk.{Played, desk_of}
+use Rattle.yd_playing.specs.declared.fault.LineCause.{LineCause}
+use Rattle.yd_playing.proofs.PlaysLemmas.{text_is}
 use Rattle.yd_playing.proofs.playing.play_line.Goals as goal
 
-pub returns-in-Ok-carry_out-clause-done : goal.returns-in-Ok-carry_out-clause-done
-returns-in-Ok-carry_out-clause-done c =
+pub returns-clause-plays : goal.returns-clause-plays
+returns-clause-plays c =
     let r = c.args.replica.now in
-    edit_done r.client (received_of r) (numbered_of c.args.line.now) (line_of c.in_ok-target.field-0) (own_document r) c.in-Ok.parent
-    c.in_ok-target.ensures.line c.own_document_is_defined.ensures c.in-Ok.ensures.leads
-    (update_value c.in-Ok-carry_out.update) c.in-Ok-carry_out.ensures.accepted c.in-Ok-carry_out.ensures.done.made
-
-pub returns-in-Err-carry_out-clause-refused : goal.returns-in-Err-carry_out-clause-refused
-returns-in-Err-carry_out-clause-refused c =
-    let r = c.args.replica.now in
-    subst (IsRefusedFor r.client (received_of r) (numbered_of c.args.line.now)) (sym c.refused.ensures)
-    (edit_refused r.client (received_of r) (numbered_of c.args.line.now) (line_of c.in_ok-target.field-0) (own_document r) c.in-Ok.parent
-    c.in_ok-target.ensures.line c.own_document_is_defined.ensures c.in-Ok.ensures.leads
-    c.in-Err-carry_out.fault c.in-Err-carry_out.ensures.refused)
+    let desk = desk_of r c.args.desk.now in
+    subst (λ (ends : Result Played LineCause). PlaysAs ends c.args.line.now.number (received_of r) (desk_of c.play_asked.new.replica c.play_asked.new.desk) c.play_asked.result)
+    (sym (text_is r.client desk c.args.line.now.text.now (own_document r) (line_of c.in_ok-asked.asked) c.own_document_is_defined.ensures c.in_ok-asked.ensures.line))
+    c.play_asked.ensures.plays
