@@ -4,7 +4,7 @@ use Rattle.yd_ids.specs.declared.id.Id.{Id}
 use Rattle.yd_making.specs.declared.fault.EditFault.{EditFault}
 use Rattle.yd_making.specs.declared.fault.EditFault.TheVariants.{NoMemory, NoPlace, NotHeld, ClockFull, InsidePair, OwnWaiting, PastEnd, NoKey, Nothing}
 use Rattle.yd_playing.specs.declared.fault.LineCause.{LineCause}
-use Rattle.yd_playing.specs.declared.fault.LineCause.TheVariants.{BadLine, NoTarget, Edit}
+use Rattle.yd_playing.specs.declared.fault.LineCause.TheVariants.{BadLine, NoTarget, NoMark, Edit}
 
 -- a number behind a name
 abbrev pub with_number : List ℕ → ℕ → List ℕ
@@ -30,6 +30,7 @@ edit_text Nothing = codes "Nothing"
 abbrev pub cause_text : LineCause → List ℕ
 cause_text BadLine = codes "BadLine"
 cause_text (NoTarget step) = with_number (codes "NoTarget") step
+cause_text NoMark = codes "NoMark"
 cause_text (Edit fault) = edit_text fault
 
 -- the line with the number is refused, in the script under the name

@@ -41,6 +41,7 @@ fn tell_cause<S: Sink>(err: &mut S, cause: LineCause) -> Result<(), Outage>
     match cause {
         LineCause::BadLine => write_line(err, "BadLine", "", "\n"),
         LineCause::NoTarget(step) => tell_number(err, "NoTarget", step),
+        LineCause::NoMark => write_line(err, "NoMark", "", "\n"),
         LineCause::Edit(fault) => tell_edit(err, fault),
     }
 }
