@@ -27,14 +27,12 @@ if ! has_yjs && ! { install node-yjs >/dev/null 2>&1 && has_yjs; }; then
   echo 'interop: not run, since the packages nodejs and node-yjs cannot be had here'
   exit 0
 fi
+# `run.sh sockets`: server and client over real sockets, with the provider and the server of y-websocket.
+if [ "${1:-}" = sockets ]; then
+  has_provider || { install node-ws node-y-websocket >/dev/null 2>&1 && has_provider; } ||
+    { echo 'interop: no sockets, since the packages node-ws and node-y-websocket cannot be had here'; exit 0; }
+  exec node sockets.js
+fi
 # The worked cases, and then the sessions; with a word only sessions whose names have it.
 [ $# -gt 0 ] || node cases.js || exit 1
-# Server and client over real sockets, with the provider and the server of y-websocket.
-if [ $# -eq 0 ]; then
-  if has_provider || { install node-ws node-y-websocket >/dev/null 2>&1 && has_provider; }; then
-    node sockets.js || exit 1
-  else
-    echo 'interop: no sockets, since the packages node-ws and node-y-websocket cannot be had here'
-  fi
-fi
 exec node interop.js "$@"
