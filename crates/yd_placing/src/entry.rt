@@ -6,10 +6,11 @@ ghost use Rattle.yd_received.specs.Received.{held_of};
 ghost use Rattle.yd_kept.specs.Kept.{IsFilled, KeepsHeld};
 ghost use Rattle.yd_placing.specs.Placing.{IsNextFor, PlacesEntry};
 
+use yd_building::Group;
 use yd_held::Held;
 use yd_ids::Span;
 use yd_kept::Kept;
-use yd_merge::{Group, group_of};
+use yd_merge::group_of;
 use yd_ops::NoMemory;
 use yd_received::Place;
 
