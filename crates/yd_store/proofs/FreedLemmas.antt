@@ -1,9 +1,9 @@
 -- Halves that are cut out and then become U+FFFD, step by step, where a span is told less.
-use Rattle.std.proofs.Common.{◌≡◌, ℕ, ◌<◌, Option, Some, None, refl, sym, ap, subst, arith}
+use Rattle.std.proofs.Common.{◌≡◌, ℕ, ◌<◌, Option, Some, None, refl, sym, ap, subst}
 use Rattle.std.specs.Prelude.{IfSome, IfNone}
 use Rattle.yd_ids.specs.declared.id.Id.{Id}
 use Rattle.yd_ids.specs.declared.id.Span.{Span}
-use Rattle.yd_ops.specs.Operation.{UnitContent, text_unit, any_unit, json_unit, bytes, embedded, mark, nested_type, deleted_unit, gone_unit, IsHighUnit, IsLowUnit, level_of}
+use Rattle.yd_ops.specs.Operation.{UnitContent, text_unit, any_unit, json_unit, bytes, embedded, mark, nested_type, deleted_unit, gone_unit, IsHighUnit, IsLowUnit}
 use Rattle.yd_store.specs.declared.halves.Torn.{Torn}
 use Rattle.yd_store.specs.Store.{Stored}
 use Rattle.yd_store.specs.Units.{KeepsUnits}
@@ -12,10 +12,10 @@ use Rattle.yd_store.specs.Halves.{HasPair, first_id, end_id, torn_at, IsKnown, I
 use Rattle.yd_store.proofs.LoweredLemmas.{maps_kept, maps_both, maps_none}
 use Rattle.yd_store.proofs.TearingLemmas.{known_kept, alone_kept, alone_torn, tells_less, tells_none}
 
--- ---- a half is told in full
+-- ---- a half is of a text
 
-high_known : (c : UnitContent) → IsHighUnit c → 0 < level_of c
-high_known (text_unit unit) h = omega arith
+high_known : (c : UnitContent) → IsHighUnit c → (unit : ℕ) × (c ≡ text_unit unit)
+high_known (text_unit unit) h = (unit, refl)
 high_known (any_unit value) h = absurd h
 high_known (json_unit value) h = absurd h
 high_known (bytes blob) h = absurd h
@@ -25,8 +25,8 @@ high_known (nested_type kind) h = absurd h
 high_known deleted_unit h = absurd h
 high_known gone_unit h = absurd h
 
-low_known : (c : UnitContent) → IsLowUnit c → 0 < level_of c
-low_known (text_unit unit) h = omega arith
+low_known : (c : UnitContent) → IsLowUnit c → (unit : ℕ) × (c ≡ text_unit unit)
+low_known (text_unit unit) h = (unit, refl)
 low_known (any_unit value) h = absurd h
 low_known (json_unit value) h = absurd h
 low_known (bytes blob) h = absurd h
@@ -37,10 +37,10 @@ low_known deleted_unit h = absurd h
 low_known gone_unit h = absurd h
 
 pub high_is_known : (it : Stored) (high low : Id) → HasPair it high low → IsKnown it high
-high_is_known it high low p = record { operation = p.first; there = p.has_first; id_is = p.first_id; known = high_known p.first.content p.partners.high_half }
+high_is_known it high low p = (let k = high_known p.first.content p.partners.high_half in record { operation = p.first; there = p.has_first; id_is = p.first_id; unit = k.0; known = k.1 })
 
 low_is_known : (it : Stored) (high low : Id) → HasPair it high low → IsKnown it low
-low_is_known it high low p = record { operation = p.second; there = p.has_second; id_is = p.second_id; known = low_known p.second.content p.partners.low_half }
+low_is_known it high low p = (let k = low_known p.second.content p.partners.low_half in record { operation = p.second; there = p.has_second; id_is = p.second_id; unit = k.0; known = k.1 })
 
 pub front_known : (old new : Stored) (span : Span) (z : Option Id) → KeepsUnits old new → IfSome z (λ half. HasPair old half (first_id span)) → IfSome z (IsKnown new)
 front_known old new span None k found = tt

@@ -23,7 +23,7 @@ use Rattle.yd_store.specs.Contents.{told_of, run_at}
 use Rattle.yd_store.specs.Store.{Stored, IsRunOf, AreTold}
 use Rattle.yd_store.specs.Units.{operations_told, operations_at, HasOperation}
 use Rattle.yd_store.specs.declared.halves.TextUnit.{TextUnit}
-use Rattle.yd_store.specs.Halves.{HasPair, HasText, text_at, left_at}
+use Rattle.yd_store.specs.Halves.{HasPair, HasText, text_at, left_at, IsString, HoldsText}
 use Rattle.yd_store.proofs.LoweringLemmas.{from_among, gone_among, told_among}
 
 -- ---- where an operation of a run stands
@@ -149,6 +149,16 @@ has_text (nested kind) n unit e = absurd (none_there (nested_type kind ∷ []) n
 has_text (any ts) n unit e = absurd (none_there (units_of_trees ts) n unit (other_trees ts) e)
 has_text (deleted count) n unit e = absurd (none_there (deleted_units count) n unit (other_deleted count) e)
 
+string_of : (content : ContentValue) (n : ℕ) → (text_at content n ≡ None → ⊥) → IsString content
+string_of (string units) n some = tt
+string_of (json values) n some = absurd (some refl)
+string_of (binary blob) n some = absurd (some refl)
+string_of (embed t) n some = absurd (some refl)
+string_of (format key t) n some = absurd (some refl)
+string_of (nested kind) n some = absurd (some refl)
+string_of (any ts) n some = absurd (some refl)
+string_of (deleted count) n some = absurd (some refl)
+
 -- ---- a text unit, and where there is none
 
 module _ (it : Stored) (arena : IsArena it.placed.lines (runs_of it.placed)) (are : AreTold (runs_of it.placed) (told_of it.contents)) where
@@ -205,6 +215,14 @@ module _ (it : Stored) (arena : IsArena it.placed.lines (runs_of it.placed)) (ar
       text_clock =
           let below = unit_below it.placed.lines (runs_of it.placed) arena.holds place n id has in
           omega (arith, below, arena.clocks id.client.0, ap (λ (x : Id). x.clock) of_run.id_is, has.clock)
+
+    -- what the place of a text unit tells is a text
+    pub text_told : (t : TextUnit) → HasText it id t → HoldsText (run_at (told_of it.contents) place)
+    text_told t h = go (run_at (told_of it.contents) place) refl
+      where
+        go : (z : Option RunValue) → run_at (told_of it.contents) place ≡ z → HoldsText z
+        go None e = tt
+        go (Some run) e = string_of run.content n (λ none. no_text_here run e none t h)
 
   -- ---- a pair, and where there is none
 

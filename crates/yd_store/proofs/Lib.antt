@@ -1,3 +1,4 @@
+pub mod NotedLemmas
 pub mod StoreLemmas
 pub mod KeepingLemmas
 pub mod AddingLemmas
@@ -11,3 +12,4 @@ pub mod FreedLemmas
 pub mod TakingLemmas
 pub mod TakenLemmas
 pub mod BackLemmas
+pub mod LiveLemmas

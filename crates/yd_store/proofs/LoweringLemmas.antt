@@ -1,5 +1,5 @@
 -- Units that are told less: run by run, and each operation of the span.
-use Rattle.std.proofs.Common.{◌≡◌, ◌≢◌, ◌⊎◌, ℕ, zero, suc, true, false, ◌+◌, ◌<◌, ◌≤◌, inl, inr, List, [], ◌∷◌, Option, Some, None, map, set, length, refl, sym, ap, ap₂, ◌∙◌, subst, arith}
+use Rattle.std.proofs.Common.{◌≡◌, ◌≢◌, ◌⊎◌, ℕ, zero, suc, true, false, ◌+◌, ◌<◌, ◌≤◌, inl, inr, List, [], ◌∷◌, Option, Some, None, map, set, length, refl, sym, ap, ap₂, ◌∙◌, subst, arith, true≢false}
 use Rattle.std.specs.Prelude.{IfSome}
 use Rattle.std.proofs.lemmas.List.{length-set, get_or-set_same, get_or-set_other}
 use Rattle.yd_any.specs.Tree.{AnyTrees, no_trees, tree}
@@ -19,12 +19,13 @@ use Rattle.yd_index.specs.Line.{Lined}
 use Rattle.yd_index.proofs.LineLemmas.{lt_says}
 use Rattle.yd_index.proofs.LinesLemmas.{eq_says}
 use Rattle.yd_arena.specs.Arena.{IsArena}
-use Rattle.yd_marks.specs.Marks.{BeginsIn, IsBorder}
+use Rattle.yd_marks.specs.declared.mark.Mark.{Mark}
+use Rattle.yd_marks.specs.Marks.{mark_at, BeginsIn, IsBorder}
 use Rattle.yd_marks.proofs.BorderLemmas.{only_begins}
 use Rattle.yd_store.specs.declared.level.Level.{Level}
 use Rattle.yd_store.specs.declared.level.Level.TheVariants.{Gone, Deleted}
 use Rattle.yd_store.specs.Contents.{run_at}
-use Rattle.yd_store.specs.Store.{IsRunOf, AreTold}
+use Rattle.yd_store.specs.Store.{IsRunOf, AreTold, IsNoted, AreNoted}
 use Rattle.yd_store.specs.Units.{operations_told, operations_at}
 use Rattle.yd_store.specs.Lowering.{number_of, told_down, LowersClocks, LowersSpan, is_in_span, lowered_to, lowered_in}
 
@@ -99,6 +100,20 @@ told_lowered runs level old new span are lowers = record {
     | inr out ↦ subst (λ z. IfSome z (λ run. IsRunOf (stretch_at runs i) run)) (sym (lowers.others i out)) (are.fits i lt)
   ];
 }
+
+noted_down : (noted : Mark) (level : Level) (z : Option RunValue) → IsNoted noted (told_down level z)
+noted_down noted Gone z = tt
+noted_down noted Deleted None = tt
+noted_down noted Deleted (Some run) = λ alive full. absurd (true≢false full)
+
+-- no content says more of what is told less
+pub noted_lowered : (runs : List Stretch) (level : Level) (rows : List Mark) (old new : List (Option RunValue)) (span : Span) → length old ≡ length runs → AreNoted rows old → LowersSpan runs level old new span → AreNoted rows new
+noted_lowered runs level rows old new span each are lowers = λ i lt.
+    let il : i < length runs = omega (arith, lt, lowers.count, each) in
+    elim (begins_or (stretch_at runs i) span.client.0 span.clock (span.clock + span.len)) [
+      | inl b ↦ subst (IsNoted (mark_at rows i)) (sym (lowers.within i il b)) (noted_down (mark_at rows i) level (run_at old i))
+      | inr out ↦ subst (IsNoted (mark_at rows i)) (sym (lowers.others i out)) (are i (omega (arith, il, each)))
+    ]
 
 -- ---- the operations of a run that is told less
 

@@ -30,7 +30,8 @@ use Rattle.yd_marks.specs.declared.mark.Mark.{Mark}
 use Rattle.yd_marks.specs.Marks.{Marked, mark_at, live_of, live_at, total, with_more}
 use Rattle.yd_marks.proofs.CountLemmas.{counted_cut, counted_added, counted_loose}
 use Rattle.yd_store.specs.Contents.{Contented, told, told_of, counts, CanBeCut, run_at, told_before, told_behind, cut_runs, CanCut}
-use Rattle.yd_store.specs.Store.{IsRunOf, AreTold, IsStore, StandsIn, IsKeptRight, AddsRun}
+use Rattle.yd_store.specs.Store.{IsRunOf, AreTold, IsNoted, IsStore, StandsIn, IsKeptRight, AddsRun}
+use Rattle.yd_store.proofs.NotedLemmas.{noted_cut, noted_more}
 
 -- ---- a cut
 
@@ -128,6 +129,7 @@ pub store_cut : (old new : Placed) (marks more : Marked) (contents cut : Content
 store_cut old new marks more contents cut place n store lists within some inside cuts rows live runs = record {
   counted = rw (rows, live) (counted_cut old.linked new.linked marks.rows marks.live place n lists store.counted within (omega (arith, inside)) cuts.runs cuts.lists);
   told = rw (cuts.runs, runs) (are_told_cut (runs_of old) (told_of contents) store.told place n within some inside);
+  noted = rw (rows, runs) (noted_cut marks.rows (told_of contents) place n store.noted (omega (arith, store.counted.each, store.told.each)) (omega (arith, within, store.told.each)));
 }
 
 -- ---- a run more
@@ -146,17 +148,19 @@ module _ (runs : List Stretch) (told : List (Option RunValue)) (are : AreTold ru
   }
 
 pub store_added : (old new : Placed) (marks more : Marked) (contents grown : Contented) (list : ℕ) (stretch : Stretch) (mark : Mark) (z : Option RunValue) → IsStore old marks contents → AreLists old.linked → list < length old.linked.lists →
-    GrowsByRun old new list stretch → IfSome z (λ run. IsRunOf stretch run) → more.rows ≡ marks.rows ++ mark ∷ [] → more.live ≡ with_more marks.live (Some list) (live_of mark stretch.len) → told_of grown ≡ told_of contents ++ z ∷ [] → IsStore new more grown
-store_added old new marks more contents grown list stretch mark z store lists lt grows fits rows live runs = record {
+    GrowsByRun old new list stretch → IfSome z (λ run. IsRunOf stretch run) → IsNoted mark z → more.rows ≡ marks.rows ++ mark ∷ [] → more.live ≡ with_more marks.live (Some list) (live_of mark stretch.len) → told_of grown ≡ told_of contents ++ z ∷ [] → IsStore new more grown
+store_added old new marks more contents grown list stretch mark z store lists lt grows fits is_noted rows live runs = record {
   counted = rw (rows, live) (counted_added old.linked new.linked marks.rows marks.live stretch mark lists store.counted grows.runs list grows.after lt grows.count grows.place grows.others);
   told = rw (grows.runs, runs) (are_told_more (runs_of old) (told_of contents) store.told stretch z fits);
+  noted = rw (rows, runs) (noted_more marks.rows (told_of contents) mark z store.noted (omega (arith, store.counted.each, store.told.each)) is_noted);
 }
 
 pub store_loose : (old new : Placed) (marks more : Marked) (contents grown : Contented) (stretch : Stretch) (mark : Mark) (z : Option RunValue) → IsStore old marks contents → AreLists old.linked →
-    AddsLoose old new stretch → IfSome z (λ run. IsRunOf stretch run) → more.rows ≡ marks.rows ++ mark ∷ [] → more.live ≡ marks.live → told_of grown ≡ told_of contents ++ z ∷ [] → IsStore new more grown
-store_loose old new marks more contents grown stretch mark z store lists adds fits rows live runs = record {
+    AddsLoose old new stretch → IfSome z (λ run. IsRunOf stretch run) → IsNoted mark z → more.rows ≡ marks.rows ++ mark ∷ [] → more.live ≡ marks.live → told_of grown ≡ told_of contents ++ z ∷ [] → IsStore new more grown
+store_loose old new marks more contents grown stretch mark z store lists adds fits is_noted rows live runs = record {
   counted = rw (rows, live) (counted_loose old.linked new.linked marks.rows marks.live stretch mark lists store.counted adds.runs adds.lists);
   told = rw (adds.runs, runs) (are_told_more (runs_of old) (told_of contents) store.told stretch z fits);
+  noted = rw (rows, runs) (noted_more marks.rows (told_of contents) mark z store.noted (omega (arith, store.counted.each, store.told.each)) is_noted);
 }
 
 -- ---- room, and a list more
@@ -178,6 +182,7 @@ store_same old new marks more contents kept store es el rows live runs = record 
     sums = λ k kl. (let kold : k < length old.linked.lists = omega (arith, kl, ap length el) in rw (es, el) (store.counted.sums k kold));
   });
   told = rw (es, runs) store.told;
+  noted = rw (rows, runs) store.noted;
 }
 
 pub store_listed : (old new : Placed) (marks more : Marked) (contents kept : Contented) → IsStore old marks contents → new.linked.stretches ≡ old.linked.stretches → new.linked.lists ≡ old.linked.lists ++ [] ∷ [] →
@@ -195,6 +200,7 @@ store_listed old new marks more contents kept store es el rows live runs = recor
         ]));
   });
   told = rw (es, runs) store.told;
+  noted = rw (rows, runs) store.noted;
 }
 
 -- ---- where memory for a list is not found

@@ -7,7 +7,6 @@ use Rattle.yd_ids.specs.declared.id.Span.{Span}
 use Rattle.yd_words.specs.Member.{IsIn}
 use Rattle.yd_chains.specs.Chain.{before, behind}
 use Rattle.yd_chains.proofs.ChainLemmas.{has_place, around}
-use Rattle.yd_ops.specs.Operation.{Operation}
 use Rattle.yd_origins.specs.Table.{Row}
 use Rattle.yd_scan.specs.declared.stretch.Stretch.{Stretch}
 use Rattle.yd_scan.specs.Stretches.{stretch_at}
@@ -24,6 +23,7 @@ use Rattle.yd_store.specs.Contents.{Contented, told_of, run_at}
 use Rattle.yd_store.specs.Store.{Stored, IsRunOf, IsStore}
 use Rattle.yd_store.specs.Taking.{is_id_left, is_left, IsLeft, TakesBack, AreDead}
 use Rattle.yd_store.proofs.TakingLemmas.{id_passes, left_passes, taken_len, other_run, this_run, other_told, this_told}
+use Rattle.yd_store.proofs.NotedLemmas.{noted_emptied}
 
 -- ---- one after another
 
@@ -172,6 +172,7 @@ module _ (old new : Stored) (client place clock : ℕ) (store : IsStore old.plac
             (subst (λ (r : Stretch). IfSome (run_at (told_of old.contents) i) (λ run. IsRunOf r run)) (sym (other i y.1)) (store.told.fits i (omega (arith, lt, len_is))))
       ];
     };
+    noted = rw (rows, told) (noted_emptied old.marks.rows (told_of old.contents) place store.noted (omega (arith, takes.within, store.told.each)));
   }
 
   -- the others stay marked

@@ -56,10 +56,10 @@ one_torn id first left right list [] one e = absurd (omega (arith, one))
 one_torn id first left right list (u ∷ []) one e = ap (λ o. o ∷ []) (sym (torn_here id (record { id = first; left_origin = left; right_origin = right; list = list; content = u }) e))
 one_torn id first left right list (u ∷ v ∷ us) one e = absurd (omega (arith, one))
 
-known_torn : (stretch : Stretch) (z : Option RunValue) (id : Id) (o : Operation) → IfSome z (λ run. IsRunOf stretch run) → stretch.len ≡ 1 → stretch.id ≡ id → IsIn o (operations_told stretch z) → 0 < level_of o.content →
+known_torn : (stretch : Stretch) (z : Option RunValue) (id : Id) (o : Operation) → IfSome z (λ run. IsRunOf stretch run) → stretch.len ≡ 1 → stretch.id ≡ id → IsIn o (operations_told stretch z) → (unit : ℕ) → o.content ≡ text_unit unit →
     operations_told stretch (told_as (0xFFFD ∷ []) z) ≡ map (torn_at (Some id)) (operations_told stretch z)
-known_torn stretch None id o of one e h known = absurd (omega (arith, known, gone_level stretch.id stretch.len o h))
-known_torn stretch (Some run) id o of one e h known =
+known_torn stretch None id o of one e h unit known = absurd (omega (arith, ap level_of known, gone_level stretch.id stretch.len o h))
+known_torn stretch (Some run) id o of one e h unit known =
     one_torn id run.id run.left run.right run.list (units_of_content run.content) (length-units_of_content run.content ∙ of.len_is ∙ one) (of.id_is ∙ e)
 
 module _ (it new : Stored) (place : ℕ) (id : Id) (arena : IsArena it.placed.lines (runs_of it.placed)) (are : AreTold (runs_of it.placed) (told_of it.contents)) (lists : AreLists it.placed.linked)
@@ -76,7 +76,7 @@ module _ (it new : Stored) (place : ℕ) (id : Id) (arena : IsArena it.placed.li
       ap (λ (ts : List (Option RunValue)). operations_at runs ts place) told
       ∙ ap (operations_told (stretch_at runs place)) (get_or-set_same (told_of it.contents) place (told_as (0xFFFD ∷ []) (run_at (told_of it.contents) place)) None (omega (arith, has.within, are.each)))
       ∙ known_torn (stretch_at runs place) (run_at (told_of it.contents) place) id known.operation (are.fits place has.within) alone first
-      (in_at (operations_at runs (told_of it.contents) place) 0 known.operation (stands_at it place 0 id known.operation arena are has known.there known.id_is)) known.known
+      (in_at (operations_at runs (told_of it.contents) place) 0 known.operation (stands_at it place 0 id known.operation arena are has known.there known.id_is)) known.unit known.known
 
   other_place : (i : ℕ) → i < length runs → i ≢ place → operations_at runs (told_of new.contents) i ≡ map (torn_at (Some id)) (operations_at runs (told_of it.contents) i)
   other_place i lt ne =
@@ -116,7 +116,7 @@ tears_half it new place before id units arena are lists has alone one told place
 -- ---- what is known of a half stays
 
 pub known_kept : (old new : Stored) (id : Id) → KeepsUnits old new → IsKnown old id → IsKnown new id
-known_kept old new id k known = record { operation = known.operation; there = (k.operations known.operation).1 known.there; id_is = known.id_is; known = known.known }
+known_kept old new id k known = record { operation = known.operation; there = (k.operations known.operation).1 known.there; id_is = known.id_is; unit = known.unit; known = known.known }
 
 pub alone_kept : (old new : Stored) (id : Id) → KeepsUnits old new → IsAlone old id → IsAlone new id
 alone_kept old new id k alone = record {
@@ -125,19 +125,19 @@ alone_kept old new id k alone = record {
   back = k.borders id.client.0 (id.clock + 1) alone.back;
 }
 
-torn_id : (z : Option Id) (o : Operation) → ((torn_at z o).id ≡ o.id) × (0 < level_of o.content → 0 < level_of (torn_at z o).content)
-torn_id None o = (refl, (λ known. known))
-torn_id (Some id) o = elim (same_says o.id id) [
-  | inl t ↦ rw t.0 (refl, (λ known. omega arith))
-  | inr f ↦ rw f.0 (refl, (λ known. known))
+torn_id : (z : Option Id) (o : Operation) (unit : ℕ) → o.content ≡ text_unit unit → ((torn_at z o).id ≡ o.id) × (more : ℕ) × ((torn_at z o).content ≡ text_unit more)
+torn_id None o unit known = (refl, unit, known)
+torn_id (Some id) o unit known = elim (same_says o.id id) [
+  | inl t ↦ rw t.0 (refl, 0xFFFD, refl)
+  | inr f ↦ rw f.0 (refl, unit, known)
 ]
 
 pub alone_torn : (old new : Stored) (z : Option Id) (id : Id) → MapsUnits old new (torn_at z) → IsAlone old id → IsAlone new id
 alone_torn old new z id m alone =
     let k = alone.known in
-    let t = torn_id z k.operation in
+    let t = torn_id z k.operation k.unit k.known in
     record {
-      known = record { operation = torn_at z k.operation; there = m.is k.operation k.there; id_is = t.0 ∙ k.id_is; known = t.1 k.known };
+      known = record { operation = torn_at z k.operation; there = m.is k.operation k.there; id_is = t.0 ∙ k.id_is; unit = t.1; known = t.2 };
       front = m.borders id.client.0 id.clock alone.front;
       back = m.borders id.client.0 (id.clock + 1) alone.back;
     }

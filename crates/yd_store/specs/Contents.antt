@@ -62,3 +62,8 @@ abbrev pub counts : ContentValue → Bool
 counts (format key value) = false
 counts (deleted count) = false
 counts content = true
+
+-- whether a content is told as deleted
+abbrev pub is_lowered : ContentValue → Bool
+is_lowered (deleted count) = true
+is_lowered content = false

@@ -1,11 +1,11 @@
 -- The halves of a pair in a store, and what becomes of one whose partner is told less (that it becomes U+FFFD is own).
-use Rattle.std.specs.Prelude.{◌≡◌, ◌⊎◌, ◌<◌, ◌+◌, ℕ, zero, suc, List, [], ◌∷◌, Option, Some, None, slice_get, if◌then◌else◌}
+use Rattle.std.specs.Prelude.{◌≡◌, ◌⊎◌, ◌+◌, ℕ, zero, suc, List, [], ◌∷◌, Option, Some, None, slice_get, if◌then◌else◌}
 use Rattle.yd_ids.specs.declared.id.Id.{Id}
 use Rattle.yd_ids.specs.declared.id.Span.{Span}
 use Rattle.yd_ids.specs.Ids.{is_same}
 use Rattle.yd_ids.specs.Span.{InSpan}
 use Rattle.yd_ops.specs.Value.{ContentValue, json, binary, string, embed, format, nested, any, deleted, RunValue}
-use Rattle.yd_ops.specs.Operation.{text_unit, Operation, ArePartners, level_of, later_id}
+use Rattle.yd_ops.specs.Operation.{text_unit, Operation, ArePartners, later_id}
 use Rattle.yd_store.specs.declared.halves.Torn.{Torn}
 use Rattle.yd_store.specs.declared.halves.TextUnit.{TextUnit}
 use Rattle.yd_store.specs.Store.{Stored}
@@ -71,14 +71,15 @@ pub record HasText (it : Stored) (id : Id) (text : TextUnit) : Type 0 where
   pub content_is : operation.content ≡ text_unit text.unit
   pub left_is : operation.left_origin ≡ text.left
 
--- more than its id is told of the unit with the id
+-- the unit with the id is told, and is of a text
 pub record IsKnown (it : Stored) (id : Id) : Type 0 where
   pub operation : Operation
   pub there : HasOperation it operation
   pub id_is : operation.id ≡ id
-  pub known : 0 < level_of operation.content
+  pub unit : ℕ
+  pub known : operation.content ≡ text_unit unit
 
--- more than its id is told of the unit with the id, and it is a run of its own
+-- the unit with the id is of a text, and it is a run of its own
 pub record IsAlone (it : Stored) (id : Id) : Type 0 where
   pub known : IsKnown it id
   pub front : IsBorderAt it id
@@ -100,3 +101,19 @@ half_of (Some t) = Some t.half
 abbrev pub told_as : List ℕ → Option RunValue → Option RunValue
 told_as units None = None
 told_as units (Some run) = Some (record { id = run.id; left = run.left; right = run.right; list = run.list; content = string units })
+
+-- a content is a text
+abbrev pub IsString : ContentValue → Type 0
+IsString (string units) = Unit {0}
+IsString (json values) = ⊥
+IsString (binary blob) = ⊥
+IsString (embed t) = ⊥
+IsString (format key t) = ⊥
+IsString (nested kind) = ⊥
+IsString (any ts) = ⊥
+IsString (deleted count) = ⊥
+
+-- what a place tells is a text, if it tells anything
+abbrev pub HoldsText : Option RunValue → Type 0
+HoldsText None = Unit {0}
+HoldsText (Some run) = IsString run.content

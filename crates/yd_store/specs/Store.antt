@@ -7,8 +7,9 @@ use Rattle.yd_ops.specs.Value.{len_of, RunValue}
 use Rattle.yd_scan.specs.declared.stretch.Stretch.{Stretch}
 use Rattle.yd_scan.specs.Stretches.{stretch_at}
 use Rattle.yd_arena.specs.Arena.{Placed, runs_of, places_in, room_for, HasUnit, IsSame, CutsAt, GrowsByRun, AddsLoose}
+use Rattle.yd_marks.specs.declared.mark.Mark.{Mark}
 use Rattle.yd_marks.specs.Marks.{Marked, mark_at, live_of, with_more, AreCounted}
-use Rattle.yd_store.specs.Contents.{Contented, told_of, run_at, cut_runs, counts}
+use Rattle.yd_store.specs.Contents.{Contented, told_of, run_at, cut_runs, counts, is_lowered}
 
 -- the runs with their lists and their index, the marks, and what the runs hold
 pub record Stored : Type 0 where
@@ -28,10 +29,20 @@ pub record AreTold (runs : List Stretch) (told : List (Option RunValue)) : Type 
   pub each : length told ≡ length runs
   pub fits : (i : ℕ) → i < length runs → IfSome (run_at told i) (λ run. IsRunOf (stretch_at runs i) run)
 
+-- the mark of a run that is live says of its units what its content says, whether they count in lengths; once the run is told less, no content says it
+abbrev pub IsNoted : Mark → Option RunValue → Type 0
+IsNoted mark None = Unit {0}
+IsNoted mark (Some run) = mark.deleted ≡ false → is_lowered run.content ≡ false → mark.counted ≡ counts run.content
+
+-- so does the mark of each run
+abbrev pub AreNoted : List Mark → List (Option RunValue) → Type 0
+AreNoted rows told = (i : ℕ) → i < length told → IsNoted (mark_at rows i) (run_at told i)
+
 -- the parts of a store are of the same runs
 pub record IsStore (placed : Placed) (marks : Marked) (contents : Contented) : Type 0 where
   pub counted : AreCounted placed.linked marks.rows marks.live
   pub told : AreTold (runs_of placed) (told_of contents)
+  pub noted : AreNoted marks.rows (told_of contents)
 
 -- how many more runs of a client cannot fail
 abbrev pub spare_of : Stored → ℕ → ℕ

@@ -11,7 +11,7 @@ ghost use Rattle.yd_arena.specs.Lists.{AreLists, IsLoose};
 ghost use Rattle.yd_arena.specs.Arena.{runs_of, count_of, places_in, next_clock, HasUnit, IsArena};
 ghost use Rattle.yd_marks.specs.Marks.{AreCounted, mark_at, IsBorder, MarksSpan};
 ghost use Rattle.yd_store.specs.Contents.{told, told_of, run_at};
-ghost use Rattle.yd_store.specs.Store.{spare_of, AreTold, IsKept, KeepsRuns, SplitsAt, StandsIn, AddsRun};
+ghost use Rattle.yd_store.specs.Store.{spare_of, AreTold, AreNoted, IsKept, KeepsRuns, SplitsAt, StandsIn, AddsRun};
 ghost use Rattle.yd_store.specs.Units.{KeepsUnits, AddsUnits};
 ghost use Rattle.yd_store.specs.Taking.{TakesBack, AreDead};
 
@@ -108,13 +108,14 @@ impl Store {
         stands_in(&self.arena, list, id)
     }
 
-    /// That the index finds the runs, no list has a place twice, and each list counts the live units of
-    /// its runs, as facts for callers.
+    /// That the index finds the runs, no list has a place twice, each list counts the live units of
+    /// its runs, and marks say of runs what their contents say, as facts for callers.
     pub fn is_sound(&self)
         ensures arena { IsArena self.now.placed.lines (runs_of self.now.placed) }
         ensures lists { AreLists self.now.placed.linked }
         ensures told { AreTold (runs_of self.now.placed) (told_of self.now.contents) }
         ensures counted { AreCounted self.now.placed.linked self.now.marks.rows self.now.marks.live }
+        ensures noted { AreNoted self.now.marks.rows (told_of self.now.contents) }
     {
         let id = Id {
             client: Client(0),
@@ -190,6 +191,7 @@ impl Store {
 
     /// How many units of a list are live: those that counted in lengths when they were added, and
     /// are not marked as deleted. `lower` marks none: who spells units deleted marks them besides.
+    /// Then it is the number of the list's live operations (`law::live_is_counted`).
     pub fn live(&self, list: usize) -> u128
         requires { list < count_of self.now.placed }
         ensures { result ≡ get_or self.now.marks.live list 0 }

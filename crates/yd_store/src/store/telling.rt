@@ -7,7 +7,7 @@ ghost use Rattle.yd_marks.specs.Marks.{IsBorder};
 ghost use Rattle.yd_store.specs.Contents.{told_of, run_at};
 ghost use Rattle.yd_store.specs.Store.{spare_of, AreTold};
 ghost use Rattle.yd_store.specs.Lowering.{LowersSpan};
-ghost use Rattle.yd_store.specs.Halves.{told_as};
+ghost use Rattle.yd_store.specs.Halves.{HoldsText, told_as};
 
 use crate::level::Level;
 use crate::store::Store;
@@ -39,11 +39,12 @@ impl Store {
         self.contents.replacement()
     }
 
-    /// Lets a run of one unit hold a text of one unit, if it is told. It takes no memory.
+    /// Lets a run that is a text of one unit hold another, if it is told. It takes no memory.
     pub(crate) fn put_text(&mut self, place: usize, units: Units)
         requires place { place < length (runs_of self.old.placed) }
         requires alone { (stretch_at (runs_of self.old.placed) place).len ≡ 1 }
         requires one { length units ≡ 1 }
+        requires text { HoldsText (run_at (told_of self.old.contents) place) }
         ensures told { told_of self.new.contents ≡ slice_set (told_of self.old.contents) place
             (told_as units (run_at (told_of self.old.contents) place)) }
         ensures placed { self.new.placed ≡ self.old.placed }

@@ -8,7 +8,7 @@ pub invariant_of-self-2 : goal.invariant_of-self-2
 invariant_of-self-2 c =
     let kept = store_same c.self.inside.arena c.reserve_parts.new.arena c.self.inside.marks c.reserve_parts.new.marks c.self.inside.contents c.reserve_parts.new.contents c.self.invariant c.reserve_parts.ensures.kept.arena.runs c.reserve_parts.ensures.kept.arena.lists c.reserve_parts.ensures.kept.rows c.reserve_parts.ensures.kept.live (ap (map told) c.reserve_parts.ensures.kept.runs) in
     store_loose c.reserve_parts.new.arena c.add_loose-place.new.self c.reserve_parts.new.marks c.add.new.self c.reserve_parts.new.contents c.add-2.new.self _ _ None kept (lists_same c.self.inside.arena.linked c.reserve_parts.new.arena.linked c.reserve_parts.ensures.kept.arena.runs c.reserve_parts.ensures.kept.arena.lists c.reserve_parts.ensures.lists)
-    c.add_loose-place.ensures.done tt c.add.ensures.rows c.add.ensures.live (told_more c.reserve_parts.new.contents c.add-2.new.self None c.add-2.ensures.rows)
+    c.add_loose-place.ensures.done tt tt c.add.ensures.rows c.add.ensures.live (told_more c.reserve_parts.new.contents c.add-2.new.self None c.add-2.ensures.rows)
 
 pub returns-clause-units : goal.returns-clause-units
 returns-clause-units c =

@@ -15,7 +15,7 @@ invariant_of-self-2 c =
     store_added c.reserve_parts-room.new.arena c.add_run-place.new.self c.reserve_parts-room.new.marks c.add.new.self c.reserve_parts-room.new.contents c.add-2.new.self c.args.list _ _ (Some (run_value c.args.run)) kept (lists_same c.self.inside.arena.linked c.reserve_parts-room.new.arena.linked c.reserve_parts-room.ensures.kept.arena.runs c.reserve_parts-room.ensures.kept.arena.lists c.reserve_parts-room.ensures.lists)
     (rw c.reserve_parts-room.ensures.kept.arena.lists (rw (← c.self.view_is) at c.requires.list)) c.add_run-place.ensures.done
     (record { id_is = refl; len_is = sym c.len-len.ensures; left_is = refl; right_is = kept_is c.self.inside.arena c.args.list c.args.run.right c.kept_right-right.result c.kept_right-right.ensures })
-    c.add.ensures.rows c.add.ensures.live (told_more c.reserve_parts-room.new.contents c.add-2.new.self (Some c.args.run) c.add-2.ensures.rows)
+    (λ alive full. c.counts.ensures) c.add.ensures.rows c.add.ensures.live (told_more c.reserve_parts-room.new.contents c.add-2.new.self (Some c.args.run) c.add-2.ensures.rows)
 
 pub returns-clause-done : goal.returns-clause-done
 returns-clause-done c =
