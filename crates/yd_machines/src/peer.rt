@@ -1,6 +1,7 @@
 //! The client's core: one step for each event.
 
 ghost use Rattle.std.specs.Prelude.{◌≡◌, IfOk, IfErr, IfSome, OnErr};
+ghost use Rattle.std.specs.Borrow.{sem};
 ghost use Rattle.yd_ids.specs.Id.{IsClient};
 
 use crate::answering::vector_of;
@@ -33,6 +34,7 @@ impl Peer {
     ghost use Rattle.yd_ops.specs.View.{update_value};
     ghost use Rattle.yd_sync.specs.MessageReading.{message_reading};
     ghost use Rattle.yd_hub.specs.Peer.{edited, peer_after, received};
+    ghost use Rattle.yd_machines.specs.Lending.{LendsReplica};
     ghost use Rattle.yd_machines.specs.PeerStep.{AsksFirst, IsAnswer, IsProperEvent, RefusesEvent, TakesEvent, event_value, first_peer, peer_state, replica_of};
     ghost use Rattle.yd_machines.specs.Sent.{AreSendable, sent_in};
 
@@ -57,6 +59,16 @@ impl Peer {
         ensures { result.now ≡ replica_of self.now }
     {
         &self.replica
+    }
+
+    /// Its replica, to be edited. What is made there goes out once it is handed in as
+    /// `PeerEvent::Edited`. The peer ends with the replica as the caller leaves it, and else as it
+    /// was.
+    pub fn replica_mut(&mut self) -> &mut Replica
+        ensures* writes_back { sem 𝓛 (LendsReplica self.entry result) }
+        ensures replica { result.now ≡ replica_of self.old }
+    {
+        &mut self.replica
     }
 
     /// A step 2 was applied.
