@@ -10,6 +10,10 @@ has_yjs() {
   node -e 'require("yjs")' 2>/dev/null
 }
 
+has_protocols() {
+  node -e 'require("y-protocols/sync")' 2>/dev/null
+}
+
 has_provider() {
   node -e 'require("ws"); require("y-websocket")' 2>/dev/null
 }
@@ -33,6 +37,13 @@ if [ "${1:-}" = sockets ]; then
     { echo 'interop: no sockets, since the packages node-ws and node-y-websocket cannot be had here'; exit 0; }
   exec node sockets.js
 fi
-# The worked cases, and then the sessions; with a word only sessions whose names have it.
-[ $# -gt 0 ] || node cases.js || exit 1
+# The worked cases, a server among editors, and then the sessions; with a word only sessions whose names have it.
+if [ $# -eq 0 ]; then
+  node cases.js || exit 1
+  if has_protocols || { install node-y-protocols >/dev/null 2>&1 && has_protocols; }; then
+    node serve.js || exit 1
+  else
+    echo 'interop: no editors, since the package node-y-protocols cannot be had here'
+  fi
+fi
 exec node interop.js "$@"

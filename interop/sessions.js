@@ -337,4 +337,4 @@ function sessions() {
   return [false, true].flatMap(sessionsWith);
 }
 
-module.exports = { sessions };
+module.exports = { anyEdit, sessions };
