@@ -3,6 +3,7 @@
 // The cases of `ydoc edit`: Yjs shows of the update that ydoc makes by a script what it shows of its
 // own calls, and ydoc shows the same of it.
 
+const Y = require('yjs');
 const { difference, updateIn } = require('./convert.js');
 const { playedLine } = require('./edit_trees.js');
 const { mixedFiles, stateOf } = require('./files.js');
@@ -11,7 +12,7 @@ const { showCase } = require('./show.js');
 const { MODES } = require('./shown.js');
 
 /** How many lines a script has. */
-const LINES = 6;
+const LINES = 8;
 
 /** A client that no session has. */
 const NEW_CLIENT = 4000;
@@ -20,6 +21,7 @@ const WORDS = ['a', 'bc ', 'жук', '\n', '\u{1f642}', 'def\u{1f642}'];
 const KEYS = ['bold', 'link', 'size'];
 const VALUES = [true, null, 7, { to: 'x', at: [1, null] }, 'wide'];
 const EMBEDS = [{ image: 'x.png' }, { formula: 'a', size: 2 }];
+const MARKS = ['p', 'q'];
 
 /** The mode in which a root of each kind is compared. */
 const MODE_OF = { text: '--delta', array: '--array', map: '--map', fragment: '--tree' };
@@ -55,13 +57,29 @@ function placesOf(text) {
   return [...units.keys(), units.length].filter((at) => isWhole(at - 1) && isWhole(at));
 }
 
+/** Where what is kept under a name stands now in the text's document. */
+function indexOf(text, place) {
+  return Y.createAbsolutePositionFromRelativePosition(place, text.doc).index;
+}
+
+/** The names of the kept places at which no half of a character stands now. */
+function namesAt(text, kept, places) {
+  return [...kept.keys()].filter((name) => places.includes(indexOf(text, kept.get(name))));
+}
+
 /** A line by chance that is right for the text as it is. A range spans few of its places. */
-function lineFor(chance, root, text) {
+function lineFor(chance, root, text, kept) {
   const places = placesOf(text);
   const index = chance.pick(places);
   const ends = places.filter((at) => at > index).slice(0, 8);
-  const kind = chance.pick(ends.length > 0 ? Object.keys(PLAYED) : ['insert', 'embed']);
+  const names = namesAt(text, kept, places);
+  const kinds = ends.length > 0 ? Object.keys(PLAYED) : ['insert', 'embed'];
+  const kind = chance.pick([...kinds, 'mark', ...(names.length > 0 ? ['insertat'] : [])]);
   switch (kind) {
+    case 'mark':
+      return [kind, chance.pick(MARKS), root, index, chance.pick([0, -1])];
+    case 'insertat':
+      return [kind, chance.pick(names), chance.pick(WORDS)];
     case 'insert':
       return [kind, root, index, chance.pick(WORDS)];
     case 'embed':
@@ -73,12 +91,19 @@ function lineFor(chance, root, text) {
   }
 }
 
-/** Carries out a line by chance on a root that is a text, and gives the line. */
-function playedTextLine(chance, doc, root) {
+/** Carries out a line by chance on a root that is a text, and gives the line. Places are kept by name. */
+function playedTextLine(chance, doc, root, kept) {
   const text = doc.getText(root);
-  const line = lineFor(chance, root, text);
-  const [kind, , ...rest] = line;
-  PLAYED[kind](text, ...rest);
+  const line = lineFor(chance, root, text, kept);
+  const [kind, target, ...rest] = line;
+  if (kind === 'mark') {
+    const [, index, assoc] = rest;
+    kept.set(target, Y.createRelativePositionFromTypeIndex(text, index, assoc));
+  } else if (kind === 'insertat') {
+    text.insert(indexOf(text, kept.get(target)), ...rest);
+  } else {
+    PLAYED[kind](text, ...rest);
+  }
   return line;
 }
 
@@ -87,9 +112,10 @@ function played(session, root, files, client) {
   const doc = documentOf(session.roots, files);
   doc.clientID = client;
   const play = session.roots[root] === 'text' ? playedTextLine : playedLine;
+  const kept = new Map();
   const script = Array.from(
     { length: LINES },
-    () => `${JSON.stringify(play(session.chance, doc, root))}\n`,
+    () => `${JSON.stringify(play(session.chance, doc, root, kept))}\n`,
   );
   const shown = MODES[MODE_OF[session.roots[root]]](doc, root);
   return { script: Buffer.from(script.join('')), shown };

@@ -8,6 +8,7 @@ const KEYS = ['at', 'class', 'жук'];
 // The keys of an object come in the order of their bytes, in which ydoc writes them.
 const VALUES = [0, -7, 'x', 'жук', null, true, [], { at: [1, null], to: 'x' }];
 const WORDS = ['a', 'bc '];
+const MARKS = [['bold', true], ['bold', null], ['size', 7]];
 const KINDS = ['array', 'map', 'text', 'fragment', 'elementtext', ['element', 'p']];
 const XML_KINDS = ['elementtext', ['element', 'p'], ['element', 'br']];
 
@@ -29,6 +30,7 @@ function madeOf(kind) {
 const PLAYED = {
   insert: (type, index, words) => type.insert(index, words),
   delete: (type, index, length) => type.delete(index, length),
+  format: (type, index, length, key, value) => type.format(index, length, { [key]: value }),
   push: (type, index, values) => type.insert(index, values),
   child: (type, index, kind) => type.insert(index, [madeOf(kind)]),
   set: (type, key, value) => (type instanceof Y.Map ? type.set(key, value) : type.setAttribute(key, value)),
@@ -60,6 +62,17 @@ function typesIn(type, target) {
   return [[target, type], ...inside.flatMap(([step, { content }]) => typesIn(content.type, [...target, step]))];
 }
 
+/** The lines that a text can have, without its target: no text in these sessions' types has a pair. */
+function changesOfText(chance, text) {
+  const insert = ['insert', chance.below(text.length + 1), chance.pick(WORDS)];
+  if (text.length === 0) {
+    return [insert];
+  }
+  const index = chance.below(text.length);
+  const length = 1 + chance.below(text.length - index);
+  return [insert, ['delete', index, 1], ['format', index, length, ...chance.pick(MARKS)]];
+}
+
 /** The lines that a type can have, without its target. */
 function changesOf(chance, type) {
   const index = chance.below(type.length + 1);
@@ -77,7 +90,7 @@ function changesOf(chance, type) {
     case Y.XmlElement:
       return [children(XML_KINDS), set, ...fewer, ...unset];
     default:
-      return [['insert', chance.pick([0, type.length]), chance.pick(WORDS)]];
+      return changesOfText(chance, type);
   }
 }
 

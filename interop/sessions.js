@@ -322,12 +322,62 @@ function deletedTypes(gc) {
   return session.settled();
 }
 
+/**
+ * What was done is undone, and done again, by the undo manager of Yjs, while others edit on: text and
+ * marks, values, what stands under keys, and types that were deleted with all that lies in them.
+ */
+function undoing(gc) {
+  const roots = { tree: 'fragment', list: 'array', map: 'map', [ROOT]: 'text' };
+  const session = new Session('undoing', roots, [85, 86], gc);
+  const managers = session.documents.map((doc) => {
+    const types = [doc.getText(ROOT), doc.getArray('list'), doc.getMap('map'), doc.getXmlFragment('tree')];
+    return new Y.UndoManager(types, { captureTimeout: 0 });
+  });
+  const list = (at) => session.documents[at].getArray('list');
+  const map = (at) => session.documents[at].getMap('map');
+  const tree = (at) => session.documents[at].getXmlFragment('tree');
+  session.edit(0, insert(0, `one two ${SMILE} three`));
+  session.edit(1, () => list(1).insert(0, [1, Y.Array.from([2, 'b']), new Y.Map([['x', 7]])]));
+  session.edit(0, () => tree(0).insert(0, [new Y.XmlElement('p'), new Y.XmlText('words')]));
+  session.settle();
+  session.edit(0, remove(4, 7));
+  session.edit(0, (doc) => doc.getText(ROOT).format(0, 3, { bold: true }));
+  session.edit(1, insert(6, 'amid '));
+  session.settle();
+  managers[0].undo();
+  managers[0].undo();
+  managers[0].redo();
+  session.settle();
+  managers[0].undo();
+  session.edit(1, () => map(1).set('k', 1));
+  session.edit(1, () => map(1).set('k', { two: 2 }));
+  managers[1].undo();
+  session.edit(0, () => map(0).set('k', 'three'));
+  session.settle();
+  session.edit(1, () => map(1).delete('k'));
+  managers[1].undo();
+  session.edit(1, () => list(1).delete(0, 2));
+  session.settle();
+  managers[1].undo();
+  session.edit(0, () => list(0).push([3]));
+  session.settle();
+  session.edit(0, () => tree(0).get(0).setAttribute('class', 'wide'));
+  session.edit(0, () => tree(0).get(0).insert(0, [new Y.XmlText('inside')]));
+  session.edit(0, () => tree(0).delete(0, 1));
+  managers[0].undo();
+  session.settle();
+  managers[0].redo();
+  managers[0].undo();
+  managers[0].undo();
+  return session.settled();
+}
+
 /** All sessions of documents that collect, or of such that do not. */
 function sessionsWith(gc) {
   const ofTexts = [oneString, typing, samePlace, interleaving, endsOfText, deletions];
   const ofUnits = [pairs, lonelyHalves, longTexts];
   const ofSyncs = [partialSyncs, lostUpdates, severalRoots];
-  const ofContents = [formatting, listsAndMaps, elements, deletedTypes];
+  const ofContents = [formatting, listsAndMaps, elements, deletedTypes, undoing];
   const made = [...ofTexts, ...ofUnits, ...ofSyncs, ...ofContents].map((session) => session(gc));
   return [...made, ...[2, 3, 4].map((count) => byChance(gc, count))];
 }
