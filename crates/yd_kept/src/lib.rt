@@ -18,6 +18,8 @@
 mod changing;
 mod holding;
 mod kept;
+pub mod law;
+mod marking;
 mod placing;
 
 pub use kept::Kept;
