@@ -1,5 +1,5 @@
 -- The ids of a set, marked span by span.
-use Rattle.std.proofs.Common.{◌≡◌, ◌≢◌, ℕ, ◌+◌, ◌-◌, ◌<◌, ◌≤◌, inl, inr, List, [], ◌∷◌, ◌++◌, length, refl, sym, ap, ap₂, ◌∙◌, subst, append_assoc, append-nil, arith}
+use Rattle.std.proofs.Common.{◌≡◌, ℕ, ◌+◌, ◌-◌, ◌<◌, ◌≤◌, inl, inr, List, [], ◌∷◌, ◌++◌, length, refl, sym, ap, ap₂, ◌∙◌, subst, append_assoc, append-nil, arith}
 use Rattle.std.specs.Prelude.{◌↔◌, ◌⊎◌, flat_map}
 use Rattle.yd_words.specs.Each.{Each}
 use Rattle.yd_words.specs.Member.{IsIn}
@@ -19,8 +19,7 @@ use Rattle.yd_store.specs.Store.{Stored}
 use Rattle.yd_store.specs.Units.{operations_at, operations_in, HasOperation, KeepsUnits, HasMarked}
 use Rattle.yd_ops.specs.declared.lists.List.{List as DocList}
 use Rattle.yd_ops.specs.Operation.{Operation}
-use Rattle.yd_kept.specs.Kept.{KeptValue, StaysFilled, KeepsHeld}
-use Rattle.yd_kept.specs.Marking.{AreHeld, IsParted, AreParted, MarksUnits, MarksEach, DeletesEach, PartingAndMarkingDeletes}
+use Rattle.yd_kept.specs.Marking.{AreHeld, IsParted, AreParted, MarksUnits, MarksEach, PartingAndMarkingDeletes}
 use Rattle.yd_kept.proofs.ChangeLemmas.{further_both, rows_stay}
 
 -- ---- the next span
