@@ -1,0 +1,41 @@
+-- The lists of a store with names, in the words of the document that it tells (own).
+use Rattle.std.specs.Prelude.{◌≡◌, ◌↔◌, ◌+◌, true, List, [], Option, Some, None, map}
+use Rattle.yd_words.specs.Each.{Each}
+use Rattle.yd_ids.specs.declared.id.Id.{Id}
+use Rattle.yd_ids.specs.Id.{IsClient, IsClock}
+use Rattle.yd_ops.specs.declared.lists.List.{List as DocList}
+use Rattle.yd_ops.specs.Operation.{Operation}
+use Rattle.yd_meaning.specs.Document.{Document}
+use Rattle.yd_store.specs.Units.{HasMarked}
+use Rattle.yd_lending.specs.Lending.{Lent, lent, Walk, units_left}
+use Rattle.yd_lending.specs.declared.lent.LentRun.{LentRun}
+use Rattle.yd_filling.specs.Telling.{TellsLists}
+use Rattle.yd_kept.specs.Kept.{KeptValue}
+
+-- a store tells a document: it has the operations of each list under its name, and none under others, and it deletes what is marked
+pub record Tells (it : KeptValue) (document : Document) : Type 0 where
+  pub lists : TellsLists document it.names it.store
+  pub marks : (id : Id) → (document.deleted id ≡ true) ↔ HasMarked it.store id
+
+-- the operations of a document's list, in order, each as it is lent
+abbrev pub lent_units : Document → DocList → List Lent
+lent_units document list = map (λ (o : Operation). lent (document.deleted o.id) o) (document.units list)
+
+-- the units that a walk still has to come, and none where there is no walk
+abbrev pub units_to_come : Option Walk → List Lent
+units_to_come None = []
+units_to_come (Some walk) = units_left walk
+
+-- the id of a unit is in range, and so is the clock behind it
+pub record HasRoom (unit : Lent) : Type 0 where
+  pub client : IsClient unit.id.client
+  pub end : IsClock (unit.id.clock + 1)
+
+-- so it is with all that are still to come
+abbrev pub AreInRange : Option Walk → Type 0
+AreInRange walk = Each HasRoom (units_to_come walk)
+
+-- the ids of a run are in range
+pub record IsInRange (run : LentRun) : Type 0 where
+  pub client : IsClient run.id.client
+  pub ids : IsClock (run.id.clock + run.len)

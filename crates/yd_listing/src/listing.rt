@@ -1,0 +1,96 @@
+//! The units of a list with a name, lent in order.
+
+ghost use Rattle.std.specs.Prelude.{◌≡◌, ◌++◌, ◌<◌, [], Some, IfSome, IfNone, MatchOption, slice_get};
+ghost use Rattle.yd_ops.specs.declared.lists.List.{List as DocList};
+ghost use Rattle.yd_ops.specs.View.{content_value};
+ghost use Rattle.yd_ops.specs.Value.{len_of};
+ghost use Rattle.yd_meaning.specs.Document.{Document};
+ghost use Rattle.yd_arena.specs.Arena.{count_of};
+ghost use Rattle.yd_lending.specs.Lending.{units_of_run, units_left};
+ghost use Rattle.yd_deleting.specs.Falling.{IsTold};
+ghost use Rattle.yd_listing.specs.Listing.{Tells, lent_units, units_to_come, AreInRange, IsInRange};
+
+use std::marker::Model;
+use yd_kept::Kept;
+use yd_lending::{LentRun, ListWalk, walk};
+use yd_ops::List;
+
+/// The units of a list in order, seen as those that are still to come.
+#[derive(Drop)]
+pub struct ListView<'a> {
+    walk: Option<ListWalk<'a>>,
+}
+
+impl<'a> Model for ListView<'a> {
+    ghost use Rattle.std.specs.Prelude.{Option};
+    ghost use Rattle.yd_lending.specs.Lending.{Walk};
+    ghost use Rattle.yd_listing.specs.Listing.{AreInRange};
+    ghost use Rattle.yd_any.specs.contracts.any_value.AnyList as any_list;
+    ghost use Rattle.yd_any.specs.contracts.json_value.Json as json;
+    ghost use Rattle.std.specs.Coded.{codes};
+
+    ghost Value = { Option Walk };
+
+    ghost coded = { Prim.hlevel (codes, json.the_row.coded, any_list.the_row.coded) };
+
+    ghost view = { λ it. it.walk };
+
+    ghost invariant = { λ it. AreInRange it.walk };
+}
+
+/// The units of the list with a name, in order, deleted ones too, and none where there is no such
+/// list. It takes time with the logarithm of how many lists there are.
+pub fn list<'a>(kept: &'a Kept, name: &List) -> ListView<'a>
+    requires { IsTold kept.now }
+    ensures { (document : Document) → Tells kept.now document →
+        units_to_come result ≡ lent_units document name.now }
+{
+    match kept.number_of(name) {
+        Some(number) => list_at(kept, number),
+        None => ListView { walk: None },
+    }
+}
+
+/// The units of the list with a number, in order, deleted ones too. It takes a few steps.
+pub fn list_at(kept: &Kept, n: usize) -> ListView<'_>
+    requires told { IsTold kept.now }
+    requires within { n < count_of kept.now.store.placed }
+    ensures { (document : Document) → Tells kept.now document → (name : DocList) →
+        slice_get kept.now.names n ≡ Some name →
+        units_to_come result ≡ lent_units document name }
+{
+    ListView {
+        walk: Some(walk(kept.store(), n)),
+    }
+}
+
+impl<'a> ListView<'a> {
+    /// The next run's units, or none where no unit is left. It takes no memory, and a few steps.
+    pub fn next(&mut self) -> Option<LentRun<'a>>
+        ensures lends { MatchOption result (units_to_come self.old ≡ [])
+            (λ run. units_to_come self.old ≡ units_of_run run ++ units_to_come self.new) }
+        ensures some { IfSome result (λ run. 0 < run.len) }
+        ensures len { IfSome result (λ run. run.len ≡ len_of (content_value run.content.now)) }
+        ensures within { IfSome result IsInRange }
+        ensures ended { IfNone result (units_to_come self.new ≡ []) }
+    {
+        match &mut self.walk {
+            None => None,
+            Some(walk) => next_in_range(walk),
+        }
+    }
+}
+
+/// The next run of a walk, where the ids of all units that are still to come are in range.
+fn next_in_range<'a>(walk: &mut ListWalk<'a>) -> Option<LentRun<'a>>
+    requires { AreInRange (Some walk.old) }
+    ensures lends { MatchOption result (units_left walk.old ≡ [])
+        (λ run. units_left walk.old ≡ units_of_run run ++ units_left walk.new) }
+    ensures some { IfSome result (λ run. 0 < run.len) }
+    ensures len { IfSome result (λ run. run.len ≡ len_of (content_value run.content.now)) }
+    ensures within { IfSome result IsInRange }
+    ensures ended { IfNone result (units_left walk.new ≡ []) }
+    ensures still { AreInRange (Some walk.new) }
+{
+    walk.next()
+}
