@@ -41,7 +41,7 @@ filter-append test (x ∷ xs) ys = go (test x) (filter-append test xs ys)
     go true e = ap (λ zs. x ∷ zs) e
     go false e = e
 
-filter-none : (test : Id → Bool) (xs : List Id) → ((x : Id) → IsIn x xs → test x ≡ false) → filter test xs ≡ []
+pub filter-none : (test : Id → Bool) (xs : List Id) → ((x : Id) → IsIn x xs → test x ≡ false) → filter test xs ≡ []
 filter-none test [] none = refl
 filter-none test (x ∷ xs) none = rw (none x (inl refl)) (filter-none test xs (λ y i. none y (inr i)))
 
@@ -55,7 +55,7 @@ ids-filter test (r ∷ rs) = go (test r.id) (ids-filter test rs)
     go false e = e
 
 -- a scan puts in nothing that fails the test, so what passes it stands as before
-filter-scans : (left right : Id → Option Id) (test : Id → Bool) (news list : List Id) → ((x : Id) → IsIn x news → test x ≡ false) →
+pub filter-scans : (left right : Id → Option Id) (test : Id → Bool) (news list : List Id) → ((x : Id) → IsIn x news → test x ≡ false) →
     filter test (after_scans left right list news) ≡ filter test list
 filter-scans left right test [] list fails = refl
 filter-scans left right test (n ∷ ns) list fails =
@@ -67,7 +67,7 @@ filter-scans left right test (n ∷ ns) list fails =
     ∙ ap (filter test) (scan_moves_none left right list n)
 
 -- what comes in an arrangement is not there yet
-news_are_new : (table : OriginTable) (news l : List Id) → IsArrangement table l news → (x : Id) → IsIn x news → IsIn x l → ⊥
+pub news_are_new : (table : OriginTable) (news l : List Id) → IsArrangement table l news → (x : Id) → IsIn x news → IsIn x l → ⊥
 news_are_new table [] l a x i j = i
 news_are_new table (n ∷ ns) l a x (inl e) j = a.0 (subst (λ y. IsIn y l) e j)
 news_are_new table (n ∷ ns) l a x (inr i) j = news_are_new table ns (n ∷ l) a.5 x i (inr j)
