@@ -58,10 +58,10 @@ named_has (span ∷ spans) x e = elim (either (is_in_span span x) (is_named span
   | inr f ↦ inr (named_has spans x f)
 ]
 
-gone_has : (old besides : List Span) (x : Id) → is_gone old besides x ≡ true → IsGone old besides x
+pub gone_has : (old besides : List Span) (x : Id) → is_gone old besides x ≡ true → IsGone old besides x
 gone_has old besides x e = elim (either (is_named old x) (is_named besides x) e) [ inl i ↦ inl (named_has old x i) | inr i ↦ inr (named_has besides x i) ]
 
-has_gone : (old besides : List Span) (x : Id) → IsGone old besides x → is_gone old besides x ≡ true
+pub has_gone : (old besides : List Span) (x : Id) → IsGone old besides x → is_gone old besides x ≡ true
 has_gone old besides x (inl h) = or_left (is_named old x) (is_named besides x) (has_named old x h)
 has_gone old besides x (inr h) = or_right (is_named old x) (is_named besides x) (has_named besides x h)
 
@@ -125,7 +125,7 @@ filter-append test (x ∷ xs) ys = go (test x) (filter-append test xs ys)
 -- ---- names
 
 -- a list with a name, or none
-find_name : (names : List DocList) (name : DocList) → ((n : ℕ) × (slice_get names n ≡ Some name)) ⊎ (IsIn name names → ⊥)
+pub find_name : (names : List DocList) (name : DocList) → ((n : ℕ) × (slice_get names n ≡ Some name)) ⊎ (IsIn name names → ⊥)
 find_name [] name = inr (λ i. i)
 find_name (l ∷ ls) name = elim (cases_Bool (same_list l name)) [
   | inl e ↦ inl (zero, ap (λ (m : DocList). Some m) ((same_list_decides l name).0 e))

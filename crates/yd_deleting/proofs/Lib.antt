@@ -1,6 +1,6 @@
 mod RunLemmas
 mod AddingLemmas
-mod LawLemmas
+pub mod LawLemmas
 mod QueueLemmas
 mod NotingLemmas
 mod OpeningLemmas

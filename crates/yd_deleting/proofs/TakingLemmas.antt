@@ -1,20 +1,22 @@
 -- What falls since units came, row by row.
-use Rattle.std.proofs.Common.{◌≡◌, ◌≢◌, ℕ, true, inl, inr, List, [], ◌∷◌, ◌++◌, Option, Some, None, Result, Ok, Err, refl, sym, ap, ◌∙◌, subst}
-use Rattle.std.specs.Prelude.{OnOk, slice_get}
+use Rattle.std.proofs.Common.{◌≡◌, ◌≢◌, ◌<◌, ℕ, true, inl, inr, List, [], ◌∷◌, ◌++◌, Option, Some, None, Result, Ok, Err, refl, sym, ap, ◌∙◌, subst, arith}
+use Rattle.std.specs.Prelude.{OnOk, IfSome, slice_get}
 use Rattle.yd_words.specs.Member.{IsIn}
 use Rattle.yd_words.proofs.MemberLemmas.{in_left_part, in_right_part, in_parts}
 use Rattle.yd_words.proofs.OptionLemmas.{some_is}
 use Rattle.yd_ids.specs.declared.id.Id.{Id}
 use Rattle.yd_ids.specs.declared.id.Span.{Span}
+use Rattle.yd_ids.specs.Id.{IsId}
 use Rattle.yd_ids.specs.Span.{InSpan}
 use Rattle.yd_ids.specs.Set.{HasId}
 use Rattle.yd_ops.specs.declared.lists.List.{List as DocList}
 use Rattle.yd_ops.specs.declared.lists.Parent.TheVariants.{Root, Item}
 use Rattle.yd_origins.specs.Deleted.{last_of}
 use Rattle.yd_meaning.specs.Names.{has_key, item_of_list, item_of_parent}
+use Rattle.yd_arena.specs.Arena.{count_of}
 use Rattle.yd_kept.specs.Kept.{KeptValue}
 use Rattle.yd_deleting.specs.declared.came.Came.{Came}
-use Rattle.yd_deleting.specs.Falling.{units_of_list, IsOutlived}
+use Rattle.yd_deleting.specs.Falling.{units_of_list, IsTold, IsCame, IsOutlived}
 use Rattle.yd_deleting.specs.Steps.{Adds, InSpanUnder, IsOtherUnder, MayFall, IsTaken, Takes, TakesAll}
 use Rattle.yd_deleting.proofs.AddingLemmas.{adds_none, adds_wider, adds_both, gone_kept}
 use Rattle.yd_deleting.proofs.OutlivingLemmas.{outlived_kept}
@@ -117,6 +119,17 @@ taking_goes_on it deleted front one old mid new was takes = record {
     | inr j ↦ elim j [ inl e ↦ subst (λ o. IsTaken it deleted o new) (sym e) takes.taken | inr w ↦ absurd w ]
   ];
 }
+
+-- the item of a list into which units came is an id
+pub item_is : (it : KeptValue) (one : Came) (number : ℕ) (name : DocList) → IsTold it → IsCame it one → one.list ≡ Some number → slice_get it.names number ≡ Some name →
+    IfSome (item_of_list name) IsId
+item_is it one number name told came is named = told.items number name first named (there first (refl, omega arith, omega (arith, came.some)))
+  where
+    first : Id
+    first = record { client = one.span.client; clock = one.span.clock }
+
+    there : (x : Id) → InSpan one.span x → IsIn x (units_of_list it number)
+    there = (subst (λ z. IfSome z (λ n. (n < count_of it.store.placed) × ((x : Id) → InSpan one.span x → IsIn x (units_of_list it n)))) is came.list).1
 
 -- a span is added where the item of its list was deleted, and else not
 pub under_added : (deleted : List Span) (name : DocList) (span : Span) (item : Id) (old new : List Span) → item_of_list name ≡ Some item → HasId deleted item →

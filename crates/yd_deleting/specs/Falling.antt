@@ -20,15 +20,16 @@ use Rattle.yd_deleting.specs.declared.came.Came.{Came}
 abbrev pub units_of_list : KeptValue → ℕ → List Id
 units_of_list it n = units_in it.store.placed n
 
--- no unit of a list is gone, each has a client's id, and so has the item of a list
+-- no unit of a list is gone, each has a client's id, and so has the item of a list that has a unit
 pub record IsTold (it : KeptValue) : Type 0 where
   pub told : (n : ℕ) → n < count_of it.store.placed → HasNoGone it.store n
   pub clients : (n : ℕ) (x : Id) → n < count_of it.store.placed → IsIn x (units_of_list it n) → IsClient x.client
-  pub items : (n : ℕ) (name : DocList) → slice_get it.names n ≡ Some name → IfSome (item_of_list name) IsId
+  pub items : (n : ℕ) (name : DocList) (x : Id) → slice_get it.names n ≡ Some name → IsIn x (units_of_list it n) → IfSome (item_of_list name) IsId
 
--- units that came stand in their list, if they have one
+-- units that came are some, and stand in their list, if they have one
 pub record IsCame (it : KeptValue) (one : Came) : Type 0 where
   pub span : IsSpan one.span
+  pub some : 0 < one.span.len
   pub list : IfSome one.list (λ n. (n < count_of it.store.placed) × ((x : Id) → InSpan one.span x → IsIn x (units_of_list it n)))
 
 -- an id came into the list with a number, or into none

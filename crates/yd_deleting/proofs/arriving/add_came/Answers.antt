@@ -5,12 +5,16 @@ use Rattle.yd_ids.specs.declared.id.Id.{Id}
 use Rattle.yd_ids.specs.Span.{InSpan}
 use Rattle.yd_arena.specs.Arena.{count_of}
 use Rattle.yd_deleting.specs.Falling.{units_of_list}
-use Rattle.yd_deleting.proofs.TakingLemmas.{lost_taken, takes_listed}
+use Rattle.yd_deleting.proofs.TakingLemmas.{lost_taken, item_is, takes_listed}
 use Rattle.yd_deleting.proofs.arriving.add_came.Goals as goal
 
 pub returns-in_default : goal.returns-in_default
 returns-in_default c = lost_taken c.args.kept.now c.args.deleted.now c.args.one c.args.spans.now.items c.add_span.new.spans.items c.add_span.result c.in_default.is
     c.add_span.ensures.adds c.add_span.ensures.all
+
+pub add_under-requires-clause-item : goal.add_under-requires-clause-item
+add_under-requires-clause-item c = item_is c.args.kept.now c.args.one c.in-Some.number c.in-Some-name_at.name.now c.requires.told c.requires.came c.in-Some.is
+    (rw c.names.ensures at c.in-Some-name_at.ensures.found)
 
 pub returns : goal.returns
 returns c = takes_listed c.args.kept.now c.args.deleted.now c.args.one c.in-Some.number c.in-Some.is c.in-Some-name_at.name.now
