@@ -10,13 +10,12 @@ use Rattle.yd_ops.specs.Operation.{Operation}
 use Rattle.yd_origins.specs.Table.{Row, OriginTable, ids_of, left_of, right_of}
 use Rattle.yd_origins.specs.Growing.{GrowsByScan, IsClosed}
 use Rattle.yd_origins.proofs.ListTableLemmas.{own_member, own_list}
-use Rattle.yd_arena.specs.Lists.{AreLists}
-use Rattle.yd_arena.specs.Arena.{Placed, IsArena, runs_of, count_of, places_in, units_in, next_clock}
+use Rattle.yd_arena.specs.Arena.{Placed, runs_of, count_of, places_in, units_in, next_clock}
 use Rattle.yd_arena.specs.Rows.{rows_in}
 use Rattle.yd_arena.proofs.ArenaLemmas.{unit_below}
 use Rattle.yd_arena.proofs.RowLemmas.{ids-rows}
 use Rattle.yd_store.specs.Contents.{told_of}
-use Rattle.yd_store.specs.Store.{Stored, AreTold}
+use Rattle.yd_store.specs.Store.{Stored}
 use Rattle.yd_store.specs.Units.{operations_at, operations_in, HasOperation, HasMarked}
 use Rattle.yd_store.proofs.TakingLemmas.{at_below}
 use Rattle.yd_updates.specs.Received.{has_operation, IsWritten}
@@ -30,6 +29,7 @@ use Rattle.yd_filling.specs.Placing.{IsRowOf, HasRowsBelow}
 use Rattle.yd_filling.specs.Filling.{FillsLists, GrowsFrom}
 use Rattle.yd_filling.proofs.FillingLemmas.{within_names, slice_below, filling_goes_on}
 use Rattle.yd_kept.specs.Kept.{StaysFilled}
+use Rattle.yd_placing.specs.Back.{IsSound}
 
 -- ---- rows of a table
 
@@ -63,12 +63,6 @@ in_flat f (p ∷ ps) x i = elim (in_parts x (f p) (flat_map f ps) i) [
   | inl j ↦ (p, inl refl, j)
   | inr j ↦ let (q, k, l) = in_flat f ps x j in (q, inr k, l)
 ]
-
--- what is known of a store that is sound
-pub record IsSound (it : Stored) : Type 0 where
-  pub arena : IsArena it.placed.lines (runs_of it.placed)
-  pub lists : AreLists it.placed.linked
-  pub told : AreTold (runs_of it.placed) (told_of it.contents)
 
 pub has_below : (it : Stored) → IsSound it → (o : Operation) → HasOperation it o → o.id.clock < next_clock it.placed o.id.client.0
 has_below it s o h = at_below it h.place o s.arena s.told h.within h.member

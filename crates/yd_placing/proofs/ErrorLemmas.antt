@@ -1,6 +1,7 @@
 -- Where an entry found no memory and those before it are taken out again, no unit has changed.
-use Rattle.std.proofs.Common.{◌≡◌, ℕ, ◌<◌, ◌≤◌, false, List, [], ◌∷◌, inl, inr, Some, length, take, refl, sym, ap, ◌∙◌, arith}
+use Rattle.std.proofs.Common.{◌≡◌, ℕ, ◌<◌, ◌≤◌, false, List, [], ◌∷◌, inl, inr, Some, length, take, refl, sym, ap, ◌∙◌, subst, arith}
 use Rattle.std.specs.Prelude.{◌↔◌, filter, slice_get}
+use Rattle.std.proofs.lemmas.List.{take_all}
 use Rattle.yd_words.proofs.FilterLemmas.{filter-all}
 use Rattle.yd_words.proofs.TestLemmas.{split, test_fails}
 use Rattle.yd_ids.specs.declared.id.Id.{Id}
@@ -19,16 +20,16 @@ use Rattle.yd_growing.specs.Grown.{table_in}
 use Rattle.yd_filling.specs.Back.{is_below, GoesBack, IsFilledAgain}
 use Rattle.yd_filling.proofs.BackLemmas.{below_is, is_below-true, going_back_is_again}
 use Rattle.yd_filling.proofs.GoingLemmas.{going_back_goes_on}
-use Rattle.yd_filling.proofs.FillingLemmas.{slice_below}
+use Rattle.yd_filling.proofs.FillingLemmas.{slice_below, filling_goes_on}
 use Rattle.yd_kept.specs.Kept.{KeptValue, FillsFurther, KeepsHeld}
 use Rattle.yd_kept.proofs.ChangeLemmas.{further_both}
 use Rattle.yd_received.specs.Received.{held_of}
 use Rattle.yd_held.specs.Held.{HeldValue, HoldsAll}
 use Rattle.yd_held.specs.Turn.{AreHeldInTurn}
 use Rattle.yd_held.proofs.KeptLemmas.{holds_holding}
-use Rattle.yd_placing.specs.Back.{is_unit_below, CanBeTakenOut, TakesOut}
+use Rattle.yd_placing.specs.Back.{is_unit_below, CanBeTakenOut, TakesOut, IsSound, CanBeUndone}
 use Rattle.yd_placing.specs.Placing.{CanBePlaced}
-use Rattle.yd_placing.proofs.BackLemmas.{rows_same, IsSound, has_below, mark_below, list_below, stays_filled}
+use Rattle.yd_placing.proofs.BackLemmas.{rows_same, has_below, mark_below, list_below, stays_filled}
 use Rattle.yd_placing.proofs.InTurnLemmas.{turn_to, turn_rises}
 use Rattle.yd_placing.proofs.PlacingLemmas.{IsPlacing, all_written, stays_itself}
 
@@ -173,3 +174,31 @@ module _ (k : HeldValue) (holds : HoldsAll k) (order : List ℕ) (start cur mid 
         (λ m n name e f. again.fills.distinct m n name (ap (λ ns. slice_get ns m) (sym out.names) ∙ e) (ap (λ ns. slice_get ns n) (sym out.names) ∙ f))
         rows_stay no_rows nexts start.store back.store refl refl;
   }
+
+-- ---- all of them
+
+-- nothing changed
+pub keeps_itself : (it : KeptValue) → KeepsHeld it it
+keeps_itself it = record {
+  count = omega arith;
+  names = λ n name e. e;
+  lists = λ list lt. refl;
+  rows = λ list lt. refl;
+  made = λ list le lt. absurd (omega (arith, le, lt));
+  operations = λ o. ((λ h. h), (λ h. h));
+  marks = λ id. ((λ m. m), (λ m. m));
+  nexts = λ client. refl;
+  borders = λ client clock border. border;
+  filled = λ held w filled. record { fills = filled; grows = filling_goes_on.start held it.names it.store.placed };
+}
+
+-- what was placed can be taken out again, all of it, and then no unit has changed
+pub can_be_undone : (k : HeldValue) → HoldsAll k → (order : List ℕ) (start cur : KeptValue) (done : ℕ) → CanBePlaced k order start → IsPlacing k order start cur done →
+    length order ≤ done → IsSound start.store → CanBeUndone k order start cur
+can_be_undone k holds order start cur done can is all sound = record {
+  can = subst (λ ns. CanBeTakenOut k ns cur) whole (can_be_taken k order start cur cur done is (keeps_itself cur));
+  undone = λ back sound_back out. as_before k holds order start cur cur back done can is (keeps_itself cur) (subst (λ ns. TakesOut k ns cur back) (sym whole) out) sound sound_back;
+}
+  where
+    whole : take done order ≡ order
+    whole = take_all done order all

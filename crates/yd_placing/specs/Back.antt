@@ -3,12 +3,14 @@ use Rattle.std.specs.Prelude.{◌≡◌, ◌<◌, ℕ, Bool, false, List, Some, 
 use Rattle.yd_words.specs.Member.{IsIn}
 use Rattle.yd_ids.specs.declared.id.Id.{Id}
 use Rattle.yd_ops.specs.Operation.{Operation}
-use Rattle.yd_arena.specs.Arena.{Placed, runs_of, count_of, next_clock}
+use Rattle.yd_arena.specs.Lists.{AreLists}
+use Rattle.yd_arena.specs.Arena.{Placed, IsArena, runs_of, count_of, next_clock}
 use Rattle.yd_marks.specs.Marks.{IsBorder}
-use Rattle.yd_store.specs.Store.{Stored}
+use Rattle.yd_store.specs.Contents.{told_of}
+use Rattle.yd_store.specs.Store.{Stored, AreTold}
 use Rattle.yd_store.specs.Units.{operations_in, HasOperation, HasMarked}
 use Rattle.yd_filling.specs.Back.{is_below, HasGoneBack}
-use Rattle.yd_kept.specs.Kept.{KeptValue}
+use Rattle.yd_kept.specs.Kept.{KeptValue, KeepsHeld}
 use Rattle.yd_entries.specs.declared.entry.Entry.{Entry}
 use Rattle.yd_held.specs.Held.{HeldValue}
 use Rattle.yd_held.specs.Turn.{AreHeldInTurn}
@@ -45,3 +47,14 @@ pub record TakesOut (k : HeldValue) (order : List ℕ) (old new : KeptValue) : T
   pub leaves : LeavesBelow old.store new.store
   pub nexts : (clocks : ℕ → ℕ) → AreHeldInTurn k.received.runs k.received.entries clocks order (next_clock old.store.placed) →
       (client : ℕ) → next_clock new.store.placed client ≡ clocks client
+
+-- a store is sound: each unit is found by its id, no list has a place twice, and each place tells the units of its run
+pub record IsSound (it : Stored) : Type 0 where
+  pub arena : IsArena it.placed.lines (runs_of it.placed)
+  pub lists : AreLists it.placed.linked
+  pub told : AreTold (runs_of it.placed) (told_of it.contents)
+
+-- entries that were placed can be taken out again, and then no unit has changed
+pub record CanBeUndone (k : HeldValue) (order : List ℕ) (old new : KeptValue) : Type 0 where
+  pub can : CanBeTakenOut k order new
+  pub undone : (back : KeptValue) → IsSound back.store → TakesOut k order new back → KeepsHeld old back

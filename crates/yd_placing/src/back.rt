@@ -1,9 +1,20 @@
 //! Entries that are taken out again, the last one first.
 
-ghost use Rattle.yd_placing.specs.Back.{CanBeTakenOut, TakesOut};
+ghost use Rattle.yd_placing.specs.Back.{CanBeTakenOut, TakesOut, IsSound};
 
 use yd_held::Held;
 use yd_kept::Kept;
+
+/// Takes the units of entries out again, which [`place`](crate::place) put in. It takes no memory.
+pub fn put_out(kept: &mut Kept, held: &Held, order: &[usize])
+    requires { CanBeTakenOut held.now order.now kept.old }
+    ensures taken { TakesOut held.now order.now kept.old kept.new }
+    ensures sound { IsSound kept.new.store }
+{
+    take_out(kept, held, order);
+    // That the store is sound says that its units are found.
+    let _ = kept.store();
+}
 
 /// Takes the units of entries out again, which were placed in this order. It takes no memory.
 pub(crate) fn take_out(kept: &mut Kept, held: &Held, order: &[usize])

@@ -3,6 +3,7 @@
 ghost use Rattle.std.specs.Prelude.{OnOk, OnErr};
 ghost use Rattle.yd_received.specs.Received.{held_of};
 ghost use Rattle.yd_kept.specs.Kept.{KeepsHeld};
+ghost use Rattle.yd_placing.specs.Back.{CanBeUndone};
 ghost use Rattle.yd_placing.specs.Placing.{CanBePlaced, KeepsAll, PlacesAll};
 
 use crate::back::take_out;
@@ -18,6 +19,7 @@ pub fn place(kept: &mut Kept, held: &Held, order: &[usize]) -> Result<(), NoMemo
     requires { CanBePlaced held.now order.now kept.old }
     ensures all { OnOk result (KeepsAll (held_of held.now.received) kept.new) }
     ensures placed { OnOk result (PlacesAll held.now kept.old kept.new) }
+    ensures out { OnOk result (CanBeUndone held.now order.now kept.old kept.new) }
     ensures unchanged { OnErr result (KeepsHeld kept.old kept.new) }
 {
     // That both are sound says which clocks their units have.

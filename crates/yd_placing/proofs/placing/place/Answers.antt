@@ -1,5 +1,5 @@
 use Rattle.std.proofs.Common.{get_or, refl}
-use Rattle.yd_placing.proofs.ErrorLemmas.{can_be_taken, as_before}
+use Rattle.yd_placing.proofs.ErrorLemmas.{can_be_taken, as_before, can_be_undone}
 use Rattle.yd_placing.proofs.PlacingLemmas.{placing_none, next_is, placing_then, keeps_all, places_all}
 use Rattle.yd_placing.proofs.placing.place.Goals as goal
 
@@ -35,3 +35,8 @@ returns-clause-all c =
 pub returns-clause-placed : goal.returns-clause-placed
 returns-clause-placed c =
     places_all c.args.held.now c.received.ensures.holds c.args.order.now c.args.kept.now c.loop-done.kept c.loop-done.done c.requires c.loop-done.invariant c.loop-done-test.false
+
+pub returns-clause-out : goal.returns-clause-out
+returns-clause-out c =
+    can_be_undone c.args.held.now c.received.ensures.holds c.args.order.now c.args.kept.now c.loop-done.kept c.loop-done.done c.requires c.loop-done.invariant c.loop-done-test.false
+    (record { arena = c.store.ensures.arena; lists = c.store.ensures.lists; told = c.store.ensures.told })
