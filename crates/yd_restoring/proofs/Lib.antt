@@ -1,0 +1,9 @@
+mod AgainLemmas
+mod BeforeLemmas
+mod LeftLemmas
+mod LoopLemmas
+mod OwnLemmas
+mod PutLemmas
+mod ReplicaLemmas
+mod RowLemmas
+mod ShowsLemmas

@@ -1,0 +1,4 @@
+//! What is shown after an undo, and after an undo that is done again: laws alone.
+#![tactic(auto)]
+
+pub mod law;
