@@ -2,8 +2,11 @@ mod AgainLemmas
 mod BeforeLemmas
 mod LeftLemmas
 mod LoopLemmas
+mod MadeLemmas
 mod OwnLemmas
 mod PutLemmas
+mod RedoLemmas
 mod ReplicaLemmas
 mod RowLemmas
 mod ShowsLemmas
+mod TypeLemmas

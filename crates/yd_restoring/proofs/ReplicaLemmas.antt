@@ -1,8 +1,15 @@
 -- What an undo shows in a replica, by what it does to what this received.
-use Rattle.std.proofs.Common.{◌≡◌, List, None, sym, ap, ◌∙◌, subst}
+use Rattle.std.proofs.Common.{◌≡◌, true, List, None, sym, ap, ◌∙◌, subst}
 use Rattle.std.specs.Prelude.{filter}
 use Rattle.yd_words.specs.Each.{Each}
+use Rattle.yd_words.specs.Member.{IsIn}
 use Rattle.yd_words.proofs.EachLemmas.{each_weaker}
+use Rattle.yd_ids.specs.declared.id.Id.{Id}
+use Rattle.yd_ids.specs.declared.id.Span.{Span}
+use Rattle.yd_ids.specs.Set.{HasId}
+use Rattle.yd_ops.specs.declared.lists.List.{List as DocList}
+use Rattle.yd_ops.specs.Operation.{Operation}
+use Rattle.yd_ops.specs.Valid.{IsValidUpdate}
 use Rattle.yd_ops.specs.Value.{UpdateValue}
 use Rattle.yd_updates.specs.Received.{Received, received_after}
 use Rattle.yd_meaning.specs.Document.{Document, IsDocumentOf, document_of}
@@ -13,17 +20,21 @@ use Rattle.yd_editing.specs.Law.{MakesContent, after_edit}
 use Rattle.yd_editing.specs.Made.{update_of_edit}
 use Rattle.yd_editing.specs.Refused.{refusal_of}
 use Rattle.yd_editing.specs.Step.{Step, make, remove}
+use Rattle.yd_editing.specs.TextLaw.{IsQuietText}
+use Rattle.yd_copying.specs.Content.{can_be_made}
 use Rattle.yd_standing.specs.Standing.{stands_in, list_where}
 use Rattle.yd_making.specs.Steps.{IsProper}
 use Rattle.yd_doc.specs.Editing.{IsEdit}
 use Rattle.yd_doc.specs.Kept.{Kept, received_of, own_document}
 use Rattle.yd_undo.specs.declared.entry.Entry.{Entry}
+use Rattle.yd_undo.specs.Entry.{undo_entry}
 use Rattle.yd_undo.specs.Remade.{Seen, seen_of}
 use Rattle.yd_undo.specs.Steps.{undo_steps}
 use Rattle.yd_undo.proofs.ProperLemmas.{undo_proper}
 use Rattle.yd_text.proofs.ShowingLemmas.{basis_same}
 use Rattle.yd_restoring.specs.Again.{contents, AreAgain}
-use Rattle.yd_restoring.specs.Law.{UndosShow, shows_again}
+use Rattle.yd_restoring.specs.Law.{IsOfText, UndosShow, RedosShow, shows_again}
+use Rattle.yd_restoring.proofs.RedoLemmas.{quiet_then, of_then, same_contents}
 use Rattle.yd_restoring.proofs.ShowsLemmas.{seen_in, undo_shows}
 
 proper_makes : (step : Step) → IsProper step → MakesContent step
@@ -65,3 +76,62 @@ module _ (old new : Kept) (defined : IsDocumentOf (own_document old) (received_o
       (subst (λ (d : Document). AreAgain (contents (live_units (document_of (after_edit old.client before (undo_steps (seen_in old.client before) e))) name))
       (contents (filter (shows_again d e) (d.units name)))) (sym defined)
       (undo_shows old.client before name quiet e of (makes e update is) (done e update is)))
+
+-- an undo, and the undo of this
+module _ (old mid new : Kept) (defined : IsDocumentOf (own_document old) (received_of old)) (defined_mid : IsDocumentOf (own_document mid) (received_of mid))
+    (defined_new : IsDocumentOf (own_document new) (received_of new)) (groupable : AreGroupable (received_of old).operations)
+    (groupable_mid : AreGroupable (received_of mid).operations) where
+  module _ (name : DocList) (e : Entry) (noted : List Span) (undone redone : UpdateValue) (quiet : IsQuietText (received_of old) name) (of : IsOfText (received_of old) name e)
+      (dead : (x : Id) → HasId noted x → HasId (received_of old).deletes x)
+      (no_types : (o : Operation) → IsIn o (live_units (own_document old) name) → HasId e.inserted o.id → can_be_made o.content ≡ true)
+      (is : IsEdit old mid (undo_steps (seen_of old) e) undone) where
+    abbrev first : Received
+    first = received_of old
+
+    abbrev steps_first : List Step
+    steps_first = undo_steps (seen_in old.client (received_of old)) e
+
+    is_made : undone ≡ update_of_edit (basis_of old.client first) steps_first
+    is_made = made_is old mid defined defined_mid groupable e undone is
+
+    is_received : received_of mid ≡ after_edit old.client first steps_first
+    is_received = received_is old mid defined defined_mid groupable e undone is
+
+    makes_first : Each MakesContent steps_first
+    makes_first = makes old mid defined defined_mid groupable e undone is
+
+    done_first : refusal_of (basis_of old.client first) steps_first ≡ None
+    done_first = done old mid defined defined_mid groupable e undone is
+
+    valid : IsValidUpdate (update_of_edit (basis_of old.client first) steps_first)
+    valid = subst (λ (u : UpdateValue). IsValidUpdate u) is_made is.valid
+
+    no_types_first : (o : Operation) → IsIn o (live_units (document_of first) name) → HasId e.inserted o.id → can_be_made o.content ≡ true
+    no_types_first = subst (λ (d : Document). (o : Operation) → IsIn o (live_units d name) → HasId e.inserted o.id → can_be_made o.content ≡ true) defined no_types
+
+    quiet_mid : IsQuietText (received_of mid) name
+    quiet_mid = subst (λ (r : Received). IsQuietText r name) (sym is_received)
+        (quiet_then old.client first name quiet e of makes_first done_first valid noted dead no_types_first)
+
+    of_mid : IsOfText (received_of mid) name (undo_entry noted undone)
+    of_mid = subst (λ (r : Received). IsOfText r name (undo_entry noted undone)) (sym is_received)
+        (subst (λ (u : UpdateValue). IsOfText (after_edit old.client first steps_first) name (undo_entry noted u)) (sym is_made)
+        (of_then old.client first name quiet e of makes_first done_first valid noted dead no_types_first))
+
+    document_mid : own_document mid ≡ document_of (after_edit old.client first steps_first)
+    document_mid = defined_mid ∙ ap document_of is_received
+
+    shown_mid : contents (filter (shows_again (own_document mid) (undo_entry noted undone)) ((own_document mid).units name)) ≡ contents (live_units (own_document old) name)
+    shown_mid = (λ i. contents (filter (shows_again (document_mid i) (undo_entry noted (is_made i))) ((document_mid i).units name)))
+        ∙ same_contents old.client first name quiet e of makes_first done_first valid noted dead no_types_first
+        ∙ ap (λ (d : Document). contents (live_units d name)) (sym defined)
+
+    redone_shown : IsEdit mid new (undo_steps (seen_of mid) (undo_entry noted undone)) redone →
+        AreAgain (contents (live_units (own_document new) name)) (contents (live_units (own_document old) name))
+    redone_shown again = subst (λ us. AreAgain (contents (live_units (own_document new) name)) us) shown_mid
+        (undo_shown mid new defined_mid defined_new groupable_mid name (undo_entry noted undone) redone quiet_mid of_mid again)
+
+  -- ---- lemmas for callers
+
+  pub redo_shown : RedosShow old mid new
+  redo_shown name e noted undone redone quiet of dead no_types is again = redone_shown name e noted undone redone quiet of dead no_types is again

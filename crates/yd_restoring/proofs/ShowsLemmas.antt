@@ -5,6 +5,7 @@ use Rattle.std.specs.Prelude.{filter, IfSome, if◌then◌else◌}
 use Rattle.yd_words.specs.Each.{Each}
 use Rattle.yd_words.specs.Member.{IsIn}
 use Rattle.yd_words.proofs.FilterLemmas.{filter_alike}
+use Rattle.yd_words.proofs.TestLemmas.{both_hold}
 use Rattle.yd_ids.specs.declared.id.Client.{Client}
 use Rattle.yd_ids.specs.declared.id.Id.{Id}
 use Rattle.yd_ids.specs.Set.{HasId}
@@ -71,31 +72,38 @@ module _ (client : Client) (r : Received) (name : DocList) (quiet : IsQuietText 
   is : IsHonestHeld held
   is = honest_held r.operations quiet.received.written quiet.honest
 
-  is_below : (x : Id) → has_operation r.operations x ≡ true ↔ x.clock < held_clock held x.client.0
+  pub is_below : (x : Id) → has_operation r.operations x ≡ true ↔ x.clock < held_clock held x.client.0
   is_below x = subst (λ os. has_operation os x ≡ true ↔ x.clock < held_clock held x.client.0) quiet.whole (held_below r.operations quiet.received.written x.client x.clock)
 
   -- what is of the list is received
-  of_list : (x : Id) → IsIn x (order_of (standing held) name) → has_operation r.operations x ≡ true
+  pub of_list : (x : Id) → IsIn x (order_of (standing held) name) → has_operation r.operations x ≡ true
   of_list x i = subst (λ os. has_operation os x ≡ true) quiet.whole (held_id held is x ((in_list held is name x).0 i).0)
 
   -- what is removed: what the entry inserted and is live
-  removes : (x : Id) → HasId (removed_by steps) x ↔ (HasId e.inserted x × (is_live seen x ≡ true))
+  pub removes : (x : Id) → HasId (removed_by steps) x ↔ (HasId e.inserted x × (is_live seen x ≡ true))
   removes x = undo_removes seen e x
 
-  removed : (x : Id) → HasId (removed_by steps) x → IsIn x (order_of (standing (held_set r.operations)) name)
-  removed x h = of.inserted x ((removes x).0 h).0
+  -- what is live is held
+  live_held : (x : Id) → is_live seen x ≡ true → has_operation held x ≡ true
+  live_held x l = subst (λ os. has_operation os x ≡ true) (sym quiet.whole) ((is_below x).1 (below (both_hold (nat_lt x.clock (held_clock held x.client.0)) (not ((document_of r).deleted x)) l).0))
+    where
+      below : nat_lt x.clock (held_clock held x.client.0) ≡ true → x.clock < held_clock held x.client.0
+      below f = grind (arith, tests)
 
-  named_before : (o : Operation) → IsIn o units → (document_of r).deleted o.id ≡ is_named r.deletes o.id
+  pub removed : (x : Id) → HasId (removed_by steps) x → IsIn x (order_of (standing (held_set r.operations)) name)
+  removed x h = of.inserted x ((removes x).0 h).0 (live_held x ((removes x).0 h).1)
+
+  pub named_before : (o : Operation) → IsIn o units → (document_of r).deleted o.id ≡ is_named r.deletes o.id
   named_before o i = own_live held is (is_named r.deletes) name o i quiet.no_key (live_before r name (as_list r name quiet))
 
-  place : is_place seen name ≡ true
+  pub place : is_place seen name ≡ true
   place = go (item_of_list name) of.parent
     where
       go : (z : Option Id) → IfSome z (λ y. has_type_item (standing (held_set r.operations)) y ≡ true) → elim z [ None ↦ true | Some y ↦ seen.basis.has_type y ] ≡ true
       go None f = refl
       go (Some y) f = f
 
-  older : (o : Operation) → IsIn o units → o.id.client ≡ client → o.id.clock < start
+  pub older : (o : Operation) → IsIn o units → o.id.client ≡ client → o.id.clock < start
   older o i c = subst (λ (k : Client). o.id.clock < held_clock held k.0) c ((is_below o.id).0 (unit_received r name quiet o i))
 
   -- ---- what is made
@@ -104,17 +112,17 @@ module _ (client : Client) (r : Received) (name : DocList) (quiet : IsQuietText 
   list_is x f = let (a, b) = (in_list held is name x).0 (of.deleted x (named_has e.deleted x f)) in
       ap (λ t. if t then Some (list_of (standing held) x) else None) a ∙ ap (λ l. Some l) b
 
-  own : MakesIn name steps
+  pub own : MakesIn name steps
   own = remade_own seen name quiet.no_key e.deleted list_is
 
-  edit : EditIsTaken client r steps
+  pub edit : EditIsTaken client r steps
   edit = taken client r name quiet steps makes own removed done
 
   -- what a deletion names then is received
   named_received : (x : Id) → HasId r_after.deletes x → has_operation r.operations x ≡ true
   named_received x h = elim ((edit.deletes x).0 h) [ inl a ↦ quiet.deletes x a | inr b ↦ of_list x (removed x b) ]
 
-  fresh : (x : Id) → x.client ≡ client → start ≤ x.clock → live x ≡ true
+  pub fresh : (x : Id) → x.client ≡ client → start ≤ x.clock → live x ≡ true
   fresh x c le = ap not (false_from_ne_true (is_named r_after.deletes x) (λ f. never ((is_below x).0 (named_received x (named_has r_after.deletes x f)))))
     where
       never : x.clock < held_clock held x.client.0 → ⊥
@@ -133,7 +141,7 @@ module _ (client : Client) (r : Received) (name : DocList) (quiet : IsQuietText 
     (is_below x).0 (of_list x i),
   )
 
-  loop : Goes seen client start live fresh name quiet.no_key place (units_apart r name quiet) older (document_of r).units (is_named e.deleted) (λ y. false) start
+  pub loop : Goes seen client start live fresh name quiet.no_key place (units_apart r name quiet) older (document_of r).units (is_named e.deleted) (λ y. false) start
       (steps_of_groups seen e.deleted)
   loop = spans_go seen client start live fresh name quiet.no_key place (units_apart r name quiet) older e.deleted of.maximal own_dead (document_of r).units start (omega arith)
       (grown_first client start (is_named e.deleted) units)
@@ -141,7 +149,7 @@ module _ (client : Client) (r : Received) (name : DocList) (quiet : IsQuietText 
   no_keys : steps_of_keys seen e.deleted e.deleted ≡ []
   no_keys = keys_none seen name quiet.no_key e.deleted e.deleted list_is
 
-  evolved_is : evolved_by client r steps name ≡ loop.lists_then name
+  pub evolved_is : evolved_by client r steps name ≡ loop.lists_then name
   evolved_is = ap (λ (lists : DocList → List Operation). lists name) (loop.goes (steps_of_keys seen e.deleted e.deleted)
       ∙ ap (lists_after client loop.clock_then loop.lists_then) no_keys)
 
@@ -155,23 +163,31 @@ module _ (client : Client) (r : Received) (name : DocList) (quiet : IsQuietText 
       or_none true = refl
       or_none false = refl
 
-  named_after : (o : Operation) → IsIn o units → is_named r_after.deletes o.id ≡ (is_named r.deletes o.id || is_named e.inserted o.id)
+  -- what no deletion names is live, and what is live is not deleted
+  pub is_alive : (o : Operation) → IsIn o units → is_named r.deletes o.id ≡ false → is_live seen o.id ≡ true
+  is_alive o i a = (λ j. below j && not ((named_before o i ∙ a) j))
+    where
+      below : nat_lt o.id.clock (held_clock held o.id.client.0) ≡ true
+      below = let lt = (is_below o.id).0 (unit_received r name quiet o i) in grind (arith, tests)
+
+  pub live_not_deleted : (x : Id) → is_live seen x ≡ true → (document_of r).deleted x ≡ false
+  live_not_deleted x l = go ((document_of r).deleted x) (both_hold (nat_lt x.clock (held_clock held x.client.0)) (not ((document_of r).deleted x)) l).1
+    where
+      go : (t : Bool) → not t ≡ true → t ≡ false
+      go true f = sym f
+      go false f = refl
+
+  pub named_after : (o : Operation) → IsIn o units → is_named r_after.deletes o.id ≡ (is_named r.deletes o.id || is_named e.inserted o.id)
   named_after o i = elim (cases_Bool (is_named r.deletes o.id)) [
     | inl a ↦ has_named r_after.deletes o.id ((edit.deletes o.id).1 (inl (named_has r.deletes o.id a))) ∙ ap (λ t. t || is_named e.inserted o.id) (sym a)
     | inr a ↦ elim (cases_Bool (is_named e.inserted o.id)) [
-      | inl b ↦ has_named r_after.deletes o.id ((edit.deletes o.id).1 (inr ((removes o.id).1 (named_has e.inserted o.id b, alive a)))) ∙ rw (a, b) refl
+      | inl b ↦ has_named r_after.deletes o.id ((edit.deletes o.id).1 (inr ((removes o.id).1 (named_has e.inserted o.id b, is_alive o i a)))) ∙ rw (a, b) refl
       | inr b ↦ false_from_ne_true (is_named r_after.deletes o.id) (λ h. elim ((edit.deletes o.id).0 (named_has r_after.deletes o.id h)) [
         | inl k ↦ true≢false (sym (has_named r.deletes o.id k) ∙ a)
         | inr k ↦ true≢false (sym (has_named e.inserted o.id ((removes o.id).0 k).0) ∙ b)
       ]) ∙ rw (a, b) refl
     ]
   ]
-    where
-      below : nat_lt o.id.clock (held_clock held o.id.client.0) ≡ true
-      below = let lt = (is_below o.id).0 (unit_received r name quiet o i) in grind (arith, tests)
-
-      alive : is_named r.deletes o.id ≡ false → is_live seen o.id ≡ true
-      alive a = (λ j. below j && not ((named_before o i ∙ a) j))
 
   shown_before : counted live (is_named e.deleted) units ≡ contents (filter (shows_again (document_of r) e) units)
   shown_before = ap contents (filter_alike (counts live (is_named e.deleted)) (shows_again (document_of r) e) units (λ o i.
