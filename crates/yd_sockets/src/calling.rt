@@ -1,6 +1,10 @@
 //! The client's side: one connection is made.
 
+ghost use Rattle.std.specs.Prelude.{false, IfOk};
+ghost use Rattle.yd_sockets.specs.Lines.{IsNewLine};
+
 use crate::line::{is_no_memory, limits};
+use crate::link::Wire;
 use crate::stream::Stream;
 use std::alloc::{AllocError, Global};
 use std::net::{Net, OpenStream, SocketAddr, SocketAddrV4, TcpStream};
@@ -19,7 +23,9 @@ pub fn call<R: Net + RandomSource + Copy>(
     outside: &R,
     address: SocketAddrV4,
     text: &str,
-) -> Result<WebSocket<Stream<R::Stream>, RandomKeys<R>>, Outage> {
+) -> Result<WebSocket<Stream<Wire<R::Stream>>, RandomKeys<R>>, Outage>
+    ensures { IfOk result (IsNewLine false) }
+{
     let time = Duration::from_secs(MOST_SECONDS);
     let Ok(stream) = TcpStream::connect_timeout(outside, &SocketAddr::V4(address), time) else {
         return Err(Outage::Failed);
@@ -31,7 +37,7 @@ pub fn call<R: Net + RandomSource + Copy>(
         Ok(line) => line,
         Err(error) => return Err(outage_of(&error)),
     };
-    if line.get_ref().inner().set_nonblocking(true).is_err() {
+    if line.get_ref().inner().0.set_nonblocking(true).is_err() {
         return Err(Outage::Failed);
     }
     Ok(line)
@@ -43,13 +49,15 @@ fn shake<R: Net + RandomSource + Copy>(
     outside: &R,
     stream: R::Stream,
     text: &str,
-) -> Result<WebSocket<Stream<R::Stream>, RandomKeys<R>>, Error> {
+) -> Result<WebSocket<Stream<Wire<R::Stream>>, RandomKeys<R>>, Error>
+    ensures { IfOk result (IsNewLine false) }
+{
     let mut nonce = [0u8; 16];
     outside.fill_bytes(&mut nonce)?;
     let uri = uri_of(alloc, text)?;
     let request = request_of(alloc, uri.as_str())?;
     let keys = RandomKeys::new(*outside);
-    let stream = Stream::new(alloc, stream);
+    let stream = Stream::new(alloc, Wire(stream));
     let begun = start(alloc, nonce, keys, request, stream, Some(limits()))?;
     match begun.handshake() {
         Ok((line, _)) => Ok(line),

@@ -1,7 +1,11 @@
 //! Where connections come from: a listener, a call, or nothing.
 
+ghost use Rattle.std.specs.Prelude.{◌≡◌, IfOk};
+ghost use Rattle.yd_sockets.specs.Doors.{IsDoor, Sees};
+
 use crate::calling::call;
 use crate::entrance::{Entrance, Seen};
+use crate::link::Wire;
 use crate::stream::Stream;
 use std::alloc::Global;
 use std::net::{Net, SocketAddrV4};
@@ -18,7 +22,7 @@ pub enum Door<R: Net> {
     /// Connections come in.
     Open(Entrance<R>),
     /// One connection was made.
-    Called(WebSocket<Stream<R::Stream>, RandomKeys<R>>),
+    Called(WebSocket<Stream<Wire<R::Stream>>, RandomKeys<R>>),
 }
 
 impl<R: Net + Clock + RandomSource + Copy> Door<R> {
@@ -29,7 +33,9 @@ impl<R: Net + Clock + RandomSource + Copy> Door<R> {
         address: SocketAddrV4,
         text: &str,
         way: Way,
-    ) -> Result<Door<R>, Outage> {
+    ) -> Result<Door<R>, Outage>
+        ensures { IfOk result (IsDoor way) }
+    {
         match way {
             Way::Listen => {
                 let entrance = Entrance::open(alloc, outside, address)?;
@@ -47,18 +53,24 @@ impl<R: Net + Clock + RandomSource + Copy> Door<R> {
         &mut self,
         alloc: Global,
         outside: &R,
-    ) -> Result<Seen<R::Stream, RandomKeys<R>>, NoMemory> {
-        if let Door::Open(entrance) = self {
-            return entrance.look(alloc, outside);
-        }
-        match self.shut() {
-            Door::Called(line) => Ok(Seen::Entered(line)),
-            _ => Ok(Seen::Nobody),
+    ) -> Result<Seen<Wire<R::Stream>, RandomKeys<R>>, NoMemory>
+        ensures { IfOk result (Sees self.old self.new) }
+    {
+        match self {
+            Door::Shut => Ok(Seen::Nobody),
+            Door::Open(entrance) => entrance.look(alloc, outside),
+            Door::Called(_) => match self.shut() {
+                Door::Called(line) => Ok(Seen::Entered(line)),
+                _ => Ok(Seen::Nobody),
+            },
         }
     }
 
     // Shuts the door, and gives what it was.
-    fn shut(&mut self) -> Door<R> {
+    fn shut(&mut self) -> Door<R>
+        ensures shut { self.new ≡ Door.Shut }
+        ensures was { result ≡ self.old }
+    {
         std::mem::replace(self, Door::Shut)
     }
 }

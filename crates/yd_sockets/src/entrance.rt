@@ -1,10 +1,15 @@
 //! The server's side: connections come in, and make their handshakes.
 
+ghost use Rattle.std.specs.Prelude.{◌≡◌, [], IfOk, IfErr};
+ghost use Rattle.std.specs.VecDeque.{deque_items};
+ghost use Rattle.yd_world.specs.declared.fault.Outage.TheVariants.{Failed};
+ghost use Rattle.yd_sockets.specs.Doors.{EntersNew};
+
 use crate::line::{is_no_memory, limits};
+use crate::link::{Link, Wire};
 use crate::stream::Stream;
 use std::alloc::Global;
 use std::collections::VecDeque;
-use std::io::{Read, Write};
 use std::net::{Net, OpenListener, OpenStream, SocketAddr, SocketAddrV4, TcpListener};
 use std::random::RandomSource;
 use std::time::{Clock, Instant};
@@ -22,19 +27,19 @@ const MOST_ARRIVING: usize = 256;
 
 /// What was seen where connections come in.
 #[derive(Drop)]
-pub enum Seen<S, K> {
+pub enum Seen<L, K> {
     /// Nobody came.
     Nobody,
     /// Somebody came or went, and no connection stands by it.
     Somebody,
     /// A connection stands.
-    Entered(WebSocket<Stream<S>, K>),
+    Entered(WebSocket<Stream<L>, K>),
 }
 
 /// A connection whose handshake is under way.
 #[derive(Drop)]
-struct Arriving<S: Read + Write + Drop> {
-    handshake: MidHandshake<ServerHandshake<Stream<S>, NoCallback>>,
+struct Arriving<L: Link + Drop> {
+    handshake: MidHandshake<ServerHandshake<Stream<L>, NoCallback>>,
     since: Instant,
 }
 
@@ -42,12 +47,15 @@ struct Arriving<S: Read + Write + Drop> {
 #[derive(Drop)]
 pub struct Entrance<R: Net> {
     listener: R::Listener,
-    arriving: VecDeque<Arriving<R::Stream>>,
+    arriving: VecDeque<Arriving<Wire<R::Stream>>>,
 }
 
 impl<R: Net + Clock + RandomSource + Copy> Entrance<R> {
     /// Listens at the address.
-    pub fn open(alloc: Global, outside: &R, address: SocketAddrV4) -> Result<Entrance<R>, Outage> {
+    pub fn open(alloc: Global, outside: &R, address: SocketAddrV4) -> Result<Entrance<R>, Outage>
+        ensures empty { IfOk result (λ entrance. deque_items entrance.arriving ≡ []) }
+        ensures failed { IfErr result (λ outage. outage ≡ Failed) }
+    {
         let Ok(listener) = TcpListener::bind(outside, SocketAddr::V4(address)) else {
             return Err(Outage::Failed);
         };
@@ -65,7 +73,9 @@ impl<R: Net + Clock + RandomSource + Copy> Entrance<R> {
         &mut self,
         alloc: Global,
         outside: &R,
-    ) -> Result<Seen<R::Stream, RandomKeys<R>>, NoMemory> {
+    ) -> Result<Seen<Wire<R::Stream>, RandomKeys<R>>, NoMemory>
+        ensures { IfOk result EntersNew }
+    {
         let has_come = self.let_in(alloc, outside)?;
         for _ in 0..self.arriving.len() {
             if let Some(arriving) = self.arriving.pop_front() {
@@ -98,7 +108,7 @@ impl<R: Net + Clock + RandomSource + Copy> Entrance<R> {
         }
         let handshake = start(
             alloc,
-            Stream::new(alloc, stream),
+            Stream::new(alloc, Wire(stream)),
             NoCallback,
             Some(limits()),
         );
@@ -113,8 +123,10 @@ impl<R: Net + Clock + RandomSource + Copy> Entrance<R> {
         &mut self,
         alloc: Global,
         outside: &R,
-        arriving: Arriving<R::Stream>,
-    ) -> Result<Seen<R::Stream, RandomKeys<R>>, NoMemory> {
+        arriving: Arriving<Wire<R::Stream>>,
+    ) -> Result<Seen<Wire<R::Stream>, RandomKeys<R>>, NoMemory>
+        ensures { IfOk result EntersNew }
+    {
         let since = arriving.since;
         match arriving.handshake.handshake() {
             Ok(line) => {

@@ -18,6 +18,7 @@ mod door;
 mod entrance;
 mod held;
 mod line;
+mod link;
 mod look;
 mod sessions;
 mod socket_board;

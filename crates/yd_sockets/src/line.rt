@@ -1,8 +1,11 @@
 //! One connection: what comes on it, and what is sent on it.
 
-ghost use Rattle.std.specs.Prelude.{◌≡◌, IfOk, Some};
+ghost use Rattle.std.specs.Prelude.{◌≡◌, ◌<◌, true, false, length, IfOk, OnOk, Some};
+ghost use Rattle.std.specs.IoError.{error_kind};
 ghost use Rattle.yd_sockets.specs.Given.{IsWhatCame};
+ghost use Rattle.yd_sockets.specs.Lines.{SendsWhole, TellsNoMemory};
 
+use crate::link::Link;
 use crate::stream::Stream;
 use std::alloc::Global;
 use std::io;
@@ -35,6 +38,7 @@ pub enum Given {
 pub fn limits() -> WebSocketConfig
     ensures message { result.max_message_size ≡ Some 268435520 }
     ensures frame { result.max_frame_size ≡ Some 268435520 }
+    ensures masked { result.accept_unmasked_frames ≡ false }
 {
     WebSocketConfig::default()
         .read_buffer_size(READ_SIZE)
@@ -43,7 +47,10 @@ pub fn limits() -> WebSocketConfig
 }
 
 /// Whether a growth found no memory.
-pub fn is_no_memory(error: &Error) -> bool {
+pub fn is_no_memory(error: &Error) -> bool
+    ensures told { result ≡ true → TellsNoMemory error.now }
+    ensures other { TellsNoMemory error.now → result ≡ true }
+{
     match error {
         Error::OutOfMemory => true,
         Error::Io(cause) => is_kind_no_memory(cause),
@@ -51,7 +58,10 @@ pub fn is_no_memory(error: &Error) -> bool {
     }
 }
 
-fn is_kind_no_memory(error: &io::Error) -> bool {
+fn is_kind_no_memory(error: &io::Error) -> bool
+    ensures told { result ≡ true → error_kind error.now ≡ ErrorKind.OutOfMemory }
+    ensures other { error_kind error.now ≡ ErrorKind.OutOfMemory → result ≡ true }
+{
     match error.kind() {
         ErrorKind::OutOfMemory => true,
         _ => false,
@@ -70,11 +80,11 @@ enum Progress {
 }
 
 /// What came. After a text, or what is against the protocol, the peer is told why it is left.
-pub fn take<S: Read + Write + Drop, K: MaskKeys + Drop>(
+pub fn take<L: Link + Drop, K: MaskKeys + Drop>(
     alloc: Global,
-    line: &mut WebSocket<Stream<S>, K>,
+    line: &mut WebSocket<Stream<L>, K>,
 ) -> Result<Given, NoMemory>
-    ensures { IfOk result (λ given. IsWhatCame line.old line.new given) }
+    ensures { IfOk result (IsWhatCame ⟦<Stream<L> as Read>⟧.remaining line.old line.new) }
 {
     match line.read() {
         Ok(Message::Binary(bytes)) => {
@@ -100,8 +110,8 @@ pub fn take<S: Read + Write + Drop, K: MaskKeys + Drop>(
 }
 
 // What a read that failed says.
-fn after_error<S: Read + Write + Drop, K: MaskKeys + Drop>(
-    line: &mut WebSocket<Stream<S>, K>,
+fn after_error<L: Link + Drop, K: MaskKeys + Drop>(
+    line: &mut WebSocket<Stream<L>, K>,
     error: Error,
 ) -> Result<Progress, NoMemory> {
     if is_no_memory(&error) {
@@ -129,9 +139,7 @@ fn after_error<S: Read + Write + Drop, K: MaskKeys + Drop>(
 }
 
 // Whether some bytes of a message came.
-fn progress_of<S: Read + Write + Drop, K: MaskKeys + Drop>(
-    line: &mut WebSocket<Stream<S>, K>,
-) -> Progress {
+fn progress_of<L: Link + Drop, K: MaskKeys + Drop>(line: &mut WebSocket<Stream<L>, K>) -> Progress {
     if line.get_mut().take_moved() {
         Progress::Moved
     } else {
@@ -140,10 +148,7 @@ fn progress_of<S: Read + Write + Drop, K: MaskKeys + Drop>(
 }
 
 // Tells the peer by a code why it is left, if that can be sent.
-fn leave<S: Read + Write + Drop, K: MaskKeys + Drop>(
-    line: &mut WebSocket<Stream<S>, K>,
-    code: CloseCode,
-) {
+fn leave<L: Link + Drop, K: MaskKeys + Drop>(line: &mut WebSocket<Stream<L>, K>, code: CloseCode) {
     let frame = CloseFrame {
         code,
         reason: Utf8Bytes::from_static(""),
@@ -152,11 +157,13 @@ fn leave<S: Read + Write + Drop, K: MaskKeys + Drop>(
 }
 
 /// Sends a binary message. A failed send may have sent a part of it, and then no other send goes.
-pub fn send<S: Read + Write + Drop, K: MaskKeys + Drop>(
+pub fn send<L: Link + Drop, K: MaskKeys + Drop>(
     alloc: Global,
-    line: &mut WebSocket<Stream<S>, K>,
+    line: &mut WebSocket<Stream<L>, K>,
     bytes: &[u8],
-) -> Result<(), Outage> {
+) -> Result<(), Outage>
+    ensures { OnOk result (SendsWhole ⟦<Stream<L> as Write>⟧.contents line.old line.new bytes.now) }
+{
     let Ok(message) = Message::binary(alloc, bytes) else {
         return Err(Outage::NoMemory);
     };
@@ -172,12 +179,14 @@ pub fn send<S: Read + Write + Drop, K: MaskKeys + Drop>(
     }
 }
 
-/// Tells the peer why it is left, if that can be sent. Of the reason the first 120 bytes go.
-pub fn part<S: Read + Write + Drop, K: MaskKeys + Drop>(
+/// Tells the peer why it is left, if that can be sent. A longer reason than 120 bytes is not told.
+pub fn part<L: Link + Drop, K: MaskKeys + Drop>(
     alloc: Global,
-    line: &mut WebSocket<Stream<S>, K>,
+    line: &mut WebSocket<Stream<L>, K>,
     reason: &str,
-) {
+)
+    ensures { 120 < length reason.now → line.new ≡ line.old }
+{
     if reason.len() > 120 {
         return;
     }

@@ -6,21 +6,21 @@ ghost use Rattle.yd_sockets.specs.Numbers.{IsNowhere};
 
 use crate::line;
 use crate::line::Given;
+use crate::link::Link;
 use crate::stream::Stream;
 use std::alloc::Global;
-use std::io::{Read, Write};
 use std::marker::Model;
 use tungstenite::{MaskKeys, WebSocket};
 use yd_world::{NoMemory, Outage};
 
 /// Open sessions, seen as their numbers, in the order in which they came.
 #[derive(Drop)]
-pub struct Sessions<S, K> {
+pub struct Sessions<L, K> {
     numbers: Vec<u64>,
-    lines: Vec<WebSocket<Stream<S>, K>>,
+    lines: Vec<WebSocket<Stream<L>, K>>,
 }
 
-impl<S, K> Model for Sessions<S, K> {
+impl<L, K> Model for Sessions<L, K> {
     ghost use Rattle.std.specs.Prelude.{ℕ, List, ◌≡◌, length};
 
     ghost Value = { List ℕ };
@@ -30,9 +30,9 @@ impl<S, K> Model for Sessions<S, K> {
     ghost invariant = { λ s. length s.numbers.items ≡ length s.lines.items };
 }
 
-impl<S: Drop, K: Drop> Sessions<S, K> {
+impl<L: Drop, K: Drop> Sessions<L, K> {
     /// No session.
-    pub fn new(alloc: Global) -> Sessions<S, K>
+    pub fn new(alloc: Global) -> Sessions<L, K>
         ensures { result ≡ [] }
     {
         Sessions {
@@ -71,7 +71,7 @@ impl<S: Drop, K: Drop> Sessions<S, K> {
     }
 
     /// One session more, behind the others.
-    pub fn add(&mut self, number: u64, line: WebSocket<Stream<S>, K>) -> Result<(), NoMemory>
+    pub fn add(&mut self, number: u64, line: WebSocket<Stream<L>, K>) -> Result<(), NoMemory>
         ensures added { OnOk result (self.new ≡ self.old ++ number ∷ []) }
         ensures unchanged { OnErr result (self.new ≡ self.old) }
     {
@@ -95,7 +95,7 @@ impl<S: Drop, K: Drop> Sessions<S, K> {
     }
 }
 
-impl<S: Read + Write + Drop, K: MaskKeys + Drop> Sessions<S, K> {
+impl<L: Link + Drop, K: MaskKeys + Drop> Sessions<L, K> {
     /// What came on the session at this place.
     pub fn take(&mut self, alloc: Global, at: usize) -> Result<Given, NoMemory>
         requires { at < length self.old }

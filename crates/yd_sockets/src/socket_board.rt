@@ -14,6 +14,7 @@ use crate::counting::{first_session, one_more};
 use crate::door::Door;
 use crate::entrance::Seen;
 use crate::line::Given;
+use crate::link::Wire;
 use crate::look::{Look, MOST_ROUNDS, STILL_ROUNDS};
 use crate::sessions::Sessions;
 use crate::stream::Stream;
@@ -32,7 +33,7 @@ pub struct SocketBoard<R: Net + Clock + RandomSource + Copy> {
     alloc: Global,
     outside: R,
     door: Door<R>,
-    sessions: Sessions<R::Stream, RandomKeys<R>>,
+    sessions: Sessions<Wire<R::Stream>, RandomKeys<R>>,
     // Where the next look goes on: at 0 the door, then each session in turn.
     turn: usize,
     next: u64,
@@ -210,7 +211,7 @@ impl<R: Net + Clock + RandomSource + Copy> SocketBoard<R> {
     // A connection becomes a session. Those beyond the last number would have none.
     fn welcome(
         &mut self,
-        line: WebSocket<Stream<R::Stream>, RandomKeys<R>>,
+        line: WebSocket<Stream<Wire<R::Stream>>, RandomKeys<R>>,
     ) -> Result<Look, NoMemory>
         ensures looks { IfOk result (λ look. Looks self.old self.new look) }
         ensures unchanged { OnErr result (self.new ≡ self.old) }

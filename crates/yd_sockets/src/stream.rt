@@ -1,11 +1,13 @@
 //! A stream whose writes go on where they would block, and which keeps what comes meanwhile.
 
-ghost use Rattle.std.specs.Prelude.{◌≡◌, ◌≢◌, ◌+◌, ◌≤◌, [], length, true, is_err, IfErr, IsErr};
+ghost use Rattle.std.specs.Prelude.{◌≡◌, ◌≢◌, ◌+◌, ◌≤◌, ◌++◌, [], length, true, false, is_err, IfErr, IsErr, OnOk};
 ghost use Rattle.std.specs.Io.{WritesAtMost};
+ghost use Rattle.std.specs.Io.KnownBytes.{WriteAppends};
 ghost use Rattle.std.specs.IoError.{error_kind};
-ghost use Rattle.yd_sockets.specs.Growing.{Grows};
+ghost use Rattle.yd_sockets.specs.Flow.{Goes, all_to_come};
 
 use crate::held::Held;
+use crate::link::Link;
 use std::alloc::Global;
 use std::io;
 use std::io::{ErrorKind, Read, Write};
@@ -20,17 +22,19 @@ const CHUNK: usize = 4096;
 /// comes meanwhile is kept, and later reads give it first. Once a write failed, all later ones fail
 /// at once.
 #[derive(Drop)]
-pub struct Stream<S> {
-    inner: S,
+pub struct Stream<L> {
+    inner: L,
     held: Held,
     has_moved: bool,
     is_broken: bool,
 }
 
-impl<S> Stream<S> {
+impl<L> Stream<L> {
     /// The stream, with nothing kept.
-    pub fn new(alloc: Global, inner: S) -> Stream<S>
-        ensures { result.held ≡ [] }
+    pub fn new(alloc: Global, inner: L) -> Stream<L>
+        ensures kept { result.held ≡ [] }
+        ensures below { result.inner ≡ inner }
+        ensures whole { result.is_broken ≡ false }
     {
         Stream {
             inner,
@@ -41,25 +45,43 @@ impl<S> Stream<S> {
     }
 
     /// The stream below.
-    pub fn inner(&self) -> &S {
+    pub fn inner(&self) -> &L
+        ensures { result.now ≡ self.now.inner }
+    {
         &self.inner
     }
 
     /// Whether bytes came since this was last asked.
     pub fn take_moved(&mut self) -> bool
-        ensures kept { self.new.held ≡ self.old.held }
+        ensures kept { self.new ≡ record self.old { has_moved = false } }
         ensures told { result ≡ self.old.has_moved }
     {
         let has_moved = self.has_moved;
         self.has_moved = false;
         has_moved
     }
+
+    // Keeps these bytes, and tells whether there are any.
+    fn keep(&mut self, bytes: &[u8]) -> io::Result<bool>
+        requires { length self.old.held + length bytes.now ≤ 67108864 }
+        ensures added { OnOk result (self.new.held ≡ self.old.held ++ bytes.now) }
+        ensures below { self.new.inner ≡ self.old.inner }
+        ensures failed { IfErr result (λ e. error_kind e ≢ ErrorKind.WouldBlock) }
+    {
+        if self.held.add(bytes).is_err() {
+            return Err(io::Error::from(ErrorKind::OutOfMemory));
+        }
+        self.has_moved = true;
+        Ok(!bytes.is_empty())
+    }
 }
 
-impl<S: Read + Write + Drop> Stream<S> {
+impl<L: Link> Stream<L> {
     // Keeps what has come, if there is room, and tells whether something came.
     fn hold(&mut self) -> io::Result<bool>
-        ensures grows { Grows self.old.held self.new.held }
+        ensures kept { OnOk result (all_to_come self.new.held (L.coming self.new.inner)
+            ≡ all_to_come self.old.held (L.coming self.old.inner)) }
+        ensures gone { L.gone self.new.inner ≡ L.gone self.old.inner }
         ensures failed { IfErr result (λ e. error_kind e ≢ ErrorKind.WouldBlock) }
     {
         // The memory is found first, so that no byte is lost where there is none.
@@ -71,7 +93,7 @@ impl<S: Read + Write + Drop> Stream<S> {
             return Ok(false);
         }
         let mut chunk = [0u8; CHUNK];
-        match self.inner.read(&mut chunk[..room]) {
+        match self.inner.receive(&mut chunk[..room]) {
             Ok(count) => self.keep(&chunk[..count]),
             Err(error) => match error.kind() {
                 ErrorKind::WouldBlock => Ok(false),
@@ -83,12 +105,14 @@ impl<S: Read + Write + Drop> Stream<S> {
     // Writes some of the piece, in as many rounds as it takes.
     fn write_patiently(&mut self, piece: &[u8]) -> io::Result<usize>
         ensures bound { WritesAtMost result piece.now }
-        ensures grows { Grows self.old.held self.new.held }
+        ensures goes { Goes (L.gone self.old.inner) (L.gone self.new.inner) result piece.now }
+        ensures kept { OnOk result (all_to_come self.new.held (L.coming self.new.inner)
+            ≡ all_to_come self.old.held (L.coming self.old.inner)) }
         ensures failed { IfErr result (λ e. error_kind e ≢ ErrorKind.WouldBlock) }
     {
         let mut still = 0;
         for _ in 0..u64::MAX {
-            match self.inner.write(piece) {
+            match self.inner.put(piece) {
                 Ok(count) => return Ok(count),
                 Err(error) => match error.kind() {
                     ErrorKind::WouldBlock => {}
@@ -107,38 +131,32 @@ impl<S: Read + Write + Drop> Stream<S> {
     }
 }
 
-impl<S> Stream<S> {
-    // Keeps these bytes, and tells whether there are any.
-    fn keep(&mut self, bytes: &[u8]) -> io::Result<bool>
-        requires { length self.old.held + length bytes.now ≤ 67108864 }
-        ensures grows { Grows self.old.held self.new.held }
-        ensures failed { IfErr result (λ e. error_kind e ≢ ErrorKind.WouldBlock) }
-    {
-        if self.held.add(bytes).is_err() {
-            return Err(io::Error::from(ErrorKind::OutOfMemory));
-        }
-        self.has_moved = true;
-        Ok(!bytes.is_empty())
-    }
-}
+impl<L: Link> Read for Stream<L> {
+    ghost use Rattle.yd_sockets.specs.Flow.{all_to_come};
 
-impl<S: Read + Write + Drop> Read for Stream<S> {
+    ghost remaining = { λ s. all_to_come s.held (L.coming s.inner) };
+
     fn read(&mut self, buf: &mut [u8]) -> io::Result<usize> {
         if !self.held.is_empty() {
             let count = self.held.take(buf);
             self.held.let_go();
             return Ok(count);
         }
-        let count = self.inner.read(buf)?;
+        let count = self.inner.receive(buf)?;
         self.has_moved = true;
         Ok(count)
     }
 }
 
-impl<S: Read + Write + Drop> Write for Stream<S> {
+impl<L: Link> Write for Stream<L> {
+    ghost contents = { λ s. L.gone s.inner };
+
+    #[tactic(auto, using(crate::proofs::FlowLemmas::appends_what_goes))]
     fn write(&mut self, piece: &[u8]) -> io::Result<usize>
         ensures bound { WritesAtMost result piece.now }
-        ensures grows { Grows self.old.held self.new.held }
+        ensures appended { WriteAppends (L.gone self.old.inner) (L.gone self.new.inner) result piece.now }
+        ensures kept { OnOk result (all_to_come self.new.held (L.coming self.new.inner)
+            ≡ all_to_come self.old.held (L.coming self.old.inner)) }
         ensures failed { IfErr result (λ e. error_kind e ≢ ErrorKind.WouldBlock) }
         ensures broken { self.old.is_broken ≡ true → IsErr result }
         ensures breaks { self.new.is_broken ≡ is_err result }

@@ -1,6 +1,7 @@
 //! The moments of events.
 
-ghost use Rattle.std.specs.Prelude.{◌≡◌, ◌≤◌, is_some, None};
+ghost use Rattle.std.specs.Prelude.{◌≡◌, ◌≤◌, ◌/◌, min, is_some, None};
+ghost use Rattle.std.specs.Duration.{as_nanos};
 
 use std::time::{Clock, Duration, Instant};
 
@@ -53,9 +54,8 @@ impl Watch {
 }
 
 /// A duration in whole milliseconds, at most 2^64-1.
-pub fn milliseconds(duration: Duration) -> u64 {
-    duration
-        .as_secs()
-        .saturating_mul(1000)
-        .saturating_add(duration.subsec_millis() as u64)
+pub fn milliseconds(duration: Duration) -> u64
+    ensures { result ≡ min (as_nanos duration / 1_000_000) 18_446_744_073_709_551_615 }
+{
+    duration.as_millis().min(u64::MAX as u128) as u64
 }

@@ -1,4 +1,4 @@
-use Rattle.std.proofs.Common.{◌≡◌, ◌≢◌, ◌<◌, slice_get, Some, ℕ}
+use Rattle.std.proofs.Common.{◌≢◌, ◌<◌, slice_get, Some, ℕ}
 use Rattle.yd_sockets.proofs.sessions.Sessions.find.Given as goal
 
 -- no place so far has the number

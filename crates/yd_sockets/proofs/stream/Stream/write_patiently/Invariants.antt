@@ -1,7 +1,8 @@
-use Rattle.std.proofs.Common.{◌≡◌, ◌≢◌, [], IfErr, ℕ, ◌+◌, ◌-◌, ◌*◌, ◌<◌, ◌≤◌, length}
-use Rattle.yd_sockets.specs.Growing.{Grows}
+use Rattle.std.proofs.Common.{◌≡◌}
+use Rattle.yd_sockets.specs.Flow.{all_to_come}
 use Rattle.yd_sockets.proofs.stream.Stream.write_patiently.Given as goal
 
--- what was kept at the start is kept, and more behind it
+-- nothing went so far, and nothing of what is to come was lost
 abbrev pub invariant-loop : goal.invariant-loop
-invariant-loop g l = Grows l.fn.self.held l.self.held
+invariant-loop g l = (g.L.Link.gone l.self.inner ≡ g.L.Link.gone l.fn.self.inner)
+    × (all_to_come l.self.held (g.L.Link.coming l.self.inner) ≡ all_to_come l.fn.self.held (g.L.Link.coming l.fn.self.inner))
