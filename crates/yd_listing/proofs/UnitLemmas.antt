@@ -2,10 +2,9 @@
 use Rattle.std.proofs.Common.{◌≡◌, ℕ, zero, suc, ◌+◌, ◌-◌, ◌<◌, inl, inr, Bool, true, List, [], ◌∷◌, Option, Some, None, map, length, refl, sym, ap, ap₂, ◌∙◌, subst, arith}
 use Rattle.std.specs.Prelude.{◌↔◌, IfSome, slice_get}
 use Rattle.yd_words.specs.Member.{IsIn}
-use Rattle.yd_words.proofs.OptionLemmas.{some_is}
 use Rattle.yd_ids.specs.declared.id.Client.{Client}
 use Rattle.yd_ids.specs.declared.id.Id.{Id}
-use Rattle.yd_ops.specs.Value.{RunValue, len_of}
+use Rattle.yd_ops.specs.Value.{RunValue}
 use Rattle.yd_ops.specs.Operation.{UnitContent, Operation, later_id, units_of_content, operations_of_run, gone_unit, gone_operation, gone_from}
 use Rattle.yd_ops.specs.Law.{first_operation, later_operation}
 use Rattle.yd_ops.proofs.OperationLemmas.{length-units_of_content, later_none, later_later, first_at, later_at}
@@ -14,12 +13,12 @@ use Rattle.yd_scan.specs.Stretches.{stretch_at}
 use Rattle.yd_scan.proofs.UnitLemmas.{in_units, units_in}
 use Rattle.yd_index.proofs.RowLemmas.{from_says, from_in}
 use Rattle.yd_arena.specs.Lists.{AreLists}
-use Rattle.yd_arena.specs.Arena.{Placed, IsArena, HasUnit, runs_of, count_of, places_in, units_in as units_of_list}
+use Rattle.yd_arena.specs.Arena.{IsArena, HasUnit, runs_of, count_of, places_in, units_in as units_of_list}
 use Rattle.yd_arena.proofs.ArenaLemmas.{units_stand_once}
 use Rattle.yd_marks.specs.Marks.{mark_at}
 use Rattle.yd_store.specs.Contents.{told_of, run_at}
 use Rattle.yd_store.specs.Store.{Stored, IsRunOf, AreTold, StandsIn}
-use Rattle.yd_store.specs.Units.{operations_told, operations_at, operations_in, HasOperation, HasMarked}
+use Rattle.yd_store.specs.Units.{operations_told, operations_in, HasOperation, HasMarked}
 use Rattle.yd_store.proofs.HalvesLemmas.{in_at}
 use Rattle.yd_store.proofs.StoreLemmas.{stands_only}
 use Rattle.yd_filling.proofs.TellingLemmas.{lists_tell_units}

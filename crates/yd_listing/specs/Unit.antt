@@ -1,5 +1,5 @@
 -- One unit of a store, in the words of its operation (own).
-use Rattle.std.specs.Prelude.{◌≡◌, ◌↔◌, ◌<◌, ℕ, true, Option, Some, None, IfSome, IfNone, map, slice_get}
+use Rattle.std.specs.Prelude.{◌≡◌, ◌↔◌, ◌<◌, ℕ, true, Some, IfSome, IfNone, map, slice_get}
 use Rattle.yd_words.specs.Member.{IsIn}
 use Rattle.yd_ids.specs.declared.id.Id.{Id}
 use Rattle.yd_ops.specs.Operation.{UnitContent, gone_unit, Operation, units_of_content}
