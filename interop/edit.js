@@ -12,7 +12,7 @@ const { showCase } = require('./show.js');
 const { MODES } = require('./shown.js');
 
 /** How many lines a script has. */
-const LINES = 8;
+const LINES = 12;
 
 /** A client that no session has. */
 const NEW_CLIENT = 4000;
@@ -49,12 +49,13 @@ function attributesBehind(text, index) {
 
 /**
  * The indexes at which no half of a character stands, nor what is shown for one: whether two halves
- * stand side by side is no question of edits.
+ * stand side by side is no question of edits. Without any of these it is the front.
  */
 function placesOf(text) {
   const units = unitsOf(text);
   const isWhole = (at) => !/[\ud800-\udfff\ufffd]/.test(units[at]?.unit ?? '');
-  return [...units.keys(), units.length].filter((at) => isWhole(at - 1) && isWhole(at));
+  const places = [...units.keys(), units.length].filter((at) => isWhole(at - 1) && isWhole(at));
+  return places.length > 0 ? places : [0];
 }
 
 /** Where what is kept under a name stands now in the text's document. */
@@ -62,20 +63,43 @@ function indexOf(text, place) {
   return Y.createAbsolutePositionFromRelativePosition(place, text.doc).index;
 }
 
+/**
+ * Forgets the places whose units are deleted. A line behind the deletion may still go there; what comes
+ * later may stand on the other side of a deleted unit than it does in Yjs.
+ */
+function forgetDeleted(text, kept) {
+  const isDeleted = ({ item }) => item !== null && Y.getItem(text.doc.store, item).deleted;
+  [...kept].filter(([, place]) => isDeleted(place)).forEach(([name]) => kept.delete(name));
+}
+
 /** The names of the kept places at which no half of a character stands now. */
 function namesAt(text, kept, places) {
   return [...kept.keys()].filter((name) => places.includes(indexOf(text, kept.get(name))));
 }
 
+/**
+ * Whether the last line can be undone, or done again, as Yjs does it: only that line, and no format,
+ * of which Yjs makes nothing where it changes nothing.
+ */
+function turnsOf(last) {
+  if (last === 'undo') {
+    return ['redo'];
+  }
+  return ['insert', 'insertat', 'embed', 'delete', 'redo'].includes(last) ? ['undo'] : [];
+}
+
 /** A line by chance that is right for the text as it is. A range spans few of its places. */
-function lineFor(chance, root, text, kept) {
+function lineFor(chance, root, text, { kept, last }) {
   const places = placesOf(text);
   const index = chance.pick(places);
   const ends = places.filter((at) => at > index).slice(0, 8);
   const names = namesAt(text, kept, places);
   const kinds = ends.length > 0 ? Object.keys(PLAYED) : ['insert', 'embed'];
-  const kind = chance.pick([...kinds, 'mark', ...(names.length > 0 ? ['insertat'] : [])]);
+  const kind = chance.pick([...kinds, 'mark', ...(names.length > 0 ? ['insertat'] : []), ...turnsOf(last)]);
   switch (kind) {
+    case 'undo':
+    case 'redo':
+      return [kind];
     case 'mark':
       return [kind, chance.pick(MARKS), root, index, chance.pick([0, -1])];
     case 'insertat':
@@ -91,20 +115,33 @@ function lineFor(chance, root, text, kept) {
   }
 }
 
-/** Carries out a line by chance on a root that is a text, and gives the line. Places are kept by name. */
-function playedTextLine(chance, doc, root, kept) {
+/** Carries out a line by chance on a root that is a text, and gives the line. */
+function playedTextLine(chance, doc, root, desk) {
   const text = doc.getText(root);
-  const line = lineFor(chance, root, text, kept);
+  const line = lineFor(chance, root, text, desk);
   const [kind, target, ...rest] = line;
+  const place = desk.kept.get(target);
+  desk.last = kind;
+  forgetDeleted(text, desk.kept);
   if (kind === 'mark') {
     const [, index, assoc] = rest;
-    kept.set(target, Y.createRelativePositionFromTypeIndex(text, index, assoc));
+    desk.kept.set(target, Y.createRelativePositionFromTypeIndex(text, index, assoc));
   } else if (kind === 'insertat') {
-    text.insert(indexOf(text, kept.get(target)), ...rest);
+    text.insert(indexOf(text, place), ...rest);
+  } else if (kind === 'undo' || kind === 'redo') {
+    // A place of Yjs goes on to what is made again, and one of ydoc does not.
+    desk.kept.clear();
+    desk.manager[kind]();
   } else {
     PLAYED[kind](text, ...rest);
   }
   return line;
+}
+
+/** What a script keeps: places by their names, what can be undone, and the word of its last line. */
+function deskOf(doc, root) {
+  const manager = new Y.UndoManager(doc.get(root), { captureTimeout: 0 });
+  return { kept: new Map(), manager, last: '' };
 }
 
 /** A script by chance, and what Yjs shows once its own calls did the same as this client. */
@@ -112,10 +149,10 @@ function played(session, root, files, client) {
   const doc = documentOf(session.roots, files);
   doc.clientID = client;
   const play = session.roots[root] === 'text' ? playedTextLine : playedLine;
-  const kept = new Map();
+  const desk = deskOf(doc, root);
   const script = Array.from(
     { length: LINES },
-    () => `${JSON.stringify(play(session.chance, doc, root, kept))}\n`,
+    () => `${JSON.stringify(play(session.chance, doc, root, desk))}\n`,
   );
   const shown = MODES[MODE_OF[session.roots[root]]](doc, root);
   return { script: Buffer.from(script.join('')), shown };
