@@ -1,10 +1,12 @@
 #!/usr/bin/env bash
 # Each of the first 200 growths of `show`, `merge` and `serve` is refused in turn. The program then
-# writes what it writes with memory, or ends as without memory. It takes a C compiler and minutes.
-# `YDOC=PATH` names a program that is built; GROWTHS is another number of growths.
+# writes what it writes with memory, or ends as without memory. It takes a C compiler and minutes, so
+# the gate does not run it. `YDOC=PATH` names a program that is built; GROWTHS is another number of
+# growths.
 set -u
 cd "$(dirname "$0")/../crates/ydoc" || exit 1
-work=$(mktemp -d) && trap 'rm -rf "$work"' EXIT
+work=$(mktemp -d)
+trap 'kill $(jobs -p) 2>/dev/null; rm -rf "$work"' EXIT
 failed=0
 
 if [ -z "${YDOC:-}" ]; then
@@ -12,7 +14,12 @@ if [ -z "${YDOC:-}" ]; then
   YDOC=$PWD/out/ydoc
 fi
 cd "$work" || exit 1
-at=127.0.0.1:47831
+# A port at which nobody listens.
+port=47831
+while (exec 3<>"/dev/tcp/127.0.0.1/$port") 2>/dev/null; do
+  port=$((port + 1))
+done
+at=127.0.0.1:$port
 printf '\1\1\1\0\4\1\1t\3abc\0' >1
 printf '\1\1\2\0\4\1\1t\1b\0' >2
 
@@ -49,12 +56,12 @@ judged() {
   fi
 }
 
-# served: one server, and a client that tries as long as the server is there
+# served TURNS: one server, and a client that tries as long as the server is there
 served() {
-  REFUSE=$growth LD_PRELOAD=$work/refuse.so "$YDOC" serve "$at" 1000 v1:1 >out 2>err &
+  REFUSE=$growth LD_PRELOAD=$work/refuse.so timeout 60 "$YDOC" serve "$at" "$1" v1:1 >out 2>err &
   local server=$!
   while kill -0 "$server" 2>/dev/null; do
-    "$YDOC" sync "$at" 2000 v1:2 >/dev/null 2>&1
+    timeout 60 "$YDOC" sync "$at" 2000 v1:2 >/dev/null 2>&1
     [ $? -eq 6 ] || break
   done
   wait "$server"
@@ -71,8 +78,15 @@ for growth in $(seq 1 "${GROWTHS:-200}"); do
     REFUSE=$growth LD_PRELOAD=$work/refuse.so "$YDOC" "${words[@]}" v1:1 v1:2 >out 2>err
     judged "$name" $?
   done
-  served
-  judged serve $?
+  served 300
+  status=$?
+  # Its turns may be used up before the client comes.
+  for turns in 3000 10000; do
+    cmp -s out 1 || break
+    served "$turns"
+    status=$?
+  done
+  judged serve "$status"
 done
 [ "$failed" -eq 0 ] && echo "checks/online_memory.sh: ok, without memory $without times"
 exit "$failed"

@@ -1,20 +1,20 @@
 'use strict';
 
-// The server over real sockets and the stock provider of y-websocket, and the client and the stock
-// server: `node sockets.js`. `YDOC=PATH` names a program that is built; else `rt try` builds one.
+// The server over real sockets and the stock provider of y-websocket, the page of docs/EDITOR.md, and
+// the client and the stock server: `YDOC=PATH node sockets.js`, where PATH is a program that is built.
 
 const assert = require('node:assert');
-const { spawn } = require('node:child_process');
 const fs = require('node:fs');
 const os = require('node:os');
 const path = require('node:path');
 const WebSocket = require('ws');
 const Y = require('yjs');
 const { WebsocketProvider } = require('y-websocket');
-const { ending, isOpen, pause, until, useUp, ydoc } = require('./online.js');
+const { ending, freePort, isOpen, pause, start, stockServer, until, useUp, ydoc } = require('./online.js');
 
 const TURNS = 20000;
-const STOCK = path.join('/usr/share/nodejs', 'y-websocket', 'bin', 'server.js');
+const PAGE = path.join(__dirname, '..', 'docs', 'EDITOR.md');
+const MODULES = '/usr/share/nodejs';
 
 /** A document with a provider, as an editor has it. */
 function editor(port, name) {
@@ -83,17 +83,61 @@ async function serve(folder, port) {
 
   await useUp(port, TURNS);
   editors.forEach(({ provider }) => provider.destroy());
-  const { status, out, err } = await server.ended;
+  const { status, out, err } = await server.end();
   assert.strictEqual(status, 0, err);
   const written = new Y.Doc();
   Y.applyUpdate(written, out);
   assert.ok(same(written, ada.doc), 'what the server writes is another document');
 }
 
+/** The page of ten lines, word by word, as a module beside the packages. */
+function page(folder) {
+  const [, lines] = /^```js\n([^]*?)^```$/m.exec(fs.readFileSync(PAGE, 'utf8'));
+  assert.strictEqual(lines.trimEnd().split('\n').length, 10);
+  const place = path.join(folder, 'page');
+  fs.mkdirSync(place);
+  fs.symlinkSync(MODULES, path.join(place, 'node_modules'));
+  fs.writeFileSync(path.join(place, 'page.mjs'), lines);
+  // A browser has a WebSocket; Node gets one here.
+  fs.writeFileSync(path.join(place, 'browser.cjs'), "globalThis.WebSocket = require('ws');\n");
+  const words = ['--preserve-symlinks', '--preserve-symlinks-main', '--require', './browser.cjs', 'page.mjs'];
+  const child = start(process.execPath, words, { cwd: place, stdio: ['ignore', 'pipe', 'pipe'] });
+  const said = { out: '', err: '' };
+  child.stdout.on('data', (bytes) => { said.out += bytes; });
+  child.stderr.on('data', (bytes) => { said.err += bytes; });
+  return { child, said };
+}
+
+/** The page shows what the server of the README has, and the server gets what the page writes. */
+async function edited(folder) {
+  const port = 12345;
+  if (await isOpen(port)) {
+    console.log(`interop: the page is not tried, since port ${port} is in use`);
+    return;
+  }
+  const update = fs.readFileSync(path.join(__dirname, '..', 'crates', 'ydoc', 'data', 'abc.bin'));
+  const server = ydoc(folder, ['serve', `127.0.0.1:${port}`, String(TURNS)], update);
+  await until('the server', () => isOpen(port));
+  const { child, said } = page(folder);
+  await until('what the page shows', () => said.out.includes('abc') || child.exitCode !== null);
+  const other = editor(port, 'other');
+  await until('what the page writes', () => other.doc.getText('t').toString() === 'abc!' || child.exitCode !== null);
+  other.doc.getText('t').insert(0, 'x');
+  await until('what another writes', () => said.out.includes('xabc!') || child.exitCode !== null);
+  assert.strictEqual(child.exitCode, null, said.err);
+  child.kill();
+  other.provider.destroy();
+  await useUp(port, TURNS);
+  const { status, out, err } = await server.end();
+  assert.strictEqual(status, 0, err);
+  const written = new Y.Doc();
+  Y.applyUpdate(written, out);
+  assert.strictEqual(written.getText('t').toString(), 'xabc!');
+}
+
 /** Our client meets the stock server. */
 async function sync(folder, port) {
-  const env = { ...process.env, HOST: '127.0.0.1', PORT: String(port) };
-  const stock = spawn(process.execPath, [STOCK], { env, stdio: 'ignore' });
+  const stock = stockServer(port);
   try {
     await until('the stock server', () => isOpen(port));
     const doc = new Y.Doc();
@@ -106,7 +150,7 @@ async function sync(folder, port) {
     ours.getText('text').insert(0, 'ours ');
     ours.getMap('map').set('key', [1, 2]);
     const update = Y.encodeStateAsUpdate(ours);
-    const { status, out, err } = await ydoc(folder, ['sync', `127.0.0.1:${port}`, '4000000'], update).ended;
+    const { status, out, err } = await ydoc(folder, ['sync', `127.0.0.1:${port}`, '4000000'], update).end();
     assert.strictEqual(status, 0, err);
     const written = new Y.Doc();
     Y.applyUpdate(written, out);
@@ -120,10 +164,11 @@ async function sync(folder, port) {
 
 async function main() {
   const folder = fs.mkdtempSync(path.join(os.tmpdir(), 'ydoc-sockets-'));
-  await serve(folder, 47821);
-  await sync(folder, 47822);
+  await serve(folder, await freePort());
+  await edited(folder);
+  await sync(folder, await freePort());
   fs.rmSync(folder, { recursive: true });
-  console.log('interop: ok, the stock provider and the stock server');
+  console.log('interop: ok, the stock provider, the page and the stock server');
   process.exit(0);
 }
 
