@@ -153,7 +153,7 @@ async function changes(folder, count) {
 async function main() {
   const folder = fs.mkdtempSync(path.join(os.tmpdir(), 'ydoc-speed-'));
   await quiet(folder);
-  const ratios = [await sent(folder, 'one text', 20 * MIB), await sent(folder, 'pieces of 80 units', 80)];
+  const ratios = [await sent(folder, 'one text', 20 * MIB), await sent(folder, 'pieces of 8,192 units', 8192)];
   await changes(folder, 300);
   if (spawnSync('strace', ['-V']).error === undefined) {
     await idle(folder, 300);
