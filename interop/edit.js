@@ -88,14 +88,22 @@ function turnsOf(last) {
   return ['insert', 'insertat', 'embed', 'delete', 'redo'].includes(last) ? ['undo'] : [];
 }
 
-/** A line by chance that is right for the text as it is. A range spans few of its places. */
-function lineFor(chance, root, text, { kept, last }) {
+/** The kinds of line that use what a script keeps, where there is something to use. */
+function kindsOf({ last }, names) {
+  return ['mark', ...(names.length > 0 ? ['insertat'] : []), ...turnsOf(last)];
+}
+
+/**
+ * A line by chance that is right for the text as it is. A range spans few of its places. Without a desk
+ * it is an edit.
+ */
+function lineFor(chance, root, text, desk) {
   const places = placesOf(text);
   const index = chance.pick(places);
   const ends = places.filter((at) => at > index).slice(0, 8);
-  const names = namesAt(text, kept, places);
-  const kinds = ends.length > 0 ? Object.keys(PLAYED) : ['insert', 'embed'];
-  const kind = chance.pick([...kinds, 'mark', ...(names.length > 0 ? ['insertat'] : []), ...turnsOf(last)]);
+  const names = desk === undefined ? [] : namesAt(text, desk.kept, places);
+  const edits = ends.length > 0 ? Object.keys(PLAYED) : ['insert', 'embed'];
+  const kind = chance.pick(desk === undefined ? edits : [...edits, ...kindsOf(desk, names)]);
   switch (kind) {
     case 'undo':
     case 'redo':
@@ -113,6 +121,15 @@ function lineFor(chance, root, text, { kept, last }) {
     default:
       return [kind, root, index, chance.pick(ends) - index, chance.pick(KEYS), chance.pick(VALUES)];
   }
+}
+
+/** Carries out an edit by chance on a root that is a text, and gives the line. */
+function playedTextEdit(chance, doc, root) {
+  const text = doc.getText(root);
+  const line = lineFor(chance, root, text);
+  const [kind, , ...rest] = line;
+  PLAYED[kind](text, ...rest);
+  return line;
 }
 
 /** Carries out a line by chance on a root that is a text, and gives the line. */
@@ -144,25 +161,39 @@ function deskOf(doc, root) {
   return { kept: new Map(), manager, last: '' };
 }
 
+/** Carries out an edit by chance on a root of any kind, and gives the line. */
+function playedAny(session, doc, root) {
+  const play = session.roots[root] === 'text' ? playedTextEdit : playedLine;
+  return play(session.chance, doc, root);
+}
+
+/** What is shown of a root, in the mode of its kind. */
+function shownOf(session, doc, root) {
+  return MODES[MODE_OF[session.roots[root]]](doc, root);
+}
+
+/** Lines as the bytes of a script. */
+function scriptOf(lines) {
+  return Buffer.from(lines.map((line) => `${JSON.stringify(line)}\n`).join(''));
+}
+
 /** A script by chance, and what Yjs shows once its own calls did the same as this client. */
 function played(session, root, files, client) {
   const doc = documentOf(session.roots, files);
   doc.clientID = client;
   const play = session.roots[root] === 'text' ? playedTextLine : playedLine;
   const desk = deskOf(doc, root);
-  const script = Array.from(
-    { length: LINES },
-    () => `${JSON.stringify(play(session.chance, doc, root, desk))}\n`,
-  );
-  const shown = MODES[MODE_OF[session.roots[root]]](doc, root);
-  return { script: Buffer.from(script.join('')), shown };
+  const lines = Array.from({ length: LINES }, () => play(session.chance, doc, root, desk));
+  return { script: scriptOf(lines), shown: shownOf(session, doc, root) };
 }
 
-/** The case that ydoc makes an update by a script, as this client, on what the files hold. */
-function editCase(session, name, root, files, client) {
+/**
+ * The case that ydoc makes an update by a script, as this client, on what the files hold, of which
+ * Yjs and ydoc show this.
+ */
+function scriptCase(session, name, root, files, client, { script, shown }) {
   const mode = MODE_OF[session.roots[root]];
-  const { script, shown } = played(session, root, files, client);
-  const full = `${session.name}.edit.${name}`;
+  const full = `${session.name}.${name}`;
   const made = (output) => ({ name: `${full}.v1`, form: 'v1', bytes: updateIn(output, 'v1') });
   return {
     name: full,
@@ -183,6 +214,11 @@ function editCase(session, name, root, files, client) {
   };
 }
 
+/** The case that an update is made by a script by chance. */
+function editCase(session, name, root, files, client) {
+  return scriptCase(session, `edit.${name}`, root, files, client, played(session, root, files, client));
+}
+
 /** The cases of a session: a script of a new client, and one of a client that has written. */
 function editCases(session) {
   const { chance, documents, updates } = session;
@@ -193,4 +229,4 @@ function editCases(session) {
   ]);
 }
 
-module.exports = { editCases };
+module.exports = { NEW_CLIENT, editCases, playedAny, scriptCase, scriptOf, shownOf };

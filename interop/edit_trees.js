@@ -102,4 +102,4 @@ function playedLine(chance, doc, root) {
   return [word, target.length === 1 && chance.below(2) === 0 ? root : target, ...rest];
 }
 
-module.exports = { playedLine };
+module.exports = { playedLine, typesIn };

@@ -13,10 +13,11 @@ const { mergeCases } = require('./merge.js');
 const { answersOf } = require('./program.js');
 const { sessions } = require('./sessions.js');
 const { showCases } = require('./show.js');
+const { undoCases } = require('./undo.js');
 
 /** The cases whose names have the word. */
 function casesWith(word) {
-  const made = [convertCases, showCases, mergeCases, editCases];
+  const made = [convertCases, showCases, mergeCases, editCases, undoCases];
   const all = sessions().flatMap((session) => made.flatMap((cases) => cases(session)));
   const cases = all.filter(({ name }) => name.includes(word));
   if (cases.length === 0) {
