@@ -1,0 +1,12 @@
+pub mod AboveLemmas
+pub mod NamesLemmas
+pub mod CameLemmas
+pub mod ToldLemmas
+pub mod BecameLemmas
+pub mod SettlingLemmas
+pub mod SoundLemmas
+pub mod TakeLemmas
+pub mod LawLemmas
+pub mod BringsLemmas
+pub mod NamingLemmas
+pub mod NoveltyLemmas

@@ -1,0 +1,14 @@
+use Rattle.std.proofs.Common.{◌≡◌, map, drop}
+use Rattle.yd_ids.specs.Set.{union_of}
+use Rattle.yd_ops.specs.Valid.{AreStructsFrom}
+use Rattle.yd_ops.specs.View.{struct_value}
+use Rattle.yd_updates.specs.Deletes.{structs_spans}
+use Rattle.yd_grown.proofs.naming.add_block.Given as goal
+
+-- the structs that are left begin at the clock, and adding what they spell gives all of it
+abbrev pub invariant-loop-next : goal.invariant-loop-next
+invariant-loop-next l = record {
+  valid : AreStructsFrom l.block.client l.clock (map struct_value (drop l.next-index l.block.structs));
+  left : union_of (structs_spans l.block.client l.clock (map struct_value (drop l.next-index l.block.structs))) l.named
+      ≡ union_of (structs_spans l.block.client l.block.clock (map struct_value l.block.structs)) l.initial.named;
+}

@@ -1,0 +1,191 @@
+//! The state of a replica whose lists grow, as one value.
+
+ghost use Rattle.std.specs.Prelude.{◌≡◌, ◌↔◌, ◌<◌, [], ℕ, IsTrue, IfSome, IfNone, IfOk, OnOk, OnErr};
+ghost use Rattle.yd_ids.specs.Vector.{clock_of};
+ghost use Rattle.yd_ops.specs.Valid.{IsValidUpdate};
+ghost use Rattle.yd_ops.specs.View.{update_value};
+ghost use Rattle.yd_arena.specs.Arena.{count_of};
+ghost use Rattle.yd_store.specs.Units.{operations_in};
+ghost use Rattle.yd_updates.specs.Received.{nothing_received, received_after};
+ghost use Rattle.yd_meaning.specs.Held.{held_set, held_clock};
+ghost use Rattle.yd_meaning.specs.Document.{AreDeletedIn};
+ghost use Rattle.yd_grown.specs.Grown.{received_in, document_in, IsSound, IsUnchanged};
+ghost use Rattle.yd_grown.specs.Brings.{BringsSomething};
+
+use crate::fault::NoMemory;
+use crate::naming::named_by;
+use crate::novelty::brings_deletion;
+use crate::sets::Sets;
+use crate::settling::{Settled, settle};
+use crate::uniting::{grown_by, put};
+use std::alloc::Global;
+use std::marker::Model;
+use yd_held::Held;
+use yd_ids::{IdSet, Vector};
+use yd_kept::Kept;
+use yd_ops::{List, Update};
+use yd_received::Received;
+
+/// What was received and is held, a store with just what is held, and what is named, waits and is
+/// deleted.
+#[derive(Drop)]
+pub struct Grown {
+    pub(crate) held: Held,
+    pub(crate) kept: Kept,
+    pub(crate) sets: Sets,
+}
+
+impl Model for Grown {
+    ghost use Rattle.yd_grown.specs.Grown.{GrownValue, IsSound};
+    ghost use Rattle.yd_any.specs.contracts.any_value.AnyList as any_list;
+    ghost use Rattle.yd_any.specs.contracts.json_value.Json as json;
+    ghost use Rattle.std.specs.Coded.{codes};
+
+    ghost Value = { GrownValue };
+
+    ghost coded = { Prim.hlevel (codes, json.the_row.coded, any_list.the_row.coded) };
+
+    ghost view = { λ it. record {
+      held = it.held;
+      named = it.sets.named;
+      waiting = it.sets.waiting;
+      kept = it.kept;
+      deletes = it.sets.deletes;
+    } };
+
+    ghost invariant = { λ it. IsSound (record {
+      held = it.held;
+      named = it.sets.named;
+      waiting = it.sets.waiting;
+      kept = it.kept;
+      deletes = it.sets.deletes;
+    }) };
+}
+
+impl Grown {
+    /// Nothing, received so far.
+    pub fn new(alloc: Global) -> Grown
+        ensures received { received_in result ≡ nothing_received }
+        ensures sound { IsSound result }
+    {
+        let held = Held::new(alloc);
+        let kept = Kept::new(alloc);
+        // That both are sound says that nothing is held.
+        let _ = held.received();
+        let _ = kept.store();
+        Grown {
+            held,
+            kept,
+            sets: Sets {
+                named: IdSet::new(alloc),
+                waiting: IdSet::new(alloc),
+                deletes: IdSet::new(alloc),
+            },
+        }
+    }
+
+    /// Receives an update, holds what can be held then, and puts it into its lists, where the
+    /// integration scan puts it. It answers whether the update brought something. It looks at what
+    /// came, at what waits, and at what is deleted besides, and at what is known by look-ups alone;
+    /// a set that grows is copied. Where the update says less of something that was received, all
+    /// lists grow anew. Where memory ends, nothing has changed that is told.
+    pub fn take(&mut self, update: &Update) -> Result<bool, NoMemory>
+        requires { IsValidUpdate (update_value update.now) }
+        ensures received { OnOk result (received_in self.new
+            ≡ received_after (received_in self.old) (update_value update.now)) }
+        ensures brings { IfOk result (λ brings. IsTrue brings
+            ↔ BringsSomething (update_value update.now) self.old) }
+        ensures sound { IsSound self.new }
+        ensures unchanged { OnErr result (IsUnchanged self.old self.new) }
+    {
+        // What is held says what holds before the first growth.
+        let _ = self.held.received();
+        let more = named_by(update)?;
+        let deletes = brings_deletion(&self.sets.named, &self.sets.deletes, &more);
+        let named = grown_by(&self.sets.named, &more)?;
+        let taken = self.held.take(update)?;
+        match settle(
+            &mut self.kept,
+            &self.held,
+            taken.anew,
+            &taken.order,
+            &self.sets,
+            &more,
+        ) {
+            Ok(
+                Settled {
+                    waiting,
+                    deletes: grown,
+                },
+            ) => {
+                put(&mut self.sets.named, named);
+                put(&mut self.sets.deletes, grown);
+                self.sets.waiting = waiting;
+                Ok(taken.brings || deletes)
+            }
+            Err(NoMemory) => {
+                // That the store is sound says that its lists tell units still.
+                let _ = self.kept.store();
+                self.held.put_back(taken.before);
+                Err(NoMemory)
+            }
+        }
+    }
+
+    /// What was received, as it is kept.
+    pub fn received(&self) -> &Received
+        ensures received { result.now ≡ self.now.held.received }
+        ensures sound { IsSound self.now }
+    {
+        self.held.received()
+    }
+
+    /// The state vector: the clock up to which each client's units are held.
+    pub fn vector(&self) -> &Vector
+        ensures { (client : ℕ) → clock_of result.now client
+            ≡ held_clock (held_set (received_in self.now).operations) client }
+    {
+        self.held.vector()
+    }
+
+    /// The store with just what is held, and the names of its lists; a list may have no unit.
+    pub fn kept(&self) -> &Kept
+        ensures kept { result.now ≡ self.now.kept }
+        ensures sound { IsSound self.now }
+    {
+        &self.kept
+    }
+
+    /// The number that a list has in the store, and none where no list has its name. It takes time
+    /// with the logarithm of how many lists there are.
+    pub fn number_of(&self, list: &List) -> Option<usize>
+        ensures there { IfSome result (λ n. (document_in self.now).units list.now
+            ≡ operations_in self.now.kept.store n) }
+        ensures within { IfSome result (λ n. n < count_of self.now.kept.store.placed) }
+        ensures none { IfNone result ((document_in self.now).units list.now ≡ []) }
+    {
+        self.kept.number_of(list)
+    }
+
+    /// The delete set: the held ids that are deleted.
+    pub fn deletes(&self) -> &IdSet
+        ensures deleted { AreDeletedIn result.now (document_in self.now) }
+        ensures own { result.now ≡ self.now.deletes }
+    {
+        &self.sets.deletes
+    }
+
+    /// The ids that received updates delete by name, held or not.
+    pub fn named(&self) -> &IdSet
+        ensures { result.now ≡ self.now.named }
+    {
+        &self.sets.named
+    }
+
+    /// The ids that are deleted by name and not held.
+    pub fn waiting(&self) -> &IdSet
+        ensures { result.now ≡ self.now.waiting }
+    {
+        &self.sets.waiting
+    }
+}

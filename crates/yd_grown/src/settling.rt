@@ -1,0 +1,145 @@
+//! What is deleted and what waits once more is held or named.
+
+ghost use Rattle.std.specs.Prelude.{◌≡◌, true, IfOk, OnOk, OnErr};
+ghost use Rattle.yd_filling.specs.Telling.{IsSoundStore};
+ghost use Rattle.yd_kept.specs.Kept.{KeepsHeld};
+ghost use Rattle.yd_received.specs.Received.{held_of};
+ghost use Rattle.yd_placing.specs.Back.{CanBeTakenOut};
+ghost use Rattle.yd_placing.specs.Placing.{KeepsAll, CanBePlaced};
+ghost use Rattle.yd_grown.specs.Settling.{grown_to, DeletesBy, DeletesOn, DeletesAnew, CanSettle, known_of, Settles};
+
+use crate::coming::came_of;
+use crate::fault::NoMemory;
+use crate::sets::Sets;
+use crate::uniting::grown_by;
+use crate::waiting::part_above;
+use yd_deleting::deletions_besides;
+use yd_held::Held;
+use yd_ids::IdSet;
+use yd_kept::Kept;
+use yd_placing::{place, put_out};
+
+/// What waits and what is deleted.
+#[derive(Drop)]
+pub(crate) struct Settled {
+    /// The ids that are named and not held.
+    pub waiting: IdSet,
+    /// The held ids that are deleted; None where these are as before.
+    pub deletes: Option<IdSet>,
+}
+
+/// Places what became held, and answers what waits then and what is deleted. `sets` has what was
+/// so before, and `more` what is named besides. Where all was held anew, another store takes the
+/// place of the one that was there. Where memory ends, no unit has changed.
+pub(crate) fn settle(
+    kept: &mut Kept,
+    held: &Held,
+    anew: bool,
+    order: &[usize],
+    sets: &Sets,
+    more: &IdSet,
+) -> Result<Settled, NoMemory>
+    requires { CanSettle anew held.now order.now kept.old }
+    ensures settled { IfOk result (λ settled. Settles anew held.now sets.now more.now kept.old kept.new
+        settled.waiting (grown_to sets.now.deletes settled.deletes)) }
+    ensures unchanged { OnErr result (KeepsHeld kept.old kept.new) }
+{
+    let alloc = held.received().allocator();
+    let waiting = part_above(alloc, known(sets, anew), more, held.vector())?;
+    if anew {
+        let deletes = settle_anew(kept, held, order, &sets.named, more)?;
+        return Ok(Settled {
+            waiting,
+            deletes: Some(deletes),
+        });
+    }
+    let deletes = settle_on(kept, held, order, &sets.deletes, &sets.waiting, more)?;
+    Ok(Settled { waiting, deletes })
+}
+
+/// The named ids that may wait.
+fn known(sets: &Sets, anew: bool) -> &IdSet
+    ensures { result.now ≡ known_of anew sets.now }
+{
+    if anew { &sets.named } else { &sets.waiting }
+}
+
+/// Places all that is held in a store that takes the place of the one that was there, and answers
+/// what is deleted. Where memory ends, nothing has changed.
+fn settle_anew(
+    kept: &mut Kept,
+    held: &Held,
+    order: &[usize],
+    named: &IdSet,
+    more: &IdSet,
+) -> Result<IdSet, NoMemory>
+    requires { CanSettle true held.now order.now kept.old }
+    ensures all { OnOk result (KeepsAll (held_of held.now.received) kept.new) }
+    ensures store { OnOk result (IsSoundStore kept.new.store) }
+    ensures deletes { IfOk result (λ now. DeletesAnew held.now named.now more.now kept.new now) }
+    ensures unchanged { OnErr result (kept.new ≡ kept.old) }
+{
+    let alloc = held.received().allocator();
+    let mut fresh = Kept::new(alloc);
+    let nothing = IdSet::new(alloc);
+    // That both are sound says that nothing was held there before.
+    let _ = fresh.store();
+    let grown = settle_on(&mut fresh, held, order, &nothing, named, more)?;
+    *kept = fresh;
+    match grown {
+        Some(now) => Ok(now),
+        None => Ok(nothing),
+    }
+}
+
+/// Places what became held, and answers what the deleted ids grow to. Where memory ends, no unit
+/// has changed.
+fn settle_on(
+    kept: &mut Kept,
+    held: &Held,
+    order: &[usize],
+    deletes: &IdSet,
+    waiting: &IdSet,
+    more: &IdSet,
+) -> Result<Option<IdSet>, NoMemory>
+    requires { CanBePlaced held.now order.now kept.old }
+    ensures all { OnOk result (KeepsAll (held_of held.now.received) kept.new) }
+    ensures store { OnOk result (IsSoundStore kept.new.store) }
+    ensures deletes { IfOk result (λ grown. DeletesOn held.now deletes.now waiting.now more.now
+        kept.old kept.new (grown_to deletes.now grown)) }
+    ensures unchanged { OnErr result (KeepsHeld kept.old kept.new) }
+{
+    // What is held, and that the store is sound, says where each unit stands.
+    let _ = held.received();
+    place(kept, held, order)?;
+    let _ = kept.store();
+    match deleted_then(kept, held, order, deletes, waiting, more) {
+        Ok(grown) => Ok(grown),
+        Err(NoMemory) => {
+            put_out(kept, held, order);
+            Err(NoMemory)
+        }
+    }
+}
+
+/// What the deleted ids grow to, since entries came into the store.
+fn deleted_then(
+    kept: &Kept,
+    held: &Held,
+    order: &[usize],
+    deletes: &IdSet,
+    waiting: &IdSet,
+    more: &IdSet,
+) -> Result<Option<IdSet>, NoMemory>
+    requires all { KeepsAll (held_of held.now.received) kept.now }
+    requires store { IsSoundStore kept.now.store }
+    requires came { CanBeTakenOut held.now order.now kept.now }
+    ensures { IfOk result (λ grown. DeletesBy held.now order.now kept.now deletes.now waiting.now
+        more.now (grown_to deletes.now grown)) }
+{
+    let alloc = held.received().allocator();
+    let came = came_of(alloc, kept, held, order)?;
+    let besides = deletions_besides(alloc, kept, deletes, waiting, more, &came)?;
+    let grown = grown_by(deletes, &besides)?;
+    Ok(grown)
+}
