@@ -7,6 +7,7 @@ const fs = require('node:fs');
 const os = require('node:os');
 const path = require('node:path');
 const { parseArgs } = require('node:util');
+const { checkCases } = require('./check.js');
 const { convertCases } = require('./convert.js');
 const { editCases } = require('./edit.js');
 const { mergeCases } = require('./merge.js');
@@ -17,7 +18,7 @@ const { undoCases } = require('./undo.js');
 
 /** The cases whose names have the word. */
 function casesWith(word) {
-  const made = [convertCases, showCases, mergeCases, editCases, undoCases];
+  const made = [convertCases, showCases, mergeCases, editCases, undoCases, checkCases];
   const all = sessions().flatMap((session) => made.flatMap((cases) => cases(session)));
   const cases = all.filter(({ name }) => name.includes(word));
   if (cases.length === 0) {
