@@ -6,9 +6,9 @@ use Rattle.yd_sockets.specs.declared.door.Door.{Door}
 use Rattle.yd_sockets.specs.declared.door.Door.TheVariants.{Shut, Open, Called}
 use Rattle.yd_sockets.specs.declared.entrance.Seen.{Seen}
 use Rattle.yd_sockets.specs.declared.entrance.Seen.TheVariants.{Nobody, Somebody, Entered}
-use Rattle.yd_sockets.specs.declared.link.Wire.{Wire}
+use Rattle.yd_lines.specs.declared.link.Wire.{Wire}
 use Rattle.tungstenite.specs.declared.protocol.RandomKeys.{RandomKeys}
-use Rattle.yd_sockets.specs.Lines.{IsNewLine}
+use Rattle.yd_lines.specs.Lines.{IsNewLine}
 
 -- who enters comes by a new connection of this server
 abbrev pub EntersNew : {L K : Type 0} → Seen L K → Type 0

@@ -1,17 +1,16 @@
 //! The client's side: one connection is made.
 
 ghost use Rattle.std.specs.Prelude.{false, IfOk};
-ghost use Rattle.yd_sockets.specs.Lines.{IsNewLine};
+ghost use Rattle.yd_lines.specs.Lines.{IsNewLine};
 
-use crate::line::{is_no_memory, limits};
-use crate::link::Wire;
-use crate::stream::Stream;
 use std::alloc::{AllocError, Global};
 use std::net::{Net, OpenStream, SocketAddr, SocketAddrV4, TcpStream};
 use std::random::RandomSource;
 use std::time::Duration;
 use tungstenite::handshake::client::{request_of, start};
 use tungstenite::{Error, HandshakeError, RandomKeys, WebSocket};
+use yd_lines::line::{is_no_memory, limits};
+use yd_lines::{Stream, Wire};
 use yd_world::Outage;
 
 /// How long a server may say nothing, in seconds.

@@ -5,13 +5,12 @@ ghost use Rattle.yd_sockets.specs.Doors.{IsDoor, Sees};
 
 use crate::calling::call;
 use crate::entrance::{Entrance, Seen};
-use crate::link::Wire;
-use crate::stream::Stream;
 use std::alloc::Global;
 use std::net::{Net, SocketAddrV4};
 use std::random::RandomSource;
 use std::time::Clock;
 use tungstenite::{RandomKeys, WebSocket};
+use yd_lines::{Stream, Wire};
 use yd_world::{NoMemory, Outage, Way};
 
 /// Where connections come from.

@@ -5,9 +5,6 @@ ghost use Rattle.std.specs.VecDeque.{deque_items};
 ghost use Rattle.yd_world.specs.declared.fault.Outage.TheVariants.{Failed};
 ghost use Rattle.yd_sockets.specs.Doors.{EntersNew};
 
-use crate::line::{is_no_memory, limits};
-use crate::link::{Link, Wire};
-use crate::stream::Stream;
 use std::alloc::Global;
 use std::collections::VecDeque;
 use std::net::{Net, OpenListener, OpenStream, SocketAddr, SocketAddrV4, TcpListener};
@@ -17,6 +14,8 @@ use tungstenite::handshake::server::start;
 use tungstenite::{
     HandshakeError, MidHandshake, NoCallback, RandomKeys, Role, ServerHandshake, WebSocket,
 };
+use yd_lines::line::{is_no_memory, limits};
+use yd_lines::{Link, Stream, Wire};
 use yd_world::{NoMemory, Outage};
 
 /// How long a handshake may take, in seconds.

@@ -16,13 +16,9 @@ mod calling;
 mod counting;
 mod door;
 mod entrance;
-mod held;
-mod line;
-mod link;
 mod look;
 mod sessions;
 mod socket_board;
-mod stream;
 mod watch;
 
 pub use address::local_address;

@@ -4,13 +4,11 @@ ghost use Rattle.std.specs.Prelude.{◌≡◌, ◌<◌, ◌++◌, [], ◌∷◌,
 ghost use Rattle.std.specs.List.{remove};
 ghost use Rattle.yd_sockets.specs.Numbers.{IsNowhere};
 
-use crate::line;
-use crate::line::Given;
-use crate::link::Link;
-use crate::stream::Stream;
 use std::alloc::Global;
 use std::marker::Model;
 use tungstenite::{MaskKeys, WebSocket};
+use yd_lines::line::Given;
+use yd_lines::{Link, Stream, line};
 use yd_world::{NoMemory, Outage};
 
 /// Open sessions, seen as their numbers, in the order in which they came.

@@ -13,11 +13,8 @@ use crate::address::local_address;
 use crate::counting::{first_session, one_more};
 use crate::door::Door;
 use crate::entrance::Seen;
-use crate::line::Given;
-use crate::link::Wire;
 use crate::look::{Look, MOST_ROUNDS, STILL_ROUNDS};
 use crate::sessions::Sessions;
-use crate::stream::Stream;
 use crate::watch::Watch;
 use std::alloc::Global;
 use std::marker::Model;
@@ -25,6 +22,8 @@ use std::net::Net;
 use std::random::RandomSource;
 use std::time::Clock;
 use tungstenite::{RandomKeys, WebSocket};
+use yd_lines::line::Given;
+use yd_lines::{Stream, Wire};
 use yd_world::{Event, NoMemory, Outage, Session, Switchboard, Way, What};
 
 /// Connections of the system. It tells nothing of what comes.

@@ -2,8 +2,8 @@
 
 ghost use Rattle.std.specs.Prelude.{◌≡◌, ◌<◌, true, false, length, IfOk, OnOk, Some};
 ghost use Rattle.std.specs.IoError.{error_kind};
-ghost use Rattle.yd_sockets.specs.Given.{IsWhatCame};
-ghost use Rattle.yd_sockets.specs.Lines.{SendsWhole, TellsNoMemory};
+ghost use Rattle.yd_lines.specs.Given.{IsWhatCame};
+ghost use Rattle.yd_lines.specs.Lines.{SendsWhole, TellsNoMemory};
 
 use crate::link::Link;
 use crate::stream::Stream;
@@ -34,7 +34,8 @@ pub enum Given {
     Ended,
 }
 
-/// The limits of a connection.
+/// The limits of a connection: a message and a frame have at most 268,435,520 bytes each, and a
+/// frame without a mask is against the protocol.
 pub fn limits() -> WebSocketConfig
     ensures message { result.max_message_size ≡ Some 268435520 }
     ensures frame { result.max_frame_size ≡ Some 268435520 }
@@ -79,7 +80,8 @@ enum Progress {
     Over,
 }
 
-/// What came. After a text, or what is against the protocol, the peer is told why it is left.
+/// What came. After a text, or what is against the protocol, the peer is told why it is left. Where
+/// there is no memory, a message that came may be lost.
 pub fn take<L: Link + Drop, K: MaskKeys + Drop>(
     alloc: Global,
     line: &mut WebSocket<Stream<L>, K>,

@@ -4,7 +4,7 @@ ghost use Rattle.std.specs.Prelude.{◌≡◌, ◌≢◌, ◌+◌, ◌≤◌, �
 ghost use Rattle.std.specs.Io.{WritesAtMost};
 ghost use Rattle.std.specs.Io.KnownBytes.{WriteAppends};
 ghost use Rattle.std.specs.IoError.{error_kind};
-ghost use Rattle.yd_sockets.specs.Flow.{Goes, all_to_come};
+ghost use Rattle.yd_lines.specs.Flow.{Goes, all_to_come};
 
 use crate::held::Held;
 use crate::link::Link;
@@ -19,8 +19,8 @@ const MOST_STILL: u32 = 1_000_000;
 const CHUNK: usize = 4096;
 
 /// A stream under a socket. A write of it never stops half-way because the stream would block; what
-/// comes meanwhile is kept, and later reads give it first. Once a write failed, all later ones fail
-/// at once.
+/// comes meanwhile is kept, at most 67,108,864 bytes, and later reads give it first. Once a write
+/// failed, all later ones fail at once.
 #[derive(Drop)]
 pub struct Stream<L> {
     inner: L,
@@ -132,7 +132,7 @@ impl<L: Link> Stream<L> {
 }
 
 impl<L: Link> Read for Stream<L> {
-    ghost use Rattle.yd_sockets.specs.Flow.{all_to_come};
+    ghost use Rattle.yd_lines.specs.Flow.{all_to_come};
 
     ghost remaining = { λ s. all_to_come s.held (L.coming s.inner) };
 

@@ -2,8 +2,8 @@
 use Rattle.std.specs.Prelude.{ℕ, List, Option, Ok}
 use Rattle.tungstenite.specs.Socket.{Socket, Reads}
 use Rattle.tungstenite.specs.declared.message.Message.TheVariants.{Binary}
-use Rattle.yd_sockets.specs.declared.line.Given.{Given}
-use Rattle.yd_sockets.specs.declared.line.Given.TheVariants.{Nothing, Something, Message, Ended}
+use Rattle.yd_lines.specs.declared.line.Given.{Given}
+use Rattle.yd_lines.specs.declared.line.Given.TheVariants.{Nothing, Something, Message, Ended}
 
 -- a message is one that the socket's frames spell, as a binary one, of bytes that came in their
 -- order; of all else nothing is said

@@ -1,6 +1,6 @@
 use Rattle.std.proofs.Common.{◌≡◌}
-use Rattle.yd_sockets.specs.Flow.{all_to_come}
-use Rattle.yd_sockets.proofs.stream.Stream.write_patiently.Given as goal
+use Rattle.yd_lines.specs.Flow.{all_to_come}
+use Rattle.yd_lines.proofs.stream.Stream.write_patiently.Given as goal
 
 -- nothing went so far, and nothing of what is to come was lost
 abbrev pub invariant-loop : goal.invariant-loop

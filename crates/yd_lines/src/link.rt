@@ -2,7 +2,7 @@
 
 ghost use Rattle.std.specs.Prelude.{◌≡◌, ℕ, List, Option, None};
 ghost use Rattle.std.specs.Io.{ReadsAtMost, WritesAtMost};
-ghost use Rattle.yd_sockets.specs.Flow.{Comes, Goes};
+ghost use Rattle.yd_lines.specs.Flow.{Comes, Goes};
 
 use std::io;
 use std::io::{Read, Write};
@@ -15,19 +15,21 @@ pub trait Link {
     /// The bytes that went, where they are known.
     ghost gone: { Self → Option (List ℕ) };
 
-    /// Takes some bytes that came.
+    /// Takes some bytes that came, at most as many as `buf` has. An error takes none.
     fn receive(&mut self, buf: &mut [u8]) -> io::Result<usize>
         ensures bound { ReadsAtMost result buf.new }
         ensures comes { Comes (coming self.old) (coming self.new) result buf.new }
         ensures kept { gone self.new ≡ gone self.old };
 
-    /// Lets a front of the piece go, and answers how many bytes it is.
+    /// Lets a front of the piece go, and answers how many bytes it is, at most all. An error lets
+    /// none go.
     fn put(&mut self, piece: &[u8]) -> io::Result<usize>
         ensures bound { WritesAtMost result piece.now }
         ensures goes { Goes (gone self.old) (gone self.new) result piece.now }
         ensures kept { coming self.new ≡ coming self.old };
 
-    /// Sees that nothing that was put is kept back.
+    /// Sees that nothing that was put is kept back. An error leaves what went; of what is to come
+    /// nothing is said.
     fn flush(&mut self) -> io::Result<()>
         ensures kept { gone self.new ≡ gone self.old };
 }
