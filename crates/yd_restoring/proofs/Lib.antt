@@ -1,5 +1,6 @@
 mod AgainLemmas
 mod BeforeLemmas
+mod KindLemmas
 mod LeftLemmas
 mod LoopLemmas
 mod MadeLemmas

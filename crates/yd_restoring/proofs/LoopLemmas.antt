@@ -12,7 +12,7 @@ use Rattle.yd_ids.specs.declared.id.Span.{Span}
 use Rattle.yd_ids.specs.Set.{AreMaximal}
 use Rattle.yd_ids.proofs.IdLemmas.{same_numbers}
 use Rattle.yd_ops.specs.declared.lists.List.{List as DocList}
-use Rattle.yd_ops.specs.Operation.{UnitContent, text_unit, any_unit, json_unit, bytes, embedded, mark, nested_type, deleted_unit, gone_unit, Operation, later_id, units_of_content, operations_of_run}
+use Rattle.yd_ops.specs.Operation.{Operation, later_id, units_of_content, operations_of_run}
 use Rattle.yd_ops.specs.Value.{ContentValue, len_of}
 use Rattle.yd_meaning.specs.Held.{is_in_span, is_named}
 use Rattle.yd_meaning.specs.ListNames.{same_list_decides}
@@ -36,6 +36,7 @@ use Rattle.yd_undo.proofs.RemadeLemmas.{group_open, row_next}
 use Rattle.yd_restoring.specs.Again.{contents, AreAgain}
 use Rattle.yd_restoring.proofs.AgainLemmas.{IsOf, again_same, again_then, content_again}
 use Rattle.yd_restoring.proofs.BeforeLemmas.{last_id}
+use Rattle.yd_restoring.proofs.KindLemmas.{kind_made, kinds_of}
 use Rattle.yd_restoring.proofs.LeftLemmas.{span_from, left_at, in_span_is, is_in_span-is, in_front, in_behind, not_behind, behind_same, none_left, apart_spans}
 use Rattle.yd_restoring.proofs.PutLemmas.{counts, counted, counted_alike, Grown, grown_less, one_of}
 use Rattle.yd_restoring.proofs.PutLemmas as put
@@ -46,21 +47,6 @@ use Rattle.yd_restoring.proofs.RowLemmas.{from_unit, before_unit, AreFrom, from_
 lent_contents : (deleted : Id → Bool) (os : List Operation) → contents_of (map (lent deleted) os) ≡ contents os
 lent_contents deleted [] = refl
 lent_contents deleted (o ∷ os) = ap (λ us. o.content ∷ us) (lent_contents deleted os)
-
-kind_made : (u : UnitContent) → 0 < kind_of u → can_be_made u ≡ true
-kind_made (text_unit unit) some = refl
-kind_made (any_unit value) some = refl
-kind_made (json_unit value) some = refl
-kind_made (bytes blob) some = refl
-kind_made (embedded value) some = refl
-kind_made (mark key value) some = refl
-kind_made (nested_type kind) some = absurd (omega (arith, some))
-kind_made deleted_unit some = absurd (omega (arith, some))
-kind_made gone_unit some = absurd (omega (arith, some))
-
-kinds_of : (kind : ℕ) (os : List Operation) → Each (λ (o : Operation). IsOf kind o.content) os → Each (IsOf kind) (contents os)
-kinds_of kind [] each = tt
-kinds_of kind (o ∷ os) each = (each.0, kinds_of kind os each.1)
 
 -- ---- what steps do to a list
 
