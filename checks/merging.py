@@ -3,9 +3,10 @@
 
     checks/merging.py YDOC
 
-YDOC is the built program. Yjs runs inside node, and its times leave out the start of node and the
-reading of files; those of the program have its start and all reading and writing. Where there is no
-Yjs, the times of the program alone are told. It is for measuring only; no check reads it.
+YDOC is the built program. All times are seconds of the processor. Yjs runs inside node, and its times
+leave out the start of node and the reading of files; those of the program have its start and all
+reading and writing. Where there is no Yjs, the times of the program alone are told. It is for
+measuring only; no check reads it.
 """
 import os
 import random
@@ -30,11 +31,12 @@ if (what === 'mergeUpdates') {
 }
 const update = new Uint8Array(bytes)
 const half = Y.encodeStateVector(new Map([[1, 130000]]))
-const start = process.hrtime.bigint()
+const start = process.cpuUsage()
 if (what === 'mergeUpdates') Y.mergeUpdates(entries)
 if (what === 'diffUpdate') Y.diffUpdate(update, half)
 if (what === 'encodeStateVectorFromUpdate') Y.encodeStateVectorFromUpdate(update)
-console.log(Number(process.hrtime.bigint() - start) / 1e9)
+const used = process.cpuUsage(start)
+console.log((used.user + used.system) / 1e6)
 """
 
 
@@ -102,7 +104,7 @@ def best(command, out):
 
 
 def yjs(what, file):
-    """The seconds of a call of Yjs, or nothing where it cannot be had."""
+    """The seconds of processor of a call of Yjs, or nothing where it cannot be had."""
     answers = []
     for _ in range(TIMES):
         done = subprocess.run(["node", "-e", YJS, what, file], capture_output=True, text=True)
