@@ -1,9 +1,13 @@
 -- What is due: one thing, and there always is one.
-use Rattle.std.proofs.Common.{◌≡◌, ◌⊎◌, ◌∙◌, ℕ, List, [], Option, Some, None, inl, inr, refl, sym, subst, ap, ap₂}
-use Rattle.yd_meaning.specs.Document.{Document, document_of}
-use Rattle.yd_ops.specs.Value.{UpdateValue}
+use Rattle.std.proofs.Common.{◌≡◌, ◌⊎◌, ◌∙◌, ℕ, List, Option, Some, None, inl, inr, refl, sym, subst, ap, ap₂}
+use Rattle.yd_checking.proofs.ConvergeLemmas.{defined_found}
+use Rattle.yd_checking.specs.Findings.{findings_of}
+use Rattle.yd_checking.specs.declared.checking.Findings.{Findings}
+use Rattle.yd_growing.proofs.ReplicaLemmas.{defined_is, documents_are_one}
+use Rattle.yd_meaning.specs.Document.{document_of}
 use Rattle.yd_playing.proofs.EndLemmas.{lines_end}
-use Rattle.yd_playing.specs.declared.fault.LineCause.{LineCause}
+use Rattle.yd_causes.specs.declared.cause.LineCause.{LineCause}
+use Rattle.yd_updates.proofs.AgreementLemmas.{received_written}
 use Rattle.yd_updates.specs.Received.{received_set}
 use Rattle.yd_world.specs.Shelf.{Shelf}
 use Rattle.yd_ending.specs.Lines.{refused_line}
@@ -11,15 +15,24 @@ use Rattle.yd_ending.specs.Script.{refused_script_line}
 use Rattle.yd_files.proofs.VerdictLemmas.{files_judged, stand_apart, stand_one, stops_one}
 use Rattle.yd_files.specs.Files.{File}
 use Rattle.yd_files.specs.Verdict.{Inputs, IsTold, StandFor, StopsAt, Verdict, accepted, missing, refused, too_large}
+use Rattle.yd_app.proofs.CheckLemmas.{found_one}
 use Rattle.yd_asking.proofs.WordLemmas.{asked_or_not, asks_same}
-use Rattle.yd_asking.specs.Command.{Command, IsOnline, edit, serve, sync}
+use Rattle.yd_asking.specs.Command.{Command, IsOnline, check, convert, cut, edit, merge, pack, serve, show, sync, vector}
+use Rattle.yd_app.specs.Commands.Check.{findings_text}
+use Rattle.yd_app.specs.Commands.Convert.{converted_output}
+use Rattle.yd_app.specs.Commands.Cut.{cut_output}
 use Rattle.yd_app.specs.Commands.Edit.{lines_of_first}
-use Rattle.yd_app.specs.Due.{Due, IsDue, IsDueIn, IsDueOver, Refuses, lacking, no_step_2, output, over_limit, refusal, usage}
+use Rattle.yd_app.specs.Commands.Merge.{merged_output}
+use Rattle.yd_app.specs.Commands.Show.{shown_line}
+use Rattle.yd_app.specs.Commands.Vector.{vector_output}
+use Rattle.yd_app.specs.Due.{AreKept, Due, IsDue, IsDueIn, IsDueOver, Refuses, lacking, no_step_2, output, over_limit, refusal, usage}
 use Rattle.yd_app.specs.Law.{OneIsDue}
 use Rattle.yd_app.specs.Link.{Link}
 use Rattle.yd_app.specs.Online.{GoesOnline, IsOutputOver, IsRefusalOver, OfInputs, WantsStep2}
-use Rattle.yd_app.specs.Output.{AreMade, IsOutputOf, IsRefusalOf, output_of}
+use Rattle.yd_app.specs.Output.{IsOutputOf, IsRefusalOf, KeepsRules}
 use Rattle.yd_asking.specs.Words.{AreOfNoForm, Asks, AsksFor}
+use Rattle.yd_asking.specs.declared.format.Format.TheVariants.{V1}
+use Rattle.yd_v1.specs.LogWriting.{log_bytes}
 
 -- what holds of what is asked for holds of each thing that is asked for
 pub asked : (words : List (List ℕ)) (Holds : Command → List File → Type 0) (command : Command) (files : List File) → AsksFor words Holds → Asks words command files → Holds command files
@@ -40,49 +53,55 @@ due_of file missing = lacking file.name
 
 -- ---- what a command makes of its inputs
 
--- it makes one row of updates
-made_one : (command : Command) (inputs : Inputs) (made other : List UpdateValue) → AreMade command inputs made → AreMade command inputs other → made ≡ other
-made_one (edit client name) inputs made other a b = lines_end.one_row client _ _ made other a b
-made_one (serve address turns) inputs made other a b = absurd a
-made_one (sync address turns) inputs made other a b = absurd a
-made_one command inputs made other a b = a ∙ sym b
-
--- it writes one output
-output_one : (command : Command) (inputs : Inputs) (bytes other : List ℕ) → IsOutputOf command inputs bytes → IsOutputOf command inputs other → bytes ≡ other
-output_one command inputs bytes other a b = a.bytes_are
-    ∙ ap₂ (λ (document : Document) made. output_of command inputs document made) (a.is_document ∙ sym b.is_document) (made_one command inputs a.made b.made a.are_made b.are_made) ∙ sym b.bytes_are
+-- where the edit rules are kept it writes one output
+output_one : (command : Command) (inputs : Inputs) (bytes other : List ℕ) → KeepsRules command inputs → IsOutputOf command inputs bytes → IsOutputOf command inputs other → bytes ≡ other
+output_one (show mode root) inputs bytes other kept a b = a.line_is
+    ∙ ap (shown_line mode root) (documents_are_one (received_set inputs.updates) kept a.document b.document a.is_document b.is_document) ∙ sym b.line_is
+output_one (edit client name) inputs bytes other kept a b = a.bytes_are
+    ∙ ap (merged_output V1) (lines_end.one_row client (received_set inputs.updates) (lines_of_first inputs.scripts) kept a.made b.made a.are_made b.are_made) ∙ sym b.bytes_are
+output_one check inputs bytes other kept a b = a.bytes_are
+    ∙ ap (λ (found : Findings). findings_text found) (found_one inputs.updates a.found b.found kept a.is_found b.is_found) ∙ sym b.bytes_are
+output_one (serve address turns) inputs bytes other kept a b = absurd a
+output_one (sync address turns) inputs bytes other kept a b = absurd a
+output_one command inputs bytes other kept a b = a ∙ sym b
 
 -- or it refuses them with one line
-refusal_one : (command : Command) (inputs : Inputs) (line other : List ℕ) → IsRefusalOf command inputs line → IsRefusalOf command inputs other → line ≡ other
-refusal_one (edit client name) inputs line other a b =
-    let same = lines_end.one_stop client _ _ a.0 b.0 a.1 b.1 a.2 b.2 in a.3 ∙ ap₂ (λ number (cause : LineCause). refused_script_line name number cause) same.0 same.1 ∙ sym b.3
-refusal_one command inputs line other a b = absurd a
+refusal_one : (command : Command) (inputs : Inputs) (line other : List ℕ) → KeepsRules command inputs → IsRefusalOf command inputs line → IsRefusalOf command inputs other → line ≡ other
+refusal_one (edit client name) inputs line other kept a b =
+    let same = lines_end.one_stop client (received_set inputs.updates) (lines_of_first inputs.scripts) kept a.0 b.0 a.1 b.1 a.2 b.2 in
+    a.3 ∙ ap₂ (λ number (cause : LineCause). refused_script_line name number cause) same.0 same.1 ∙ sym b.3
+refusal_one command inputs line other kept a b = absurd a
 
 -- and not both
-output_apart : (command : Command) (inputs : Inputs) (bytes line : List ℕ) → IsOutputOf command inputs bytes → IsRefusalOf command inputs line → ⊥
-output_apart (edit client name) inputs bytes line a b = lines_end.apart client _ _ a.made b.0 b.1 a.are_made b.2
-output_apart command inputs bytes line a b = b
-
--- where it made these, it writes something
-output_made : (command : Command) (inputs : Inputs) (made : List UpdateValue) → AreMade command inputs made → (bytes : List ℕ) × IsOutputOf command inputs bytes
-output_made command inputs made are = let document = document_of (received_set inputs.updates) in
-    (output_of command inputs document made, record { document = document; is_document = refl; made = made; are_made = are; bytes_are = refl })
+output_apart : (command : Command) (inputs : Inputs) (bytes line : List ℕ) → KeepsRules command inputs → IsOutputOf command inputs bytes → IsRefusalOf command inputs line → ⊥
+output_apart (edit client name) inputs bytes line kept a b =
+    lines_end.apart client (received_set inputs.updates) (lines_of_first inputs.scripts) kept a.made b.0 b.1 a.are_made b.2
+output_apart command inputs bytes line kept a b = b
 
 -- one of the two comes, or it uses the network
 output_or_refusal : (command : Command) (inputs : Inputs) → ((bytes : List ℕ) × IsOutputOf command inputs bytes) ⊎ ((line : List ℕ) × IsRefusalOf command inputs line) ⊎ IsOnline command
-output_or_refusal (edit client name) inputs = elim (lines_end.some client (received_set inputs.updates) (lines_of_first inputs.scripts)) [
-  | inl played ↦ inl (output_made (edit client name) inputs played.0 played.1)
+output_or_refusal (edit client name) inputs = elim (lines_end.some client (received_set inputs.updates) (lines_of_first inputs.scripts) (received_written inputs.updates)) [
+  | inl played ↦ inl (merged_output V1 played.0, record { made = played.0; are_made = played.1; bytes_are = refl })
   | inr stops ↦ inr (inl (refused_script_line name stops.0 stops.1, (stops.0, stops.1, stops.2, refl)))
 ]
+output_or_refusal (show mode root) inputs =
+    let document = document_of (received_set inputs.updates) in
+    inl (shown_line mode root document, record { document = document; is_document = defined_is (received_set inputs.updates) (received_written inputs.updates); line_is = refl })
+output_or_refusal (convert form) inputs = inl (converted_output form inputs.updates, refl)
+output_or_refusal pack inputs = inl (log_bytes inputs.updates, refl)
+output_or_refusal (merge form) inputs = inl (merged_output form inputs.updates, refl)
+output_or_refusal vector inputs = inl (vector_output inputs.updates, refl)
+output_or_refusal (cut name) inputs = inl (cut_output inputs.kinds inputs.vectors inputs.updates, refl)
+output_or_refusal check inputs =
+    inl (findings_text (findings_of inputs.updates), record { found = findings_of inputs.updates; is_found = defined_found inputs.updates (findings_of inputs.updates) refl; bytes_are = refl })
 output_or_refusal (serve address turns) inputs = inr (inr tt)
 output_or_refusal (sync address turns) inputs = inr (inr tt)
-output_or_refusal command inputs = inl (output_made command inputs [] refl)
 
 -- one that uses the network makes and refuses nothing of its inputs alone
 online_apart : (command : Command) (inputs : Inputs) → IsOnline command → ((bytes : List ℕ) × IsOutputOf command inputs bytes) ⊎ ((line : List ℕ) × IsRefusalOf command inputs line) → ⊥
-online_apart (serve address turns) inputs online (inl made) = made.1.are_made
+online_apart (serve address turns) inputs online (inl made) = made.1
 online_apart (serve address turns) inputs online (inr told) = told.1
-online_apart (sync address turns) inputs online (inl made) = made.1.are_made
+online_apart (sync address turns) inputs online (inl made) = made.1
 online_apart (sync address turns) inputs online (inr told) = told.1
 online_apart command inputs online some = absurd online
 
@@ -113,31 +132,33 @@ judged words told (lacking name) d = inr (record { command = d.command; files = 
 judged words told no_step_2 d = absurd d
 judged words told (output bytes) d = inr (record { command = d.command; files = d.files; asks = d.asks; holds = inl (d.holds.0, d.holds.1, bytes, d.holds.2, refl) })
 
--- of files one thing is due
-answers_one : (shelf : Shelf) (command : Command) (files : List File) (due other : Due) → Answers (Some shelf) due command files → Answers (Some shelf) other command files → due ≡ other
-answers_one shelf command files due other (inl a) (inl b) =
+-- of files one thing is due, where the edit rules are kept
+answers_one : (shelf : Shelf) (command : Command) (files : List File) (due other : Due) → ((inputs : Inputs) → StandFor (Some shelf) files inputs → KeepsRules command inputs) →
+    Answers (Some shelf) due command files → Answers (Some shelf) other command files → due ≡ other
+answers_one shelf command files due other kept (inl a) (inl b) =
     let same = stand_one shelf files a.0 b.0 a.1 b.1 in
-    a.4 ∙ ap output (output_one command b.0 a.2 b.2 (subst (λ (inputs : Inputs). IsOutputOf command inputs a.2) same a.3) b.3) ∙ sym b.4
-answers_one shelf command files due other (inl a) (inr (inl b)) = absurd (stand_apart shelf files a.0 b.0 b.1 a.1 b.2)
-answers_one shelf command files due other (inl a) (inr (inr b)) =
-    absurd (output_apart command b.0 a.2 b.2 (subst (λ (inputs : Inputs). IsOutputOf command inputs a.2) (stand_one shelf files a.0 b.0 a.1 b.1) a.3) b.3)
-answers_one shelf command files due other (inr (inl a)) (inl b) = absurd (stand_apart shelf files b.0 a.0 a.1 b.1 a.2)
-answers_one shelf command files due other (inr (inl a)) (inr (inl b)) =
+    a.4 ∙ ap output (output_one command b.0 a.2 b.2 (kept b.0 b.1) (subst (λ (inputs : Inputs). IsOutputOf command inputs a.2) same a.3) b.3) ∙ sym b.4
+answers_one shelf command files due other kept (inl a) (inr (inl b)) = absurd (stand_apart shelf files a.0 b.0 b.1 a.1 b.2)
+answers_one shelf command files due other kept (inl a) (inr (inr b)) =
+    absurd (output_apart command b.0 a.2 b.2 (kept b.0 b.1) (subst (λ (inputs : Inputs). IsOutputOf command inputs a.2) (stand_one shelf files a.0 b.0 a.1 b.1) a.3) b.3)
+answers_one shelf command files due other kept (inr (inl a)) (inl b) = absurd (stand_apart shelf files b.0 a.0 a.1 b.1 a.2)
+answers_one shelf command files due other kept (inr (inl a)) (inr (inl b)) =
     let same = stops_one shelf files a.0 b.0 a.1 b.1 a.2 b.2 in
     a.3 ∙ ap (λ (f : File). due_of f a.1) same.0 ∙ ap (due_of b.0) same.1 ∙ sym b.3
-answers_one shelf command files due other (inr (inl a)) (inr (inr b)) = absurd (stand_apart shelf files b.0 a.0 a.1 b.1 a.2)
-answers_one shelf command files due other (inr (inr a)) (inl b) =
-    absurd (output_apart command a.0 b.2 a.2 (subst (λ (inputs : Inputs). IsOutputOf command inputs b.2) (stand_one shelf files b.0 a.0 b.1 a.1) b.3) a.3)
-answers_one shelf command files due other (inr (inr a)) (inr (inl b)) = absurd (stand_apart shelf files a.0 b.0 b.1 a.1 b.2)
-answers_one shelf command files due other (inr (inr a)) (inr (inr b)) =
+answers_one shelf command files due other kept (inr (inl a)) (inr (inr b)) = absurd (stand_apart shelf files b.0 a.0 a.1 b.1 a.2)
+answers_one shelf command files due other kept (inr (inr a)) (inl b) =
+    absurd (output_apart command a.0 b.2 a.2 (kept a.0 a.1) (subst (λ (inputs : Inputs). IsOutputOf command inputs b.2) (stand_one shelf files b.0 a.0 b.1 a.1) b.3) a.3)
+answers_one shelf command files due other kept (inr (inr a)) (inr (inl b)) = absurd (stand_apart shelf files a.0 b.0 b.1 a.1 b.2)
+answers_one shelf command files due other kept (inr (inr a)) (inr (inr b)) =
     let same = stand_one shelf files a.0 b.0 a.1 b.1 in
-    a.4 ∙ ap refusal (refusal_one command b.0 a.2 b.2 (subst (λ (inputs : Inputs). IsRefusalOf command inputs a.2) same a.3) b.3) ∙ sym b.4
+    a.4 ∙ ap refusal (refusal_one command b.0 a.2 b.2 (kept b.0 b.1) (subst (λ (inputs : Inputs). IsRefusalOf command inputs a.2) same a.3) b.3) ∙ sym b.4
 
-judged_one : (words : List (List ℕ)) (shelf : Shelf) (due other : Due) → Judged words (Some shelf) due → Judged words (Some shelf) other → due ≡ other
-judged_one words shelf due other (inl a) (inl b) = a.1 ∙ sym b.1
-judged_one words shelf due other (inl a) (inr b) = absurd (a.0 b.command b.files b.asks)
-judged_one words shelf due other (inr a) (inl b) = absurd (b.0 a.command a.files a.asks)
-judged_one words shelf due other (inr a) (inr b) = answers_one shelf b.command b.files due other (asked words (Answers (Some shelf) due) b.command b.files a b.asks) b.holds
+judged_one : (words : List (List ℕ)) (shelf : Shelf) (due other : Due) → AreKept words (Some shelf) → Judged words (Some shelf) due → Judged words (Some shelf) other → due ≡ other
+judged_one words shelf due other kept (inl a) (inl b) = a.1 ∙ sym b.1
+judged_one words shelf due other kept (inl a) (inr b) = absurd (a.0 b.command b.files b.asks)
+judged_one words shelf due other kept (inr a) (inl b) = absurd (b.0 a.command a.files a.asks)
+judged_one words shelf due other kept (inr a) (inr b) =
+    answers_one shelf b.command b.files due other (λ inputs stand. kept b.command b.files inputs b.asks stand) (asked words (Answers (Some shelf) due) b.command b.files a b.asks) b.holds
 
 -- of files of a command that uses the network nothing is due
 answers_offline : (shelf : Shelf) (command : Command) (files : List File) (inputs : Inputs) (due : Due) → StandFor (Some shelf) files inputs → IsOnline command → Answers (Some shelf) due command files → ⊥
@@ -152,10 +173,10 @@ judged_offline words shelf due (inr a) goes =
 
 -- ---- lemmas for callers
 
--- what is due is one thing
-pub due_one : (words : List (List ℕ)) (told : Option Shelf) (due other : Due) → IsTold told → IsDue words told due → IsDue words told other → due ≡ other
-due_one words None due other is_told a b = absurd is_told
-due_one words (Some shelf) due other is_told a b = judged_one words shelf due other (judged words (Some shelf) due a) (judged words (Some shelf) other b)
+-- what is due is one thing, where the edit rules are kept
+pub due_one : (words : List (List ℕ)) (told : Option Shelf) (due other : Due) → IsTold told → AreKept words told → IsDue words told due → IsDue words told other → due ≡ other
+due_one words None due other is_told kept a b = absurd is_told
+due_one words (Some shelf) due other is_told kept a b = judged_one words shelf due other kept (judged words (Some shelf) due a) (judged words (Some shelf) other b)
 
 -- and then the words do not ask for the network
 pub due_offline : (words : List (List ℕ)) (told : Option Shelf) (due : Due) → IsTold told → IsDue words told due → GoesOnline words told → ⊥
@@ -189,12 +210,12 @@ over_online words told link (lacking name) d = absurd d
 over_online words told link no_step_2 d = goes_online words told (WantsStep2 link) (wants_online link) d
 over_online words told link (output bytes) d = goes_online words told (λ command inputs. IsOutputOver link command inputs bytes) (λ command inputs is. output_online link command inputs bytes is) d
 
--- what is due in the one way or the other is what is due by the files, where something is
-pub due_in_one : (words : List (List ℕ)) (told : Option Shelf) (link : Link) (due other : Due) → IsTold told → IsDue words told due → IsDueIn words told link other → due ≡ other
-due_in_one words told link due other is_told a (inl b) = due_one words told due other is_told a b
-due_in_one words told link due other is_told a (inr b) = absurd (due_offline words told due is_told a (over_online words told link other b))
+-- what is due in the one way or the other is due by the files, where something is
+pub due_in_alone : (words : List (List ℕ)) (told : Option Shelf) (link : Link) (due other : Due) → IsTold told → IsDue words told due → IsDueIn words told link other → IsDue words told other
+due_in_alone words told link due other is_told a (inl b) = b
+due_in_alone words told link due other is_told a (inr b) = absurd (due_offline words told due is_told a (over_online words told link other b))
 
--- there is one thing that is due, or the words ask for the network
+-- there is something that is due, or the words ask for the network
 due_some : (words : List (List ℕ)) (shelf : Shelf) → ((due : Due) × IsDue words (Some shelf) due) ⊎ GoesOnline words (Some shelf)
 due_some words shelf =
     elim (asked_or_not words) [
@@ -224,6 +245,6 @@ due_some words shelf =
 pub one_is_due : OneIsDue
 one_is_due = record {
   some = due_some;
-  one = λ words shelf due other a b. due_one words (Some shelf) due other tt a b;
+  one = λ words shelf kept due other a b. due_one words (Some shelf) due other tt kept a b;
   apart = λ words shelf due a goes. due_offline words (Some shelf) due tt a goes;
 }

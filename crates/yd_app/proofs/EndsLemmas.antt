@@ -1,12 +1,12 @@
 -- What an ending says, in statuses and lines.
-use Rattle.std.proofs.Common.{◌≡◌, ◌≢◌, ◌⊎◌, ℕ, List, [], ◌∷◌, Option, Result, Ok, Err, refl, ap, subst, sym, inl, inr, arith}
+use Rattle.std.proofs.Common.{◌≡◌, ◌≢◌, ◌⊎◌, ℕ, List, [], ◌∷◌, Option, Result, Ok, Err, refl, ap, inl, inr, arith}
 use Rattle.yd_world.specs.Shelf.{Shelf}
 use Rattle.yd_world.specs.Faults.{Rose}
 use Rattle.yd_files.specs.Counts.{Count, RoseIn}
 use Rattle.yd_files.specs.Files.{File}
 use Rattle.yd_files.specs.Reading.{FailsAt}
 use Rattle.yd_files.specs.Verdict.{Inputs, IsTold}
-use Rattle.yd_app.proofs.DueLemmas.{due_in_one, due_offline, due_one, goes_online, weaker}
+use Rattle.yd_app.proofs.DueLemmas.{due_in_alone, due_offline, goes_online, weaker}
 use Rattle.yd_app.proofs.MakingLemmas.{written_due}
 use Rattle.yd_app.specs.Due.{Due, IsDue, IsDueIn, lacking, line_of_due, no_step_2, output, over_limit, refusal, status_of_due, statuses_of_due, usage}
 use Rattle.yd_app.specs.Ending.{Ends}
@@ -15,7 +15,7 @@ use Rattle.yd_ending.specs.Ending.{line_of, status_of}
 use Rattle.yd_ending.specs.Lines.{link_fault_line, no_memory_line, read_fault_line, refusal_line, write_fault_line}
 use Rattle.yd_app.specs.Link.{Link}
 use Rattle.yd_app.specs.Online.{GoesOnline, LosesItsNetwork, LosesNetwork}
-use Rattle.yd_app.specs.Run.{Comes, CutsOff, Follows, FollowsOnline, HasReason, IsLine, TellsErr, Writes, WritesPart}
+use Rattle.yd_app.specs.Run.{Comes, CutsOff, Follows, FollowsOnline, HasReason, IsLine, IsOfDue, TellsErr, Writes, WritesPart}
 use Rattle.yd_asking.specs.Words.{AreOfNoForm, AsksFor}
 use Rattle.yd_ending.specs.Status.{IsOneOf}
 use Rattle.yd_ending.specs.Writing.{TakesAll, TakesFront, TakesPart}
@@ -145,21 +145,22 @@ three_comes words told Holds no_step_2 is w = absurd is
 three_comes words told Holds (output bytes) is w = inr (inr (inl refl))
 
 -- a status that no fault gave is that of what is due, or want of memory
-pub in_due : (words : List (List ℕ)) (told : Option Shelf) (due : Due) (status : ℕ) → IsDue words told due → IsOneOf status (statuses_of_due due) → (status ≡ 3 → status_of_due due ≡ 3) → status ≢ 4 → IsOneOf status (status_of_due due ∷ 5 ∷ [])
-in_due words told usage status is one read written = one
-in_due words told (refusal line) status is (inl e) read written = inl e
-in_due words told (refusal line) status is (inr (inl e)) read written = inr (inl e)
-in_due words told (refusal line) status is (inr (inr (inl e))) read written = absurd (omega (arith, read e))
+pub in_due : (words : List (List ℕ)) (told : Option Shelf) (due : Due) (status : ℕ) → IsDue words told due → IsOneOf status (statuses_of_due due) →
+    (status ≡ 3 → IsOfDue words told (λ done. status_of_due done ∷ 5 ∷ []) status) → status ≢ 4 → IsOfDue words told (λ done. status_of_due done ∷ 5 ∷ []) status
+in_due words told usage status is one read written = (usage, is, one)
+in_due words told (refusal line) status is (inl e) read written = (refusal line, is, inl e)
+in_due words told (refusal line) status is (inr (inl e)) read written = (refusal line, is, inr (inl e))
+in_due words told (refusal line) status is (inr (inr (inl e))) read written = read e
 in_due words told (refusal line) status is (inr (inr (inr e))) read written = absurd e
-in_due words told (over_limit name) status is (inl e) read written = inl e
-in_due words told (over_limit name) status is (inr (inl e)) read written = inr (inl e)
-in_due words told (over_limit name) status is (inr (inr (inl e))) read written = absurd (omega (arith, read e))
+in_due words told (over_limit name) status is (inl e) read written = (over_limit name, is, inl e)
+in_due words told (over_limit name) status is (inr (inl e)) read written = (over_limit name, is, inr (inl e))
+in_due words told (over_limit name) status is (inr (inr (inl e))) read written = read e
 in_due words told (over_limit name) status is (inr (inr (inr e))) read written = absurd e
-in_due words told (lacking name) status is one read written = one
+in_due words told (lacking name) status is one read written = (lacking name, is, one)
 in_due words told no_step_2 status is one read written = absurd is
-in_due words told (output bytes) status is (inl e) read written = inl e
-in_due words told (output bytes) status is (inr (inl e)) read written = inr (inl e)
-in_due words told (output bytes) status is (inr (inr (inl e))) read written = absurd (omega (arith, read e))
+in_due words told (output bytes) status is (inl e) read written = (output bytes, is, inl e)
+in_due words told (output bytes) status is (inr (inl e)) read written = (output bytes, is, inr (inl e))
+in_due words told (output bytes) status is (inr (inr (inl e))) read written = read e
 in_due words told (output bytes) status is (inr (inr (inr (inl e)))) read written = absurd (written e)
 in_due words told (output bytes) status is (inr (inr (inr (inr e)))) read written = absurd e
 
@@ -222,26 +223,23 @@ ends_no_form Calm words told told_now link reads writes taken now (Err NoStep2) 
 ends_no_form Calm words told told_now link reads writes taken now (Err NoMemory) h never = inr (inl refl)
 ends_no_form Calm words told told_now link reads writes taken now (Err (TooLarge file)) h never = absurd (never h.command h.files h.asks)
 
--- which status comes where this is due
+-- which status comes where something is due
 pub ends_told : (Calm : Type 0) (words : List (List ℕ)) (told told_now : Option Shelf) (link : Link) (reads writes : Count) (taken now : Option (List ℕ)) (e : Result (Unit {0}) Stop) → Ends Calm words told told_now link reads writes taken now e
-    → (due : Due) → IsTold told → IsDue words told due → IsOneOf (status_of e) (statuses_of_due due)
+    → (due : Due) → IsTold told → IsDue words told due → IsOfDue words told statuses_of_due (status_of e)
 ends_told Calm words told told_now link reads writes taken now e h due is_told is = by_ending e h
   where
-    same : (other : Due) → IsDueIn words told link other → IsOneOf (status_of_due other) (statuses_of_due due)
-    same other also = subst (λ (d : Due). IsOneOf (status_of_due d) (statuses_of_due due)) (due_in_one words told link due other is_told is also) (own_comes due)
+    same : (other : Due) → IsDueIn words told link other → IsOfDue words told statuses_of_due (status_of_due other)
+    same other also = (other, due_in_alone words told link due other is_told is also, own_comes other)
 
-    cut : (bytes : List ℕ) → IsDueIn words told link (output bytes) → IsOneOf 4 (statuses_of_due due)
-    cut bytes also = subst (λ (d : Due). IsOneOf 4 (statuses_of_due d)) (sym (due_in_one words told link due (output bytes) is_told is also)) (inr (inr (inr (inl refl))))
-
-    by_ending : (f : Result (Unit {0}) Stop) → Ends Calm words told told_now link reads writes taken now f → IsOneOf (status_of f) (statuses_of_due due)
+    by_ending : (f : Result (Unit {0}) Stop) → Ends Calm words told told_now link reads writes taken now f → IsOfDue words told statuses_of_due (status_of f)
     by_ending (Ok done) ends = let other = written_due words told link taken now ends in same (output other.0) other.1
     by_ending (Err (Refused what)) ends = same (refusal (refusal_line what)) ends
     by_ending (Err Usage) ends = same usage (inl ends)
-    by_ending (Err (ReadFault other)) ends = three_comes words told (λ command files. (file : File) × FailsAt Calm told told_now files file × (other.name.now ≡ file.name)) due is ends.1
-    by_ending (Err WriteFault) ends = cut ends.1.0 ends.1.1
+    by_ending (Err (ReadFault other)) ends = (due, is, three_comes words told (λ command files. (file : File) × FailsAt Calm told told_now files file × (other.name.now ≡ file.name)) due is ends.1)
+    by_ending (Err WriteFault) ends = (output ends.1.0, due_in_alone words told link due (output ends.1.0) is_told is ends.1.1, inr (inr (inr (inl refl))))
     by_ending (Err LinkFault) ends = absurd (due_offline words told due is_told is (loses_online words told link ends))
     by_ending (Err NoStep2) ends = same no_step_2 (inr ends)
-    by_ending (Err NoMemory) ends = five_comes due
+    by_ending (Err NoMemory) ends = (due, is, five_comes due)
     by_ending (Err (TooLarge file)) ends = same (over_limit file.name.now) (inl ends)
 
 -- which status comes where the words ask for the network

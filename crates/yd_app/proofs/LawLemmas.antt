@@ -5,7 +5,8 @@ use Rattle.yd_ops.specs.Value.{UpdateValue}
 use Rattle.yd_ops.specs.Valid.{IsValidUpdate}
 use Rattle.yd_updates.specs.Received.{received_set}
 use Rattle.yd_updates.proofs.AgreementLemmas.{received_one, received_merged}
-use Rattle.yd_meaning.specs.Document.{document_of}
+use Rattle.yd_growing.specs.Replica.{IsReplicaDocument}
+use Rattle.yd_growing.proofs.ReplicaLemmas.{documents_are_one}
 use Rattle.yd_world.specs.Shelf.{Shelf}
 use Rattle.yd_files.proofs.VerdictLemmas.{stand_one, stand_valid}
 use Rattle.yd_files.specs.Files.{File}
@@ -34,7 +35,7 @@ written_alone command inputs words shelf link taken now files asks stand none (i
     let same = asks_same words w.command command w.files files w.asks asks in
     let read : StandFor (Some shelf) files w.holds.0 = subst (λ (fs : List File). StandFor (Some shelf) fs w.holds.0) same.1 w.holds.1 in
     let one : w.holds.0 ≡ inputs = stand_one shelf files w.holds.0 inputs read stand in
-    (w.holds.2, subst (λ (i : Inputs). IsOutputOf command i w.holds.2) one (subst (λ (c : Command). IsOutputOf c w.holds.0 w.holds.2) same.0 w.holds.3), w.holds.4)
+    (w.holds.2, subst (λ (i : Inputs). IsOutputOf command i w.holds.2) one (subst (λ (c : Command). IsOutputOf c w.holds.0 w.holds.2) same.0 w.holds.3.is_output), w.holds.4)
 written_alone command inputs words shelf link taken now files asks stand none (inr w) =
     let same = asks_same words w.command command w.files files w.asks asks in
     let read : StandFor (Some shelf) files w.holds.0 = subst (λ (fs : List File). StandFor (Some shelf) fs w.holds.0) same.1 w.holds.1 in
@@ -43,11 +44,12 @@ written_alone command inputs words shelf link taken now files asks stand none (i
 
 -- files of the same changes show the same
 pub shows_same : ShowsConverge
-shows_same shelf other files others one another mode root read also contents =
-    λ bytes others_bytes a b. a.bytes_are
-    ∙ ap (shown_line mode root) (a.is_document ∙ ap document_of (received_same one.updates another.updates (stand_valid shelf files one read) (stand_valid other others another also) contents)
-    ∙ sym b.is_document)
-    ∙ sym b.bytes_are
+shows_same shelf other files others one another mode root read also contents honest =
+    λ bytes others_bytes a b.
+    let same = received_same one.updates another.updates (stand_valid shelf files one read) (stand_valid other others another also) contents in
+    a.line_is
+    ∙ ap (shown_line mode root) (documents_are_one (received_set one.updates) honest a.document b.document a.is_document (subst (IsReplicaDocument b.document) (sym same) b.is_document))
+    ∙ sym b.line_is
 
 -- what a run that shows a root has written
 written_of : (mode : Mode) (root : List ℕ) (inputs : Inputs) (words : List (List ℕ)) (shelf : Shelf) (link : Link) (taken now : Option (List ℕ)) → Shows mode root inputs words shelf link taken now →
@@ -56,8 +58,8 @@ written_of mode root inputs words shelf link taken now shows = written_alone (sh
 
 -- two runs that show a root of the same changes have written the same
 pub runs_same : RunsConverge
-runs_same mode root one another words others shelf other link another_link taken now took took_now a b contents =
+runs_same mode root one another words others shelf other link another_link taken now took took_now a b contents honest =
     let x = written_of mode root one words shelf link taken now a in
     let y = written_of mode root another others other another_link took took_now b in
-    let alike : x.0 ≡ y.0 = shows_same shelf other a.files b.files one another mode root a.stand b.stand contents x.0 y.0 x.1 y.1 in
+    let alike : x.0 ≡ y.0 = shows_same shelf other a.files b.files one another mode root a.stand b.stand contents honest x.0 y.0 x.1 y.1 in
     (x.0, x.2, subst (λ (l : List ℕ). TakesAll took took_now l) (sym alike) y.2)

@@ -1,8 +1,9 @@
 -- What was made and what was written of it, as the ending of a run.
-use Rattle.std.proofs.Common.{◌≡◌, ◌≢◌, ◌⊎◌, ◌∙◌, ℕ, List, [], Option, Result, Ok, Err, IsErr, IsErrAnd, IsOk, refl, inl, inr, subst, sym, ap, arith}
+use Rattle.std.proofs.Common.{◌≡◌, ◌≢◌, ◌⊎◌, ◌∙◌, ℕ, List, Option, Result, Ok, Err, IsErr, IsErrAnd, IsOk, refl, inl, inr, subst, sym, ap, arith}
 use Rattle.std.specs.Global.{Vec}
-use Rattle.yd_meaning.specs.Document.{Document, IsDocumentOf, document_of}
-use Rattle.yd_ops.specs.Value.{UpdateValue}
+use Rattle.yd_meaning.specs.Document.{Document}
+use Rattle.yd_growing.specs.Replica.{IsReplicaDocument}
+use Rattle.yd_modes.specs.declared.mode.Mode.{Mode}
 use Rattle.yd_v1.specs.Log.{StandsForLog}
 use Rattle.yd_v1.specs.LogWriting.{log_bytes}
 use Rattle.yd_updates.specs.Received.{Received, received_set}
@@ -18,10 +19,11 @@ use Rattle.yd_files.specs.declared.fault.FileFault.TheVariants as faults
 use Rattle.yd_files.specs.Verdict.{Inputs, StandFor}
 use Rattle.yd_app.proofs.DueLemmas.{weaker}
 use Rattle.yd_asking.specs.Asking.{StopsAsking}
-use Rattle.yd_asking.specs.Command.{Command, pack}
+use Rattle.yd_asking.specs.Command.{Command, pack, show}
+use Rattle.yd_app.specs.Commands.Show.{shown_line}
 use Rattle.yd_app.specs.Due.{IsDueIn, IsDueOver, no_step_2, output, refusal}
 use Rattle.yd_app.specs.Ending.{Ends}
-use Rattle.yd_app.specs.Output.{AreMade, IsMadeOf, StandsForAgain, output_of}
+use Rattle.yd_app.specs.Output.{IsMadeOf}
 use Rattle.yd_app.specs.Link.{Link}
 use Rattle.yd_app.specs.Online.{LosesItsNetwork, OfInputs}
 use Rattle.yd_app.specs.Run.{TakesAllOf, TakesAllOver, Writes}
@@ -32,17 +34,11 @@ use Rattle.yd_ending.specs.declared.stop.Stop.TheVariants.{Usage, Refused, ReadF
 
 -- ---- what is made of inputs
 
--- of a document of what was received
-pub made_of_document : (command : Command) (inputs : Inputs) (received : Received) (document : Document) (made : List UpdateValue) (bytes : List ℕ) → received ≡ received_set inputs.updates → IsDocumentOf document received → AreMade command inputs made
-    → StandsForAgain command inputs → bytes ≡ output_of command inputs document made
-    → IsMadeOf command inputs bytes
-made_of_document command inputs received document made bytes is of are again bytes_are =
-    record { is_output = record { document = document; is_document = subst (IsDocumentOf document) is of; made = made; are_made = are; bytes_are = bytes_are }; again = again }
-
--- of the inputs alone, whatever the document
-pub made_of_updates : (command : Command) (inputs : Inputs) (bytes : List ℕ) → AreMade command inputs [] → StandsForAgain command inputs → ((document : Document) → bytes ≡ output_of command inputs document []) → IsMadeOf command inputs bytes
-made_of_updates command inputs bytes none again bytes_are =
-    made_of_document command inputs (received_set inputs.updates) (document_of (received_set inputs.updates)) [] bytes refl refl none again (bytes_are (document_of (received_set inputs.updates)))
+-- a root that is shown of a document of what was received
+pub made_of_document : (mode : Mode) (root : List ℕ) (inputs : Inputs) (received : Received) (document : Document) (line : List ℕ) → received ≡ received_set inputs.updates → IsReplicaDocument document received
+    → line ≡ shown_line mode root document → IsMadeOf (show mode root) inputs line
+made_of_document mode root inputs received document line is of line_is =
+    record { is_output = record { document = document; is_document = subst (IsReplicaDocument document) is of; line_is = line_is }; again = tt }
 
 -- ---- what was made
 
@@ -111,7 +107,7 @@ refuses_some Calm command files told told_now reads inputs (Err other) stop is s
 -- the log of the updates that the files stand for
 pub packs_files : (told : Option Shelf) (files : List File) (inputs : Inputs) (bytes : List ℕ) → StandFor told files inputs → bytes ≡ log_bytes inputs.updates → StandsForLog bytes inputs.updates → MakesOf pack files told bytes
 packs_files told files inputs bytes stand written again =
-    (inputs, stand, made_of_updates pack inputs bytes refl (subst (λ (b : List ℕ). StandsForLog b inputs.updates) written again) (λ document. written))
+    (inputs, stand, record { is_output = written; again = subst (λ (b : List ℕ). StandsForLog b inputs.updates) written again })
 
 -- ---- how the run ends
 
@@ -171,7 +167,7 @@ made_written : (Calm : Type 0) (words : List (List ℕ)) (told told_now : Option
     → Writes words told link taken now
 made_written Calm words told told_now link reads taken now bytes (inl asks) all =
     inl (weaker words (λ command files. MakesOf command files told bytes.items) (λ command files. TakesAllOf command files told taken now)
-    (λ command files x. (x.0, x.1, bytes.items, x.2.is_output, all, x.2.again)) asks)
+    (λ command files x. (x.0, x.1, bytes.items, x.2, all)) asks)
 made_written Calm words told told_now link reads taken now bytes (inr over) all =
     inr (weaker words (λ command files. OfInputs told files (λ inputs. MakesOver link command inputs (Ok bytes))) (λ command files. TakesAllOver link command files told taken now)
     (λ command files x. (x.0, x.1, (bytes.items, x.2, all))) over)
@@ -180,7 +176,7 @@ made_written Calm words told told_now link reads taken now bytes (inr over) all 
 
 -- what was written is due
 pub written_due : (words : List (List ℕ)) (told : Option Shelf) (link : Link) (taken now : Option (List ℕ)) → Writes words told link taken now → (bytes : List ℕ) × IsDueIn words told link (output bytes)
-written_due words told link taken now (inl w) = (w.holds.2, inl (record { command = w.command; files = w.files; asks = w.asks; holds = (w.holds.0, w.holds.1, w.holds.3) }))
+written_due words told link taken now (inl w) = (w.holds.2, inl (record { command = w.command; files = w.files; asks = w.asks; holds = (w.holds.0, w.holds.1, w.holds.3.is_output) }))
 written_due words told link taken now (inr w) = (w.holds.2.0, inr (record { command = w.command; files = w.files; asks = w.asks; holds = (w.holds.0, w.holds.1, w.holds.2.1) }))
 
 -- how a run ends that made this and wrote it so far

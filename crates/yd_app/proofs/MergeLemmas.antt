@@ -27,8 +27,8 @@ use Rattle.yd_asking.specs.declared.format.Format.TheVariants.{V1, V2}
 
 -- updates that merge to one have one output
 output_same : (command : Command) (one another : Inputs) (bytes others_bytes : List ℕ) → WritesOfMerge command → merge_of one.updates ≡ merge_of another.updates → IsOutputOf command one bytes → IsOutputOf command another others_bytes → bytes ≡ others_bytes
-output_same (merge form) one another bytes others_bytes of same a b = a.bytes_are ∙ ap (converted_bytes form) same ∙ sym b.bytes_are
-output_same vector one another bytes others_bytes of same a b = a.bytes_are ∙ ap (λ (u : UpdateValue). vector_bytes (reach_of u)) same ∙ sym b.bytes_are
+output_same (merge form) one another bytes others_bytes of same a b = a ∙ ap (converted_bytes form) same ∙ sym b
+output_same vector one another bytes others_bytes of same a b = a ∙ ap (λ (u : UpdateValue). vector_bytes (reach_of u)) same ∙ sym b
 output_same command one another bytes others_bytes of same a b = absurd of
 
 -- files of the same changes have the same merge
@@ -81,13 +81,7 @@ read_as shelf form name bytes u (content ∷ []) here stands read =
 pub merges_converted : MergesAreConverted
 merges_converted shelf other files name form to inputs others bytes written read made fits here stand converts =
     let merged = merge_of inputs.updates in
-    let is : bytes ≡ converted_bytes form merged = made.is_output.bytes_are in
+    let is : bytes ≡ converted_bytes form merged = made.is_output in
     let stands : StandsIn (kind_of form) bytes (one_update merged) = stands_in form bytes merged (subst (λ (bs : List ℕ). StandsAgain form bs merged) (sym is) made.again) fits in
     let one : others.updates ≡ merged ∷ [] = ap (λ (i : Inputs). i.updates) stand.inputs_are ∙ read_as other form name bytes merged stand.contents here stands stand.are_read in
-    record {
-      document = made.is_output.document;
-      is_document = made.is_output.is_document;
-      made = [];
-      are_made = refl;
-      bytes_are = converts.bytes_are ∙ ap (converted_output to) one;
-    }
+    converts ∙ ap (converted_output to) one

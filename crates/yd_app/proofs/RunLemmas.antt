@@ -1,12 +1,12 @@
 -- What is promised of a run, read off its ending.
-use Rattle.std.proofs.Common.{◌≡◌, ◌≢◌, ◌⊎◌, ℕ, List, [], ◌∷◌, Option, Result, Ok, Err, refl, ap, subst, sym, inl, inr, arith}
+use Rattle.std.proofs.Common.{◌≡◌, ◌≢◌, ◌⊎◌, ℕ, List, [], ◌∷◌, Option, Result, Ok, Err, refl, inl, inr, arith}
 use Rattle.yd_world.specs.Shelf.{Shelf}
 use Rattle.yd_world.specs.Faults.{Rose}
 use Rattle.yd_files.specs.Counts.{Count, RoseIn}
 use Rattle.yd_files.specs.Files.{File}
 use Rattle.yd_files.specs.Reading.{FailsAt}
 use Rattle.yd_files.specs.Verdict.{Inputs, IsTold}
-use Rattle.yd_app.proofs.DueLemmas.{due_in_one, due_offline, due_one, goes_online, weaker}
+use Rattle.yd_app.proofs.DueLemmas.{due_offline, goes_online, weaker}
 use Rattle.yd_app.proofs.MakingLemmas.{written_due}
 use Rattle.yd_app.specs.Due.{Due, IsDue, IsDueIn, lacking, line_of_due, no_step_2, output, over_limit, refusal, status_of_due, statuses_of_due, usage}
 use Rattle.yd_app.specs.Ending.{Ends}
@@ -15,7 +15,7 @@ use Rattle.yd_ending.specs.Ending.{line_of, status_of}
 use Rattle.yd_ending.specs.Lines.{link_fault_line, no_memory_line, read_fault_line, refusal_line, write_fault_line}
 use Rattle.yd_app.specs.Link.{Link}
 use Rattle.yd_app.specs.Online.{GoesOnline, LosesItsNetwork, LosesNetwork}
-use Rattle.yd_app.specs.Run.{Comes, CutsOff, Follows, FollowsOnline, HasReason, IsLine, TellsErr, Writes, WritesPart}
+use Rattle.yd_app.specs.Run.{Comes, CutsOff, Follows, FollowsOnline, HasReason, IsLine, IsOfDue, TellsErr, Writes, WritesPart}
 use Rattle.yd_asking.specs.Words.{AreOfNoForm, AsksFor}
 use Rattle.yd_ending.specs.Status.{IsOneOf}
 use Rattle.yd_ending.specs.Writing.{TakesAll, TakesFront, TakesPart}
@@ -40,30 +40,32 @@ pub reported_comes : (Calm : Type 0) (words : List (List ℕ)) (told told_now : 
     → (status ≡ status_of e) ⊎ ((status ≡ 5) × (status_of e ≢ 0)) → Comes words told status
 reported_comes Calm words told told_now link reads writes taken now e status ends is =
     reported (Comes words told) status (status_of e) is (ends_comes Calm words told told_now link reads writes taken now e ends)
-    (record { is_status = inr (inr (inr (inr (inr (inl refl))))); no_form = λ never. inr (inl refl); where_told = λ due is_told due_is. five_comes due; online = λ is_told goes. inr (inr (inr (inr (inl refl)))) })
+    (record { is_status = inr (inr (inr (inr (inr (inl refl))))); no_form = λ never. inr (inl refl); where_told = λ due is_told due_is. (due, due_is, five_comes due); online = λ is_told goes. inr (inr (inr (inr (inl refl)))) })
 
 -- it is that of what is due, where no fault gave it
 follows : (Calm : Type 0) (words : List (List ℕ)) (told told_now : Option Shelf) (link : Link) (reads writes : Count) (taken now : Option (List ℕ)) (e : Result (Unit {0}) Stop) (status : ℕ) → Ends Calm words told told_now link reads writes taken now e
-    → (status ≡ status_of e) ⊎ ((status ≡ 5) × (status_of e ≢ 0)) → ((due : Due) → IsTold told → IsDue words told due → status_of e ≡ 3 → status_of_due due ≡ 3) → status_of e ≢ 4 → Follows words told status
+    → (status ≡ status_of e) ⊎ ((status ≡ 5) × (status_of e ≢ 0)) → (IsTold told → status_of e ≡ 3 → IsOfDue words told (λ done. status_of_due done ∷ 5 ∷ []) (status_of e)) → status_of e ≢ 4 → Follows words told status
 follows Calm words told told_now link reads writes taken now e status ends is read written =
     reported (Follows words told) status (status_of e) is
-    (λ due is_told due_is. in_due words told due (status_of e) due_is (ends_told Calm words told told_now link reads writes taken now e ends due is_told due_is) (read due is_told due_is) written)
-    (λ due is_told due_is. inr (inl refl))
+    (λ due is_told due_is.
+    let other = ends_told Calm words told told_now link reads writes taken now e ends due is_told due_is in
+    in_due words told other.0 (status_of e) other.1 other.2 (read is_told) written)
+    (λ due is_told due_is. (due, due_is, inr (inl refl)))
 
 -- so it is where no call is set to fail
 pub calm_follows : (Calm : Type 0) (words : List (List ℕ)) (told told_now : Option Shelf) (link : Link) (reads writes : Count) (taken now : Option (List ℕ)) (e : Result (Unit {0}) Stop) (status : ℕ) → Ends Calm words told told_now link reads writes taken now e
     → (status ≡ status_of e) ⊎ ((status ≡ 5) × (status_of e ≢ 0)) → Calm → status_of e ≢ 4 → Follows words told status
 calm_follows Calm words told told_now link reads writes taken now e status ends is calm =
-    follows Calm words told told_now link reads writes taken now e status ends is (λ due is_told due_is n.
+    follows Calm words told told_now link reads writes taken now e status ends is (λ is_told n.
     let lacks = lacking_due Calm words told told_now (line_of e) calm is_told (read_failed Calm words told told_now link reads writes taken now e ends n).1 in
-    ap status_of_due (due_one words told due (lacking lacks.0) is_told due_is lacks.1))
+    (lacking lacks.0, lacks.1, inl n))
 
 -- and where no count rose
 pub counted_follows : (Calm : Type 0) (words : List (List ℕ)) (told told_now : Option Shelf) (link : Link) (reads writes : Count) (taken now : Option (List ℕ)) (e : Result (Unit {0}) Stop) (status : ℕ) → Ends Calm words told told_now link reads writes taken now e
     → (status ≡ status_of e) ⊎ ((status ≡ 5) × (status_of e ≢ 0)) → ¬ (RoseIn reads) → ¬ (RoseIn writes) → Follows words told status
 counted_follows Calm words told told_now link reads writes taken now e status ends is read written =
     follows Calm words told told_now link reads writes taken now e status ends is
-    (λ due is_told due_is n. absurd (read (read_failed Calm words told told_now link reads writes taken now e ends n).0))
+    (λ is_told n. absurd (read (read_failed Calm words told told_now link reads writes taken now e ends n).0))
     (λ n. written (write_failed Calm words told told_now link reads writes taken now e ends n).0)
 
 -- over the network it is one of these, where no fault gave it

@@ -9,8 +9,8 @@ use Rattle.yd_files.specs.Verdict.{Inputs, StandFor, StopsAt, missing, refused, 
 use Rattle.yd_asking.specs.Command.{Command}
 use Rattle.yd_app.specs.Link.{Link}
 use Rattle.yd_app.specs.Online.{IsOutputOver, IsRefusalOver, OfInputs, WantsStep2}
-use Rattle.yd_app.specs.Output.{IsOutputOf, IsRefusalOf}
-use Rattle.yd_asking.specs.Words.{AreOfNoForm, AsksFor}
+use Rattle.yd_app.specs.Output.{IsOutputOf, IsRefusalOf, KeepsRules}
+use Rattle.yd_asking.specs.Words.{AreOfNoForm, Asks, AsksFor}
 
 -- how the program is used; the line of what is refused; the name of a file that is too large; the name that the library lacks; that
 -- no step 2 came; or the bytes that the command makes
@@ -37,6 +37,10 @@ IsDue words told (over_limit name) = AsksFor words (λ command files. (file : Fi
 IsDue words told (lacking name) = AsksFor words (λ command files. (file : File) × StopsAt told files file missing × (name ≡ file.name))
 IsDue words told no_step_2 = ⊥
 IsDue words told (output bytes) = AsksFor words (λ command files. (inputs : Inputs) × StandFor told files inputs × IsOutputOf command inputs bytes)
+
+-- so the edit rules are kept by what the words ask for, where all files are accepted
+abbrev pub AreKept : List (List ℕ) → Option Shelf → Type 0
+AreKept words told = (command : Command) (files : List File) (inputs : Inputs) → Asks words command files → StandFor told files inputs → KeepsRules command inputs
 
 -- by what came over the network, where all files are accepted: what the command writes, the line of the message that it refuses, or that
 -- no step 2 came

@@ -1,5 +1,6 @@
 -- Laws over words, files, and what is shown of them.
 use Rattle.std.specs.Prelude.{◌≡◌, ◌⊎◌, ℕ, ◌≤◌, List, [], ◌∷◌, Option, Some}
+use Rattle.yd_checking.specs.Law.{AreToldAlike}
 use Rattle.yd_fields.specs.UpdatePlan.{structs_in}
 use Rattle.yd_grouping.specs.Merged.{merge_of}
 use Rattle.yd_ops.specs.Value.{UpdateValue}
@@ -12,10 +13,10 @@ use Rattle.yd_files.specs.Verdict.{Inputs, StandFor}
 use Rattle.yd_files.specs.declared.kind.Kind.{Kind}
 use Rattle.yd_files.specs.declared.kind.Kind.TheVariants as kinds
 use Rattle.yd_asking.specs.Command.{Command, check, convert, merge, show, vector}
-use Rattle.yd_app.specs.Due.{Due, IsDue}
+use Rattle.yd_app.specs.Due.{AreKept, Due, IsDue}
 use Rattle.yd_app.specs.Link.{Link}
 use Rattle.yd_app.specs.Online.{GoesOnline}
-use Rattle.yd_app.specs.Output.{IsMadeOf, IsOutputOf}
+use Rattle.yd_app.specs.Output.{BringHonest, IsMadeOf, IsOutputOf}
 use Rattle.yd_app.specs.Run.{Writes}
 use Rattle.yd_asking.specs.Words.{Asks}
 use Rattle.yd_asking.specs.declared.format.Format.{Format}
@@ -26,10 +27,11 @@ use Rattle.yd_modes.specs.declared.mode.Mode.{Mode}
 abbrev pub AskForOne : Type 0
 AskForOne = (words : List (List ℕ)) (command other : Command) (files others : List File) → Asks words command files → Asks words other others → (command ≡ other) × (files ≡ others)
 
--- where a library tells, one thing is due by the words and the files alone, or the words ask for the network
+-- where a library tells, something is due by the words and the files alone, or the words ask for the network. It is one thing; of `show`,
+-- `check` and `edit` where the edit rules are kept
 pub record OneIsDue : Type 0 where
   pub some : (words : List (List ℕ)) (shelf : Shelf) → ((due : Due) × IsDue words (Some shelf) due) ⊎ GoesOnline words (Some shelf)
-  pub one : (words : List (List ℕ)) (shelf : Shelf) (due other : Due) → IsDue words (Some shelf) due → IsDue words (Some shelf) other → due ≡ other
+  pub one : (words : List (List ℕ)) (shelf : Shelf) → AreKept words (Some shelf) → (due other : Due) → IsDue words (Some shelf) due → IsDue words (Some shelf) other → due ≡ other
   pub apart : (words : List (List ℕ)) (shelf : Shelf) (due : Due) → IsDue words (Some shelf) due → GoesOnline words (Some shelf) → ⊥
 
 -- the updates of both have the same operations and deletions, in any order and repeated, and operations with one id are alike
@@ -47,10 +49,11 @@ pub record SayOneThing (one other : List UpdateValue) : Type 0 where
 abbrev pub AreSameChanges : List UpdateValue → List UpdateValue → Type 0
 AreSameChanges one other = HaveOneContents one other ⊎ SayOneThing one other
 
--- files in any formats, by any names and in any libraries, show the same of each root, in every mode, where they are the same changes
+-- files in any formats, by any names and in any libraries, show the same of each root, in every mode, where they are the same changes and
+-- bring what keeps the edit rules
 abbrev pub ShowsConverge : Type 0
 ShowsConverge = (shelf other : Shelf) (files others : List File) (one another : Inputs) (mode : Mode) (root : List ℕ) → StandFor (Some shelf) files one →
-    StandFor (Some other) others another → AreSameChanges one.updates another.updates →
+    StandFor (Some other) others another → AreSameChanges one.updates another.updates → BringHonest one.updates →
     (bytes others_bytes : List ℕ) → IsOutputOf (show mode root) one bytes → IsOutputOf (show mode root) another others_bytes → bytes ≡ others_bytes
 
 -- the words ask to show the root in the mode, of files that are read as these inputs, and what is promised for status 0 was written
@@ -60,10 +63,11 @@ pub record Shows (mode : Mode) (root : List ℕ) (inputs : Inputs) (words : List
   pub stand : StandFor (Some shelf) files inputs
   pub writes : Writes words (Some shelf) link taken now
 
--- two runs that show a root in one mode of the same changes and answer 0 have written the same
+-- two runs that show a root in one mode of the same changes, which bring what keeps the edit rules, and answer 0 have written the same
 abbrev pub RunsConverge : Type 0
 RunsConverge = (mode : Mode) (root : List ℕ) (one another : Inputs) (words others : List (List ℕ)) (shelf other : Shelf) (link another_link : Link) (taken now took took_now : Option (List ℕ)) →
     Shows mode root one words shelf link taken now → Shows mode root another others other another_link took took_now → AreSameChanges one.updates another.updates →
+    BringHonest one.updates →
     (written : List ℕ) × TakesAll taken now written × TakesAll took took_now written
 
 -- ---- merges
@@ -95,17 +99,21 @@ MergeRunsConverge = (command : Command) (one another : Inputs) (words others : L
 
 -- ---- checks
 
--- files in any formats, by any names and in any libraries, are told alike, in all seven lines, where they are the same changes and agree
-abbrev pub ChecksConverge : Type 0
-ChecksConverge = (shelf other : Shelf) (files others : List File) (one another : Inputs) → StandFor (Some shelf) files one → StandFor (Some other) others another →
-    Agree one.updates → Agree another.updates → AreSameChanges one.updates another.updates →
-    (bytes others_bytes : List ℕ) → IsOutputOf check one bytes → IsOutputOf check another others_bytes → bytes ≡ others_bytes
+-- files in any formats, by any names and in any libraries, are told alike, in all seven lines but that of deleted units, where they are the same
+-- changes and agree; and in all seven, where they bring what keeps the edit rules
+pub record ChecksConverge : Type 0 where
+  pub alike : (shelf other : Shelf) (files others : List File) (one another : Inputs) → StandFor (Some shelf) files one → StandFor (Some other) others another →
+      Agree one.updates → Agree another.updates → AreSameChanges one.updates another.updates →
+      (bytes others_bytes : List ℕ) → (a : IsOutputOf check one bytes) → (b : IsOutputOf check another others_bytes) → AreToldAlike a.found b.found
+  pub same : (shelf other : Shelf) (files others : List File) (one another : Inputs) → StandFor (Some shelf) files one → StandFor (Some other) others another →
+      Agree one.updates → Agree another.updates → AreSameChanges one.updates another.updates → BringHonest one.updates →
+      (bytes others_bytes : List ℕ) → IsOutputOf check one bytes → IsOutputOf check another others_bytes → bytes ≡ others_bytes
 
--- two runs that check the same changes, which agree, and answer 0 have written the same
+-- two runs that check the same changes, which agree and bring what keeps the edit rules, and answer 0 have written the same
 abbrev pub CheckRunsConverge : Type 0
 CheckRunsConverge = (one another : Inputs) (words others : List (List ℕ)) (shelf other : Shelf) (link another_link : Link) (taken now took took_now : Option (List ℕ)) →
     Runs check one words shelf link taken now → Runs check another others other another_link took took_now →
-    Agree one.updates → Agree another.updates → AreSameChanges one.updates another.updates →
+    Agree one.updates → Agree another.updates → AreSameChanges one.updates another.updates → BringHonest one.updates →
     (written : List ℕ) × TakesAll taken now written × TakesAll took took_now written
 
 -- ---- conversions

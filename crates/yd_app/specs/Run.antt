@@ -13,7 +13,7 @@ use Rattle.yd_ending.specs.Status.{IsOneOf}
 use Rattle.yd_ending.specs.Writing.{TakesAll, TakesFront, TakesPart}
 use Rattle.yd_app.specs.Link.{Link}
 use Rattle.yd_app.specs.Online.{GoesOnline, HasItsTurns, IsOutputOver, LosesItsNetwork, OfInputs}
-use Rattle.yd_app.specs.Output.{IsOutputOf, StandsForAgain}
+use Rattle.yd_app.specs.Output.{IsMadeOf}
 use Rattle.yd_asking.specs.Words.{AreOfNoForm, Asks, AsksFor}
 
 -- ---- statuses
@@ -25,16 +25,20 @@ pub record HasReason (words : List (List ℕ)) (told : Option Shelf) (link : Lin
   pub write_fault : status ≡ 4 → RoseIn writes
   pub link_fault : status ≡ 6 → LosesItsNetwork words told link
 
+-- the status is one of these of something that is due
+abbrev pub IsOfDue : List (List ℕ) → Option Shelf → (Due → List ℕ) → ℕ → Type 0
+IsOfDue words told statuses status = (due : Due) × IsDue words told due × IsOneOf status (statuses due)
+
 -- which statuses there are, and which of them can come: by what is due, and where the words ask for the network and all files are accepted
 pub record Comes (words : List (List ℕ)) (told : Option Shelf) (status : ℕ) : Type 0 where
   pub is_status : IsOneOf status (0 ∷ 1 ∷ 2 ∷ 3 ∷ 4 ∷ 5 ∷ 6 ∷ 7 ∷ 8 ∷ [])
   pub no_form : AreOfNoForm words → IsOneOf status (2 ∷ 5 ∷ [])
-  pub where_told : (due : Due) → IsTold told → IsDue words told due → IsOneOf status (statuses_of_due due)
+  pub where_told : (due : Due) → IsTold told → IsDue words told due → IsOfDue words told statuses_of_due status
   pub online : IsTold told → GoesOnline words told → IsOneOf status (0 ∷ 1 ∷ 3 ∷ 4 ∷ 5 ∷ 6 ∷ 8 ∷ [])
 
--- the run does or tells what is due, or memory is wanted
+-- where something is due, the run does or tells what is, or memory is wanted
 abbrev pub Follows : List (List ℕ) → Option Shelf → ℕ → Type 0
-Follows words told status = (due : Due) → IsTold told → IsDue words told due → IsOneOf status (status_of_due due ∷ 5 ∷ [])
+Follows words told status = (due : Due) → IsTold told → IsDue words told due → IsOfDue words told (λ done. status_of_due done ∷ 5 ∷ []) status
 
 -- where the words ask for the network and all files are accepted, it does or tells what comes of that, or memory is wanted
 abbrev pub FollowsOnline : List (List ℕ) → Option Shelf → ℕ → Type 0
@@ -56,10 +60,10 @@ pub record Completes (ReadsCalmly WritesCalmly LinksCalmly : Type 0) (words : Li
 -- ---- output
 
 -- all that the command makes of what the files stand for was written, whoever made their updates and however their bytes spell them; what
--- `convert`, `pack`, `merge`, `vector` and `cut` wrote stands again for what was written
+-- `convert`, `pack`, `merge`, `vector`, `cut` and `edit` wrote stands again for what was written
 abbrev pub TakesAllOf : Command → List File → Option Shelf → Option (List ℕ) → Option (List ℕ) → Type 0
 TakesAllOf command files told taken now =
-    (inputs : Inputs) × StandFor told files inputs × (bytes : List ℕ) × IsOutputOf command inputs bytes × TakesAll taken now bytes × StandsForAgain command inputs
+    (inputs : Inputs) × StandFor told files inputs × (bytes : List ℕ) × IsMadeOf command inputs bytes × TakesAll taken now bytes
 
 -- all that it makes over the network was written
 abbrev pub TakesAllOver : Link → Command → List File → Option Shelf → Option (List ℕ) → Option (List ℕ) → Type 0

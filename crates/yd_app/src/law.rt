@@ -23,21 +23,23 @@ pub fn words_ask_for_one()
     ensures { AskForOne }
 {}
 
-/// Where a library tells, one thing is due by the words and the files: the usage line, the output,
-/// or what the first file is that is not accepted; or the words ask for the network.
+/// Where a library tells, something is due by the words and the files: the usage line, the output,
+/// or what the first file is that is not accepted; or the words ask for the network. It is one thing,
+/// of `show`, `check` and `edit` where the edit rules are kept.
 pub fn one_is_due()
     ensures { OneIsDue }
 {}
 
-/// Files of the same changes show the same: in any order, repeated or translated, and merged. Their
-/// operations with one id have to be alike. Where some are merged, they also have to keep the
-/// collecting rule: of a pair that one update tells in full, each tells less of both or of neither.
+/// Files of the same changes show the same: in any order, repeated or translated, and merged. What
+/// they bring has to keep the edit rules, and their operations with one id have to be alike. Where
+/// some are merged, they also have to keep the collecting rule: of a pair that one update tells in
+/// full, each tells less of both or of neither.
 pub fn shows_converge()
     ensures { ShowsConverge }
 {}
 
 /// Two runs of `show` over the same changes that answer 0 have written the same, where their updates
-/// agree.
+/// agree and what they bring keeps the edit rules.
 pub fn runs_converge()
     ensures { RunsConverge }
 {}
@@ -54,14 +56,15 @@ pub fn merge_runs_converge()
     ensures { MergeRunsConverge }
 {}
 
-/// Files of the same changes are told alike by `check`, in all seven lines: in any order, repeated or
-/// translated, and merged. They have to agree as for [`shows_converge`].
+/// Files of the same changes are told alike by `check`, in all lines but that of deleted units: in any
+/// order, repeated or translated, and merged. They have to agree as for [`shows_converge`]. Where what
+/// they bring keeps the edit rules, so they are in all seven.
 pub fn checks_converge()
     ensures { ChecksConverge }
 {}
 
 /// Two runs of `check` over the same changes that answer 0 have written the same, where their updates
-/// agree.
+/// agree and what they bring keeps the edit rules.
 pub fn check_runs_converge()
     ensures { CheckRunsConverge }
 {}

@@ -1,8 +1,9 @@
 -- Lists in which no element stands twice: with the same elements they have one length.
-use Rattle.std.proofs.Common.{◌≡◌, ℕ, zero, suc, ◌≤◌, Bool, true, false, List, [], ◌∷◌, Some, inl, inr, length, refl, sym, ap, ◌∙◌, subst, arith}
+use Rattle.std.proofs.Common.{◌≡◌, ℕ, zero, suc, ◌≤◌, Bool, true, false, List, [], ◌∷◌, ◌++◌, Some, inl, inr, length, refl, sym, ap, ◌∙◌, subst, arith}
 use Rattle.std.specs.Prelude.{slice_get, filter, if◌then◌else◌}
 use Rattle.yd_words.specs.Member.{IsIn, AreDistinct}
 use Rattle.yd_words.proofs.FilterLemmas.{kept_one}
+use Rattle.yd_words.proofs.MemberLemmas.{in_parts}
 
 module _ {X : Type 0} where
   -- a list without one of its elements
@@ -69,4 +70,12 @@ module _ {X : Type 0} where
   distinct_places (x ∷ xs) one = (
     (λ i. let (n, at) = place_of xs x i in absurd (omega (arith, one 0 (suc n) x refl at))),
     distinct_places xs (λ m n y e f. omega (arith, one (suc m) (suc n) y e f)),
+  )
+
+  -- two such lists that have no element in common are one behind the other
+  pub distinct_parts : (xs ys : List X) → AreDistinct xs → AreDistinct ys → ((x : X) → IsIn x xs → IsIn x ys → ⊥) → AreDistinct (xs ++ ys)
+  distinct_parts [] ys one other apart = other
+  distinct_parts (x ∷ xs) ys one other apart = (
+    (λ i. elim (in_parts x xs ys i) [ inl j ↦ one.0 j | inr j ↦ apart x (inl refl) j ]),
+    distinct_parts xs ys one.1 other (λ z i j. apart z (inr i) j),
   )

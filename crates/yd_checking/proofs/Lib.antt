@@ -1,5 +1,6 @@
 pub mod ConvergeLemmas
-pub mod DeletedCountLemmas
 pub mod DistinctLemmas
+pub mod FoundLemmas
 pub mod HeldCountLemmas
 pub mod ListCountLemmas
+pub mod SpanCountLemmas

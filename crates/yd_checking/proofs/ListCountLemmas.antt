@@ -1,5 +1,5 @@
 -- How many lists have a held unit: as many as have a name and a unit in the document.
-use Rattle.std.proofs.Common.{◌≡◌, ℕ, ◌<◌, ◌⊎◌, ◌||◌, Bool, true, false, List, [], ◌∷◌, Some, inl, inr, map, length, nat_lt, get_or, take, ◌+◌, refl, sym, ap, ◌∙◌, subst, arith, tests, true≢false}
+use Rattle.std.proofs.Common.{◌≡◌, ℕ, ◌<◌, ◌⊎◌, ◌||◌, Bool, true, false, List, [], ◌∷◌, Some, None, inl, inr, map, length, nat_lt, get_or, take, ◌+◌, refl, sym, ap, ◌∙◌, subst, arith, tests, true≢false}
 use Rattle.std.specs.Prelude.{slice_get, filter, cond, if◌then◌else◌}
 use Rattle.std.proofs.lemmas.List.{length-map}
 use Rattle.std.proofs.lemmas.List.Filters.{length-filter_more}
@@ -9,17 +9,22 @@ use Rattle.yd_words.proofs.FilterLemmas.{kept_one, one_kept}
 use Rattle.yd_ids.specs.declared.id.Id.{Id}
 use Rattle.yd_ops.specs.declared.lists.List.{List as DocList}
 use Rattle.yd_ops.specs.Operation.{Operation}
+use Rattle.yd_updates.specs.Received.{Received}
 use Rattle.yd_updates.proofs.OneOfLemmas.{id_is_there}
 use Rattle.yd_grouping.specs.Disagreement.{some_passes}
-use Rattle.yd_meaning.specs.Document.{Document, document_with}
-use Rattle.yd_meaning.specs.Held.{standing}
-use Rattle.yd_meaning.specs.Law.{HasWholeLists}
+use Rattle.yd_growing.specs.Replica.{IsReplicaDocument}
+use Rattle.yd_meaning.specs.Document.{Document}
+use Rattle.yd_meaning.specs.Held.{held_set, standing}
 use Rattle.yd_meaning.specs.ListNames.{same_list_decides}
 use Rattle.yd_meaning.specs.Names.{same_list}
-use Rattle.yd_meaning.specs.Order.{list_of, order_of}
+use Rattle.yd_meaning.specs.Order.{list_of, list_or_root}
 use Rattle.yd_state.specs.Lent.{Lent, lent}
 use Rattle.yd_checking.specs.Counts.{with_list, lists_among, is_used}
 use Rattle.yd_checking.proofs.DistinctLemmas.{one_length, distinct_pass, distinct_places, in_place}
+
+-- the list of no name, for look-ups that never fail
+abbrev pub no_name : DocList
+no_name = list_or_root None
 
 -- ---- each list once
 
@@ -103,38 +108,35 @@ in_mapped : {X Y : Type 0} (f : X → Y) (xs : List X) (y : Y) → IsIn y (map f
 in_mapped f [] y i = absurd i
 in_mapped f (x ∷ xs) y i = (x, inl refl)
 
-module _ (held : List Operation) (whole : HasWholeLists held) (document : Document) (named : Id → Bool)
-    (units : (list : DocList) → document.units list ≡ (document_with held named).units list) where
-  -- the ids of a list's units are those of the operations that stand in it
-  ids_are : (list : DocList) → map (λ (o : Operation). o.id) (document.units list) ≡ order_of (standing held) list
-  ids_are list = ap (map (λ (o : Operation). o.id)) (units list) ∙ whole.units named list
+module _ (r : Received) (document : Document) (is : IsReplicaDocument document r) where
+  abbrev stands : List Operation
+  stands = standing (held_set r.operations)
 
-  used_stands : (list : DocList) → is_used document list ≡ true → (o : Operation) × IsIn o (standing held) × (list_of (standing held) o.id ≡ list)
+  used_stands : (list : DocList) → is_used document list ≡ true → (o : Operation) × IsIn o stands × (list_of stands o.id ≡ list)
   used_stands list e =
       let (o, i) = some_there (document.units list) e in
-      let at : IsIn o.id (order_of (standing held) list) = subst (IsIn o.id) (ids_are list) (mapped_in (λ (p : Operation). p.id) (document.units list) o i) in
-      (o, whole.as_held named list o (subst (IsIn o) (units list) i), ((whole.each list o.id).0 at).1)
+      (o, is.as_held list o i, ((is.each list o.id).0 (mapped_in (λ (p : Operation). p.id) (document.units list) o i)).1)
 
-  stands_used : (o : Operation) → IsIn o (standing held) → (p : Operation) × IsIn p (document.units (list_of (standing held) o.id))
+  stands_used : (o : Operation) → IsIn o stands → (p : Operation) × IsIn p (document.units (list_of stands o.id))
   stands_used o i =
-      let list = list_of (standing held) o.id in
-      in_mapped (λ (p : Operation). p.id) (document.units list) o.id (subst (IsIn o.id) (sym (ids_are list)) ((whole.each list o.id).1 (id_is_there (standing held) o i, refl)))
+      let list = list_of stands o.id in
+      in_mapped (λ (p : Operation). p.id) (document.units list) o.id ((is.each list o.id).1 (id_is_there stands o i, refl))
 
   -- where each list with a unit has a name, and no two names are one, the names of lists with units are as many as the lists of
   -- what stands
   pub names_count : (names : List DocList) → ((m n : ℕ) (name : DocList) → slice_get names m ≡ Some name → slice_get names n ≡ Some name → m ≡ n) →
       ((list : DocList) (o : Operation) → IsIn o (document.units list) → (n : ℕ) × (slice_get names n ≡ Some list)) →
-      length (filter (is_used document) names) ≡ length (lists_among (standing held) (standing held))
-  names_count names distinct all = one_length (filter (is_used document) names) (lists_among (standing held) (standing held))
-      (distinct_pass (is_used document) names (distinct_places names distinct)) (lists_distinct (standing held) (standing held)) to from
+      length (filter (is_used document) names) ≡ length (lists_among stands stands)
+  names_count names distinct all = one_length (filter (is_used document) names) (lists_among stands stands)
+      (distinct_pass (is_used document) names (distinct_places names distinct)) (lists_distinct stands stands) to from
     where
-      to : (list : DocList) → IsIn list (filter (is_used document) names) → IsIn list (lists_among (standing held) (standing held))
+      to : (list : DocList) → IsIn list (filter (is_used document) names) → IsIn list (lists_among stands stands)
       to list i = let (o, j, same) = used_stands list (kept_one (is_used document) names list i).0 in
-          subst (λ (l : DocList). IsIn l (lists_among (standing held) (standing held))) same (among_has (standing held) (standing held) o j)
+          subst (λ (l : DocList). IsIn l (lists_among stands stands)) same (among_has stands stands o j)
 
-      from : (list : DocList) → IsIn list (lists_among (standing held) (standing held)) → IsIn list (filter (is_used document) names)
+      from : (list : DocList) → IsIn list (lists_among stands stands) → IsIn list (filter (is_used document) names)
       from list i =
-          let (o, j, same) = among_from (standing held) (standing held) list i in
+          let (o, j, same) = among_from stands stands list i in
           let (p, k) = stands_used o j in
           let unit : IsIn p (document.units list) = subst (λ (l : DocList). IsIn p (document.units l)) same k in
           let (n, at) = all list p unit in

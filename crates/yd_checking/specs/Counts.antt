@@ -1,12 +1,12 @@
 -- How much of what is received is held, waits and is deleted, as numbers (own).
-use Rattle.std.specs.Prelude.{ℕ, Bool, List, [], ◌∷◌, length, nat_lt, if◌then◌else◌}
+use Rattle.std.specs.Prelude.{ℕ, Bool, List, [], ◌∷◌, length, filter, nat_lt, if◌then◌else◌}
 use Rattle.yd_ids.specs.declared.id.Client.{Client}
 use Rattle.yd_ops.specs.declared.lists.List.{List as DocList}
 use Rattle.yd_ops.specs.Operation.{Operation}
 use Rattle.yd_updates.specs.Received.{Received}
 use Rattle.yd_grouping.specs.Disagreement.{some_passes}
-use Rattle.yd_meaning.specs.Collected.{held_count, deleted_count}
-use Rattle.yd_meaning.specs.Document.{Document}
+use Rattle.yd_meaning.specs.Collected.{held_count}
+use Rattle.yd_meaning.specs.Document.{Document, document_of}
 use Rattle.yd_meaning.specs.Held.{held_set, standing, waiting_counts}
 use Rattle.yd_meaning.specs.Names.{same_list}
 use Rattle.yd_meaning.specs.Order.{list_of}
@@ -29,16 +29,24 @@ list_count r = length (lists_among (standing (held_set r.operations)) (standing 
 
 -- ---- all numbers
 
--- how many operations are held, how many wait, how many deleted ids wait, how many held operations are deleted, and how many
--- lists there are
-abbrev pub counts_of : Received → Counts
-counts_of r = record {
+-- how many operations a document deletes
+abbrev pub deleted_in : Document → List Operation → ℕ
+deleted_in document operations = length (filter (λ (o : Operation). document.deleted o.id) operations)
+
+-- the numbers of what is received, as a replica with this document has them: how many operations are held, how many wait, how
+-- many deleted ids wait, how many held operations it deletes, and how many lists there are. The document decides the fourth alone
+abbrev pub counts_in : Document → Received → Counts
+counts_in document r = record {
   held = held_count r;
   waiting = (waiting_counts r).structs;
   waiting_deletes = (waiting_counts r).deletes;
-  deleted = deleted_count r;
+  deleted = deleted_in document (held_set r.operations);
   lists = list_count r;
 }
+
+-- so with the document that is defined
+abbrev pub counts_of : Received → Counts
+counts_of r = counts_in (document_of r) r
 
 -- ---- what the code adds up
 

@@ -1,10 +1,10 @@
 //! What is told of updates.
 
-ghost use Rattle.std.specs.Prelude.{◌≡◌, map, IfOk};
+ghost use Rattle.std.specs.Prelude.{map, IfOk};
 ghost use Rattle.yd_words.specs.Each.{Each};
 ghost use Rattle.yd_ops.specs.Valid.{IsValidUpdate};
 ghost use Rattle.yd_ops.specs.View.{update_value};
-ghost use Rattle.yd_checking.specs.Findings.{findings_of};
+ghost use Rattle.yd_checking.specs.Findings.{IsFound};
 
 use crate::counts::{Counts, count};
 use crate::fault::NoMemory;
@@ -27,16 +27,17 @@ pub struct Findings {
 }
 
 /// Receives updates in their order, and tells how much is held, waits and is deleted, and whether
-/// they agree and keep the edit rules (own). Updates that do not agree are counted as they were
-/// received: of an id the first operation stays unless another one says less. It takes the time and
-/// memory of receiving the updates, of `disagree` and of `dishonest`.
+/// they agree and keep the edit rules (own). Where a unit breaks these rules, the deleted units are
+/// counted in the document that this replica of the updates has. Updates that do not agree are
+/// counted as they were received: of an id the first operation stays unless another one says less.
+/// It takes the time and memory of receiving the updates, of `disagree` and of `dishonest`.
 pub fn check(alloc: Global, updates: &[Update]) -> Result<Findings, NoMemory>
     requires { Each IsValidUpdate (map update_value updates.now) }
-    ensures { IfOk result (λ found. found ≡ findings_of (map update_value updates.now)) }
+    ensures { IfOk result (λ found. IsFound found (map update_value updates.now)) }
 {
     let state = State::of_updates(alloc, updates)?;
     let disagreement = disagree(alloc, updates)?;
-    let breach = dishonest(alloc, &state)?;
+    let breach = dishonest(alloc, state.held())?;
     Ok(Findings {
         counts: count(&state),
         disagreement,

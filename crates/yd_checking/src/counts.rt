@@ -4,10 +4,10 @@ ghost use Rattle.std.specs.Prelude.{◌≡◌};
 ghost use Rattle.std.specs.List.{sum_by};
 ghost use Rattle.yd_ids.specs.Set.{AreMaximal};
 ghost use Rattle.yd_ids.specs.Vector.{IsVector};
-ghost use Rattle.yd_meaning.specs.Collected.{held_count, deleted_count};
-ghost use Rattle.yd_meaning.specs.Held.{count_of_ids};
-ghost use Rattle.yd_state.specs.State.{received_in};
-ghost use Rattle.yd_checking.specs.Counts.{counts_of, clock_reached};
+ghost use Rattle.yd_meaning.specs.Collected.{held_count};
+ghost use Rattle.yd_meaning.specs.Held.{count_of_ids, held_set};
+ghost use Rattle.yd_state.specs.State.{received_in, document_in};
+ghost use Rattle.yd_checking.specs.Counts.{counts_in, deleted_in, clock_reached};
 
 use crate::lists::used_lists;
 use yd_ids::{IdSet, Vector};
@@ -28,11 +28,11 @@ pub struct Counts {
     pub lists: usize,
 }
 
-/// The numbers of what a state received (own). It takes a step for each client, for each part of a
+/// The numbers of what a state received, with its own document (own). It takes a step for each client, for each part of a
 /// run that was received, for each span of the delete set and for each list, and a look-up for each
 /// span of deletions. It takes no memory, and walks no unit.
 pub fn count(state: &State) -> Counts
-    ensures { result ≡ counts_of (received_in state.now) }
+    ensures { result ≡ counts_in (document_in state.now) (received_in state.now) }
 {
     Counts {
         held: held_units(state),
@@ -66,9 +66,10 @@ fn sum_of_clocks(vector: &Vector) -> u128
 
 /// How many held units are deleted: as many as the delete set has ids, since each of them is held.
 fn deleted_ids(state: &State) -> u128
-    ensures { result ≡ deleted_count (received_in state.now) }
+    ensures { result ≡ deleted_in (document_in state.now)
+        (held_set (received_in state.now).operations) }
 {
-    // What is received is looked at, since it is in the order of writing.
+    // What is received is looked at, since each id of the delete set is held.
     let _received = state.received();
     count_ids(state.deletes())
 }

@@ -3,7 +3,8 @@
 ghost use Rattle.yd_checking.specs.Law.{FindingsConverge};
 
 /// Updates that agree and are the same changes are told alike, in any order, repeated or merged.
-/// Where they may disagree, all is told alike but that.
+/// Where they may disagree, all is told alike but that; and where an id breaks the edit rules, all but
+/// how many units are deleted.
 pub fn findings_converge()
     ensures { FindingsConverge }
 {}

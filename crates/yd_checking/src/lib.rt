@@ -2,9 +2,10 @@
 //! what convergence and placement ask for.
 //!
 //! The numbers are those that the received operations and deletions define, in whatever order they
-//! came ([`count`]). Beside them stand the smallest id on which the updates disagree, and the
-//! smallest one that breaks the edit rules ([`check`]). Updates that agree and are the same changes
-//! are told alike ([`law`]). No unit is walked to be counted.
+//! came; where an id breaks the edit rules, the deleted units are those of the replica's own document
+//! ([`count`]). Beside them stand the smallest id on which the updates disagree, and the smallest one
+//! that breaks these rules ([`check`]). Updates that agree and are the same changes are told alike
+//! ([`law`]). No unit is walked to be counted.
 //!
 //! ```rust
 //! let found = check(alloc, &[first, second])?;

@@ -4,7 +4,6 @@ ghost use Rattle.std.specs.Prelude.{◌≡◌, ◌<◌, length, slice_get, IfSom
 ghost use Rattle.yd_state.specs.State.{received_in, document_in};
 ghost use Rattle.yd_checking.specs.Counts.{list_count, is_used};
 
-use yd_meaning::law::lists_are_whole;
 use yd_state::State;
 
 /// How many lists have a held unit. It takes a step for each list that has a name.
@@ -13,7 +12,6 @@ pub(crate) fn used_lists(state: &State) -> usize
 {
     // What is received is looked at, since no two names of its lists are one.
     let _received = state.received();
-    lists_are_whole();
     let names = state.names();
     let mut count = 0;
     for n in 0..names.len() {

@@ -18,8 +18,8 @@ use Rattle.yd_grouping.specs.Grouped.{blocks_of, front_block, grouping_of, with_
 use Rattle.yd_grouping.specs.Law.{HaveUnits, Ascend}
 use Rattle.yd_grouping.proofs.BlockLemmas.{group_has}
 use Rattle.yd_grouping.proofs.GroupedLemmas.{built_grouped}
-use Rattle.yd_editing.specs.Basis.{basis_of}
-use Rattle.yd_editing.specs.Law.{EditIsTaken, IsStepInRange, IsValidEdit}
+use Rattle.yd_editing.specs.Basis.{Basis}
+use Rattle.yd_editing.specs.Law.{EditIsTakenOn, IsStepInRange, IsValidEditOn}
 use Rattle.yd_editing.specs.Made.{run_of_step, lists_with, runs_of, runs_on, operations_of_runs, block_of_runs, removed_by, update_of_edit}
 use Rattle.yd_editing.specs.Step.{Step, make, remove}
 
@@ -137,19 +137,19 @@ module _ (has : Id → Bool) where
 
 -- ---- lemmas for callers
 
-pub edit_grouped : (client : Client) (r : Received) (steps : List Step) → Each IsStepInRange steps → IsValidEdit client r steps → EditIsTaken client r steps →
-    IsGrouped (update_of_edit (basis_of client r) steps)
-edit_grouped client r steps each valid taken =
-    ap (λ blocks. record { blocks = blocks; deletes = removed_by steps }) (sym (blocks_are client clock runs in_row))
-    ∙ built_grouped (groups_of runs) (removed_by steps) (have_units client clock runs in_row) (ascend client clock runs in_row)
-    (apart (has_operation r.operations) client clock runs in_row valid.lefts taken.new)
+pub edit_grouped : (basis : Basis) (r : Received) (steps : List Step) → Each IsStepInRange steps → IsValidEditOn basis r steps → EditIsTakenOn basis r steps →
+    IsGrouped (update_of_edit basis steps)
+edit_grouped basis r steps each valid taken =
+    ap (λ blocks. record { blocks = blocks; deletes = removed_by steps }) (sym (blocks_are basis.client clock runs in_row))
+    ∙ built_grouped (groups_of runs) (removed_by steps) (have_units basis.client clock runs in_row) (ascend basis.client clock runs in_row)
+    (apart (has_operation r.operations) basis.client clock runs in_row valid.lefts taken.new)
     ∙ ap (λ os. grouping_of os (removed_by steps)) (operations_are runs ∙ sym taken.made)
   where
     clock : ℕ
-    clock = (basis_of client r).vector client.0
+    clock = basis.vector basis.client.0
 
     runs : List RunValue
-    runs = runs_on (basis_of client r) steps
+    runs = runs_on basis steps
 
-    in_row : Follow client clock runs
-    in_row = follow steps client clock (basis_of client r).document.units each
+    in_row : Follow basis.client clock runs
+    in_row = follow steps basis.client clock basis.document.units each

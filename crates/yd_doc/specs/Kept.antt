@@ -25,7 +25,7 @@ own_document r = document_in r.state
 abbrev pub own_deletes : Kept → List Span
 own_deletes r = r.state.deletes
 
--- all that it keeps is what it received defines
+-- it is a client's, and what it keeps is sound
 pub record IsReplica (r : Kept) : Type 0 where
   pub client : IsClient r.client
   pub sound : IsSound r.state

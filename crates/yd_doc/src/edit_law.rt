@@ -3,7 +3,7 @@
 ghost use Rattle.std.specs.Prelude.{◌≡◌, List, None};
 ghost use Rattle.yd_words.specs.Each.{Each};
 ghost use Rattle.yd_grouping.specs.Grouped.{IsGrouped};
-ghost use Rattle.yd_editing.specs.Law.{MakesContent, EditIsTaken, IsStepInRange};
+ghost use Rattle.yd_editing.specs.Law.{MakesContent, EditIsTakenOn, IsStepInRange};
 ghost use Rattle.yd_editing.specs.Made.{update_of_edit};
 ghost use Rattle.yd_editing.specs.Refused.{refusal_of};
 ghost use Rattle.yd_editing.specs.Step.{Step};
@@ -19,11 +19,11 @@ use crate::replica::Replica;
 pub fn edits_are_taken(replica: &Replica)
     ensures { (steps : List Step) → Each MakesContent steps
         → refusal_of (own_basis replica.now) steps ≡ None
-        → EditIsTaken replica.now.client (received_of replica.now) steps }
+        → EditIsTakenOn (own_basis replica.now) (received_of replica.now) steps }
 {
     // What is kept is looked at, since its invariant says this.
     let _received = replica.state.received();
-    yd_editing::law::edits_are_taken();
+    yd_editing::law::own_edits_are_taken();
 }
 
 /// The update of an edit is grouped: it is the one grouped update of its operations and deletions.
@@ -35,6 +35,6 @@ pub fn edits_are_grouped(replica: &Replica)
 {
     // What is kept is looked at, since its invariant says this.
     let _received = replica.state.received();
-    yd_editing::law::edits_are_taken();
-    yd_editing::law::edits_are_valid();
+    yd_editing::law::own_edits_are_taken();
+    yd_editing::law::own_edits_are_valid();
 }

@@ -6,7 +6,7 @@ ghost use Rattle.yd_doc.specs.Kept.{own_document};
 ghost use Rattle.yd_doc.specs.Keys.{is_used, with_name, with_names};
 
 use crate::fault::NoMemory;
-use crate::law::own_document_is_defined;
+use crate::law::own_document_is_replicas;
 use crate::replica::Replica;
 use std::alloc::Global;
 use std::collections::BTreeSet;
@@ -21,7 +21,7 @@ impl Replica {
     pub fn keys(&self, alloc: Global, parent: &Parent) -> Result<Vec<Text>, NoMemory>
         ensures { IfOk result (λ keys. keys.items ≡ (own_document self.now).keys parent.now) }
     {
-        own_document_is_defined(self);
+        own_document_is_replicas(self);
         keys_have_units();
         // Each list that has a unit is named, and all keys are those of its names.
         let _names = self.state.names();

@@ -9,7 +9,7 @@ ghost use Rattle.yd_updates.specs.Received.{nothing_received, received_after};
 ghost use Rattle.yd_meaning.specs.Held.{held_set, held_clock, waiting_counts};
 ghost use Rattle.yd_meaning.specs.Document.{AreDeletedIn};
 ghost use Rattle.yd_grouping.specs.Merged.{reply_of};
-ghost use Rattle.yd_state.specs.Brings.{BringsSomething};
+ghost use Rattle.yd_state.specs.Brings.{BringsSomething, BringsUnknown};
 ghost use Rattle.yd_doc.specs.Kept.{received_of, own_deletes, own_document};
 ghost use Rattle.yd_doc.specs.Waiting.{counts_of};
 
@@ -23,7 +23,8 @@ use yd_ops::Update;
 use yd_state::State;
 
 /// What one client received, and what it holds of it. Contracts see what it received
-/// (`received_of`) and the document that it has (`own_document`). This is the one that the received
+/// (`received_of`) and the document that it has (`own_document`), which is one that a replica may
+/// have that received this (`law::own_document_is_replicas`). Today it is the one that the received
 /// operations and deletions define, with no history of arrivals (`law::own_document_is_defined`).
 #[derive(Drop)]
 pub struct Replica {
@@ -102,6 +103,8 @@ impl Replica {
             ≡ received_after (received_of self.old) (update_value update.now)) }
         ensures brings { IfOk result (λ brings. IsTrue brings
             ↔ BringsSomething (update_value update.now) (received_of self.old)) }
+        ensures unknown { IfOk result (λ brings. IsTrue brings ↔ BringsUnknown
+            (update_value update.now) (received_of self.old) (own_deletes self.old)) }
         ensures caught_up { OnOk result (self.new.is_behind ≡ false) }
         ensures client { self.new.client ≡ self.old.client }
         ensures unchanged { OnErr result (received_of self.new ≡ received_of self.old) }

@@ -13,12 +13,15 @@ use Rattle.yd_updates.proofs.OneOfLemmas.{operation_with}
 use Rattle.yd_meaning.specs.Held.{held_set, standing}
 use Rattle.yd_meaning.specs.Names.{item_of_list}
 use Rattle.yd_meaning.specs.Order.{order_of}
+use Rattle.yd_meaning.specs.Document.{Document}
+use Rattle.yd_growing.specs.Own.{ids_in}
+use Rattle.yd_growing.specs.Replica.{IsReplicaDocument}
 use Rattle.yd_editing.specs.Step.{Step, make, remove, Refusal, no_place, own_waiting, first_or}
-use Rattle.yd_editing.specs.Basis.{Basis, basis_of, is_type, has_type_item, first_waiting}
+use Rattle.yd_editing.specs.Basis.{Basis, basis_over, is_type, has_type_item, first_waiting}
 use Rattle.yd_editing.specs.Made.{runs_of}
 use Rattle.yd_editing.specs.Refused.{first_of_steps, parent_refusal, after_refusal, place_refusal, removal_refusal, pair_refusal, waiting_refusal, clock_refusal, refusal_of}
-use Rattle.yd_editing.specs.Law.{units_of, CanStep}
-use Rattle.yd_editing.proofs.UnitLemmas.{written_unit_ids}
+use Rattle.yd_editing.specs.Law.{CanStep}
+use Rattle.yd_editing.proofs.UnitLemmas.{written_in_list}
 
 -- ---- no refusal of two
 
@@ -55,26 +58,26 @@ id_in_map [] o i = absurd i
 id_in_map (p ∷ ps) o (inl e) = inl (ap (λ (q : Operation). q.id) e)
 id_in_map (p ∷ ps) o (inr i) = inr (id_in_map ps o i)
 
-module _ (client : Client) (r : Received) (w : IsWritten (held_set r.operations)) where
+module _ (client : Client) (document : Document) (r : Received) (w : IsWritten (held_set r.operations)) (is : IsReplicaDocument document r) where
   abbrev held : List Operation
   held = held_set r.operations
 
   abbrev basis_r : Basis
-  basis_r = basis_of client r
+  basis_r = basis_over client document r
 
   parent_there : (item : Option Id) → parent_refusal basis_r item ≡ None → IfSome item (λ y. has_operation (standing held) y ≡ true)
   parent_there None e = tt
   parent_there (Some y) e = type_stands (standing held) y (held_or (has_type_item (standing held) y) (no_place y) e)
 
-  after_there : (name : DocList) (after : Option Id) → after_refusal (units_of held name) after ≡ None → IfSome after (λ y. IsIn y (order_of (standing held) name))
+  after_there : (name : DocList) (after : Option Id) → after_refusal (document.units name) after ≡ None → IfSome after (λ y. IsIn y (order_of (standing held) name))
   after_there name None e = tt
-  after_there name (Some y) e = let (o, i, f) = operation_with (units_of held name) y (held_or (has_operation (units_of held name) y) (no_place y) e) in
-      subst (λ ids. IsIn y ids) (written_unit_ids held w name) (subst (λ x. IsIn x (map (λ (p : Operation). p.id) (units_of held name))) f (id_in_map (units_of held name) o i))
+  after_there name (Some y) e = let (o, i, f) = operation_with (document.units name) y (held_or (has_operation (document.units name) y) (no_place y) e) in
+      (written_in_list held w name y).1 ((is.each name y).0 (subst (λ x. IsIn x (ids_in document name)) f (id_in_map (document.units name) o i)))
 
   places : (steps : List Step) → Each (λ step. place_refusal basis_r step ≡ None) steps → Each (CanStep held) steps
   places [] each = tt
   places (make name after content ∷ steps) each =
-      let b = neither (parent_refusal basis_r (item_of_list name)) (after_refusal (units_of held name) after) each.0 in
+      let b = neither (parent_refusal basis_r (item_of_list name)) (after_refusal (document.units name) after) each.0 in
       (record { parent = parent_there (item_of_list name) b.0; of_list = after_there name after b.1 }, places steps each.1)
   places (remove spans ∷ steps) each = (tt, places steps each.1)
 

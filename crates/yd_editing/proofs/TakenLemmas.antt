@@ -25,14 +25,16 @@ use Rattle.yd_updates.proofs.RunLemmas.{run_written, run_partners}
 use Rattle.yd_updates.proofs.SpellingLemmas.{content_less}
 use Rattle.yd_meaning.specs.Held.{held_set, held_clock}
 use Rattle.yd_meaning.specs.Order.{AreHonest}
-use Rattle.yd_meaning.specs.Document.{document_of}
+use Rattle.yd_meaning.specs.Document.{Document, document_of}
 use Rattle.yd_meaning.proofs.HeldLemmas.{held_needs, held_set-part}
 use Rattle.yd_meaning.proofs.VectorLemmas.{held_written, held_below}
+use Rattle.yd_growing.specs.Replica.{IsReplicaDocument}
+use Rattle.yd_growing.proofs.ReplicaLemmas.{defined_is}
 use Rattle.yd_editing.specs.Step.{Step, make, remove}
-use Rattle.yd_editing.specs.Basis.{basis_of}
-use Rattle.yd_editing.specs.Made.{run_of_step, lists_with, runs_of, operations_of_runs, block_of_runs, runs_on, removed_by, update_of_edit}
+use Rattle.yd_editing.specs.Basis.{basis_over, basis_of}
+use Rattle.yd_editing.specs.Made.{run_of_step, lists_with, runs_of, operations_of_runs, block_of_runs, runs_on, made_on, evolved_on, removed_by, update_of_edit}
 use Rattle.yd_editing.specs.Refused.{refusal_of}
-use Rattle.yd_editing.specs.Law.{IsHonestHeld, units_of, StandAfter, IsMakeable, MakesContent, made_by, evolved_by, EditIsTaken, EditIsHeld}
+use Rattle.yd_editing.specs.Law.{IsHonestHeld, units_of, StandAfter, IsMakeable, MakesContent, after_edit, made_by, evolved_by, EditIsTakenOn, EditIsTaken, EditIsHeld}
 use Rattle.yd_editing.proofs.StepLemmas.{from_within, steps_stand}
 use Rattle.yd_editing.proofs.FreshLemmas.{AreNew, written_both, fresh_taken, groups_taken}
 use Rattle.yd_editing.proofs.RefusalLemmas.{can_step, none_waits, waits_not}
@@ -166,22 +168,22 @@ runs_full (run ∷ runs) each x (o, i, e, low) = elim (in_parts o (operations_of
   | inr j ↦ runs_full runs each.1 x (o, j, e, low)
 ]
 
-module _ (client : Client) (r : Received) (steps : List Step) (received : IsReceived r) (makes : Each MakesContent steps)
-    (done : refusal_of (basis_of client r) steps ≡ None) where
+module _ (client : Client) (document : Document) (r : Received) (steps : List Step) (received : IsReceived r) (is : IsReplicaDocument document r)
+    (makes : Each MakesContent steps) (done : refusal_of (basis_over client document r) steps ≡ None) where
   abbrev held : List Operation
   held = held_set r.operations
 
   abbrev runs : List RunValue
-  runs = runs_on (basis_of client r) steps
+  runs = runs_on (basis_over client document r) steps
 
   abbrev news : List Operation
-  news = made_by client r steps
+  news = made_on (basis_over client document r) steps
 
   abbrev update : UpdateValue
-  update = update_of_edit (basis_of client r) steps
+  update = update_of_edit (basis_over client document r) steps
 
   contents : Each (λ run. IsMakeable run.content) runs
-  contents = runs_makeable steps makes client (held_clock held client.0) (document_of r).units
+  contents = runs_makeable steps makes client (held_clock held client.0) document.units
 
   groups_are : groups_of update ≡ map operations_of_run runs
   groups_are = block_groups runs (removed_by steps)
@@ -191,11 +193,11 @@ module _ (client : Client) (r : Received) (steps : List Step) (received : IsRece
 
   -- the made operations are of no id that is received
   are_new : AreNew news r.operations
-  are_new o i = elim (waits_not (basis_of client r) steps done) [
-    | inr nothing ↦ absurd (subst (λ rs. IsIn o (operations_of_runs rs)) (nothing client (held_clock held client.0) (document_of r).units) i)
+  are_new o i = elim (waits_not (basis_over client document r) steps done) [
+    | inr nothing ↦ absurd (subst (λ rs. IsIn o (operations_of_runs rs)) (nothing client (held_clock held client.0) document.units) i)
     | inl none ↦ false_from_ne_true (has_operation r.operations o.id) (λ e.
         let (p, j, f) = operation_with r.operations o.id e in
-        let (c, low) = runs_from steps client (held_clock held client.0) (document_of r).units o i in
+        let (c, low) = runs_from steps client (held_clock held client.0) document.units o i in
         let own : p.id.client.0 ≡ client.0 = ap (λ (x : Id). x.client.0) f ∙ ap (λ (d : Client). d.0) c in
         let there : has_operation held o.id ≡ true = subst (λ x. has_operation held x ≡ true) f (none_waits held client.0 r.operations none p j own) in
         let below : o.id.clock < held_clock held o.id.client.0 = (held_below r.operations received.written o.id.client o.id.clock).0 there in
@@ -203,7 +205,7 @@ module _ (client : Client) (r : Received) (steps : List Step) (received : IsRece
   ]
 
   news_written : IsWritten news
-  news_written = runs_written steps client (held_clock held client.0) (document_of r).units
+  news_written = runs_written steps client (held_clock held client.0) document.units
 
   operations_are : (received_after r update).operations ≡ all_taken news r.operations
   operations_are = ap (λ groups. with_these groups) groups_are
@@ -226,21 +228,33 @@ module _ (client : Client) (r : Received) (steps : List Step) (received : IsRece
     (λ h. elim h [ inl k ↦ both.1 (inl k) | inr k ↦ both.1 (inr (own.1 (inr k))) ]),
   )
 
-  moment_is : AreHonest (held_set r.operations) → StandAfter held news (evolved_by client r steps)
-  moment_is honest = steps_stand held (honest_held r.operations received.written honest) client steps (can_step client r (held_written r.operations received.written) steps done)
+  moment_is : AreHonest (held_set r.operations) → StandAfter held news (evolved_on (basis_over client document r) steps)
+  moment_is honest = subst (λ (d : Document). StandAfter held (made_on (basis_over client d r) steps) (evolved_on (basis_over client d r) steps)) (sym (is.defined honest))
+      (steps_stand held (honest_held r.operations received.written honest) client steps (can_step client document r (held_written r.operations received.written) is steps done))
 
   -- ---- lemmas for callers
 
+  pub own_edit_is_taken : EditIsTakenOn (basis_over client document r) r steps
+  own_edit_is_taken = record { made = made_is; new = are_new; operations = operations_are; members = members_are; deletes = deletes_are; moment = moment_is }
+
+module _ (client : Client) (r : Received) (steps : List Step) (received : IsReceived r) (makes : Each MakesContent steps)
+    (done : refusal_of (basis_of client r) steps ≡ None) where
   pub edit_is_taken : EditIsTaken client r steps
-  edit_is_taken = record { made = made_is; new = are_new; operations = operations_are; members = members_are; deletes = deletes_are; moment = moment_is }
+  edit_is_taken = own_edit_is_taken client (document_of r) r steps received (defined_is r received.written) makes done
 
   module _ (all : held_set r.operations ≡ r.operations) (honest : AreHonest (held_set r.operations)) where
-    in_all : (received_after r update).operations ≡ all_taken news held
-    in_all = operations_are ∙ ap (all_taken news) (sym all)
+    abbrev all_news : List Operation
+    all_news = made_by client r steps
+
+    moment : StandAfter (held_set r.operations) (made_by client r steps) (evolved_by client r steps)
+    moment = edit_is_taken.moment honest
+
+    in_all : (after_edit client r steps).operations ≡ all_taken all_news (held_set r.operations)
+    in_all = edit_is_taken.operations ∙ ap (all_taken all_news) (sym all)
 
     pub edit_is_held : EditIsHeld client r steps
     edit_is_held = record {
-      all_held = subst (λ os. IsHonestHeld os) (sym in_all) (moment_is honest).all_held;
-      held = ap held_set in_all ∙ (moment_is honest).all_held.whole;
-      lists = λ name. ap (λ os. units_of os name) (ap held_set in_all ∙ (moment_is honest).all_held.whole) ∙ (moment_is honest).lists name;
+      all_held = subst (λ os. IsHonestHeld os) (sym in_all) moment.all_held;
+      held = ap held_set in_all ∙ moment.all_held.whole;
+      lists = λ name. ap (λ os. units_of os name) (ap held_set in_all ∙ moment.all_held.whole) ∙ moment.lists name;
     }

@@ -20,17 +20,19 @@ use Rattle.yd_updates.proofs.OneOfLemmas.{operation_with, ids_stay}
 use Rattle.yd_meaning.specs.Names.{same_list}
 use Rattle.yd_meaning.specs.Held.{held_set, held_clock, standing}
 use Rattle.yd_meaning.specs.Order.{order_of}
-use Rattle.yd_meaning.specs.Document.{document_of}
+use Rattle.yd_meaning.specs.Document.{Document, document_of}
 use Rattle.yd_meaning.proofs.HeldLemmas.{held_in}
 use Rattle.yd_meaning.proofs.StandingLemmas.{standing_in}
 use Rattle.yd_meaning.proofs.VectorLemmas.{held_written}
+use Rattle.yd_growing.specs.Replica.{IsReplicaDocument}
+use Rattle.yd_growing.proofs.ReplicaLemmas.{defined_is}
 use Rattle.yd_editing.specs.Step.{Step, make, remove, clock_full}
-use Rattle.yd_editing.specs.Basis.{basis_of}
+use Rattle.yd_editing.specs.Basis.{Basis, basis_over, basis_of}
 use Rattle.yd_editing.specs.Made.{units_up_to, units_behind, id_of_first, put_behind, list_where_alone, run_of_step, lists_with, runs_of, block_of_runs, runs_on, removed_by}
 use Rattle.yd_editing.specs.Refused.{first_of_steps, place_refusal, removal_refusal, pair_refusal, waiting_refusal, clock_refusal, refusal_of}
-use Rattle.yd_editing.specs.Law.{CanStep, IsStepInRange, IsValidEdit}
+use Rattle.yd_editing.specs.Law.{CanStep, IsStepInRange, IsValidEditOn, IsValidEdit}
 use Rattle.yd_editing.proofs.OrderLemmas.{up_to_in, behind_in}
-use Rattle.yd_editing.proofs.UnitLemmas.{written_in_list, written_units_stand, written_held_id}
+use Rattle.yd_editing.proofs.UnitLemmas.{written_in_list, written_held_id}
 use Rattle.yd_editing.proofs.RefusalLemmas.{neither, not_some, can_step}
 use Rattle.yd_editing.proofs.TakenLemmas.{run_within}
 
@@ -45,13 +47,12 @@ clock_fits clock name after content steps e = go (nat_le (2 ^ 53) (clock + len_o
     go true f g = absurd (not_some (clock_full clock) g)
     go false f g = (grind (arith, tests), g)
 
-clocks_fit : (client : Client) (r : Received) (steps : List Step) → refusal_of (basis_of client r) steps ≡ None →
-    clock_refusal (held_clock (held_set r.operations) client.0) steps ≡ None
-clocks_fit client r steps e =
-    let a = neither (first_of_steps (place_refusal (basis_of client r)) steps) _ e in
-    let b = neither (first_of_steps (removal_refusal (basis_of client r)) steps) _ a.1 in
-    let c = neither (first_of_steps (pair_refusal (basis_of client r)) steps) _ b.1 in
-    let d = neither (first_of_steps (waiting_refusal (basis_of client r)) steps) _ c.1 in d.1
+clocks_fit : (basis : Basis) (steps : List Step) → refusal_of basis steps ≡ None → clock_refusal (basis.vector basis.client.0) steps ≡ None
+clocks_fit basis steps e =
+    let a = neither (first_of_steps (place_refusal basis) steps) _ e in
+    let b = neither (first_of_steps (removal_refusal basis) steps) _ a.1 in
+    let c = neither (first_of_steps (pair_refusal basis) steps) _ b.1 in
+    let d = neither (first_of_steps (waiting_refusal basis) steps) _ c.1 in d.1
 
 -- ---- runs
 
@@ -156,47 +157,44 @@ makes_in_range [] each = tt
 makes_in_range (make name after content ∷ steps) each = (each.0, makes_in_range steps each.1)
 makes_in_range (remove spans ∷ steps) each = (tt, makes_in_range steps each.1)
 
--- ---- lemmas for callers
+module _ (client : Client) (document : Document) (r : Received) (steps : List Step) (received : IsReceived r) (is : IsReplicaDocument document r)
+    (ids : (o : Operation) → IsIn o r.operations → IsId o.id) (done : refusal_of (basis_over client document r) steps ≡ None) where
+  abbrev held : List Operation
+  held = held_set r.operations
 
--- the made runs are valid, whatever is removed
-pub valid_blocks : (client : Client) (r : Received) (steps : List Step) → IsReceived r → Each MakesInRange steps → IsClient client →
-    ((o : Operation) → IsIn o r.operations → IsId o.id) → refusal_of (basis_of client r) steps ≡ None → Each IsValidBlock (block_of_runs (runs_on (basis_of client r) steps))
-valid_blocks client r steps received each c ids done =
-    blocks_valid steps client (held_clock held client.0) (document_of r).units c (λ name o i. held_range o (written_units_stand held w name o i))
-    (afters_of steps held can (λ name y i. in_range name y i)) each (clocks_fit client r steps done)
-  where
-    held : List Operation
-    held = held_set r.operations
+  w : IsWritten (held_set r.operations)
+  w = held_written r.operations received.written
 
-    w : IsWritten (held_set r.operations)
-    w = held_written r.operations received.written
+  can : Each (CanStep (held_set r.operations)) steps
+  can = can_step client document r w is steps done
 
-    can : Each (CanStep (held_set r.operations)) steps
-    can = can_step client r w steps done
+  held_range : (o : Operation) → IsIn o (standing (held_set r.operations)) → IsId o.id
+  held_range o i = ids o (held_in r.operations o (standing_in (held_set r.operations) w o i).0)
 
-    held_range : (o : Operation) → IsIn o (standing (held_set r.operations)) → IsId o.id
-    held_range o i = ids o (held_in r.operations o (standing_in (held_set r.operations) w o i).0)
+  in_range : (name : DocList) (y : Id) → IsIn y (order_of (standing (held_set r.operations)) name) → IsId y
+  in_range name y i = let (o, j, e) = operation_with (standing (held_set r.operations)) y ((written_in_list (held_set r.operations) w name y).0 i).0 in subst
+      (λ x. IsId x) e (held_range o j)
 
-    in_range : (name : DocList) (y : Id) → IsIn y (order_of (standing (held_set r.operations)) name) → IsId y
-    in_range name y i = let (o, j, e) = operation_with (standing (held_set r.operations)) y ((written_in_list (held_set r.operations) w name y).0 i).0 in subst
-        (λ x. IsId x) e (held_range o j)
+  -- ---- lemmas for callers
 
-pub valid_edit : (client : Client) (r : Received) (steps : List Step) → IsReceived r → Each IsStepInRange steps → IsClient client →
-    ((o : Operation) → IsIn o r.operations → IsId o.id) → refusal_of (basis_of client r) steps ≡ None → IsValidEdit client r steps
-valid_edit client r steps received each c ids done = record {
-  valid = record {
-    blocks = valid_blocks client r steps received (makes_in_range steps each) c ids done;
-    deletes = removed_maximal steps each;
-  };
-  lefts = lefts_of (λ y. has_operation r.operations y ≡ true) steps client (held_clock held client.0) (document_of r).units held can
-      (λ name y i. ids_stay held r.operations y (λ o j. held_in r.operations o j) (written_held_id held w y ((written_in_list held w name y).0 i).0));
-}
-  where
-    held : List Operation
-    held = held_set r.operations
+  -- the made runs are valid, whatever is removed
+  pub own_valid_blocks : Each MakesInRange steps → IsClient client → Each IsValidBlock (block_of_runs (runs_on (basis_over client document r) steps))
+  own_valid_blocks each c = blocks_valid steps client (held_clock held client.0) document.units c (λ name o i. held_range o (is.as_held name o i))
+      (afters_of steps held can in_range) each (clocks_fit (basis_over client document r) steps done)
 
-    w : IsWritten (held_set r.operations)
-    w = held_written r.operations received.written
+  pub own_valid_edit : Each IsStepInRange steps → IsClient client → IsValidEditOn (basis_over client document r) r steps
+  own_valid_edit each c = record {
+    valid = record { blocks = own_valid_blocks (makes_in_range steps each) c; deletes = removed_maximal steps each };
+    lefts = lefts_of (λ y. has_operation r.operations y ≡ true) steps client (held_clock held client.0) document.units held can
+        (λ name y i. ids_stay held r.operations y (λ o j. held_in r.operations o j) (written_held_id held w y ((written_in_list held w name y).0 i).0));
+  }
 
-    can : Each (CanStep (held_set r.operations)) steps
-    can = can_step client r w steps done
+-- the same over the defined document
+module _ (client : Client) (r : Received) (steps : List Step) (received : IsReceived r) where
+  pub valid_blocks : Each MakesInRange steps → IsClient client → ((o : Operation) → IsIn o r.operations → IsId o.id) → refusal_of (basis_of client r) steps ≡ None →
+      Each IsValidBlock (block_of_runs (runs_on (basis_of client r) steps))
+  valid_blocks each c ids done = own_valid_blocks client (document_of r) r steps received (defined_is r received.written) ids done each c
+
+  pub valid_edit : Each IsStepInRange steps → IsClient client → ((o : Operation) → IsIn o r.operations → IsId o.id) → refusal_of (basis_of client r) steps ≡ None →
+      IsValidEdit client r steps
+  valid_edit each c ids done = own_valid_edit client (document_of r) r steps received (defined_is r received.written) ids done each c

@@ -39,12 +39,16 @@ first_waiting held client [] = None
 first_waiting held client (o ∷ os) =
     if nat_eq o.id.client.0 client && not (has_operation held o.id) then Some o.id.clock else first_waiting held client os
 
--- what an edit reads of what is received
-abbrev pub basis_of : Client → Received → Basis
-basis_of client r = record {
+-- what an edit of a client reads of what is received, over a document
+abbrev pub basis_over : Client → Document → Received → Basis
+basis_over client document r = record {
   client = client;
-  document = document_of r;
+  document = document;
   vector = held_clock (held_set r.operations);
   has_type = has_type_item (standing (held_set r.operations));
   waits = first_waiting (held_set r.operations) client.0 r.operations;
 }
+
+-- the same over the document that this defines
+abbrev pub basis_of : Client → Received → Basis
+basis_of client r = basis_over client (document_of r) r

@@ -20,13 +20,14 @@ use Rattle.yd_updates.specs.Received.{has_operation, IsWritten, taken_in, all_ta
 use Rattle.yd_updates.specs.Law.{IsReceived}
 use Rattle.yd_meaning.specs.Deleted.{is_in_delete_set}
 use Rattle.yd_meaning.specs.Held.{held_set, held_clock, standing, is_named}
-use Rattle.yd_meaning.specs.Document.{operations_at, document_of}
+use Rattle.yd_meaning.specs.Document.{Document, operations_at, document_of}
 use Rattle.yd_meaning.specs.Names.{item_of_list, has_key}
 use Rattle.yd_meaning.specs.Order.{list_of, order_of, AreHonest}
 use Rattle.yd_meaning.specs.Law.{IsMade}
-use Rattle.yd_editing.specs.Basis.{basis_of}
+use Rattle.yd_growing.specs.Replica.{IsReplicaDocument}
+use Rattle.yd_editing.specs.Basis.{Basis, basis_over, basis_of}
 use Rattle.yd_editing.specs.Refused.{spans_refusal, refusal_of}
-use Rattle.yd_editing.specs.Made.{runs_on, removed_by, update_of_edit, made_run, runs_of, lists_after, operations_of_runs}
+use Rattle.yd_editing.specs.Made.{runs_on, made_on, evolved_on, removed_by, update_of_edit, made_run, runs_of, lists_after, operations_of_runs}
 use Rattle.yd_editing.specs.Step.{Step, make, remove, not_held}
 
 -- ---- one made operation
@@ -135,29 +136,41 @@ abbrev pub MakesContent : Step → Type 0
 MakesContent (make name after content) = IsMakeable content
 MakesContent (remove spans) = Unit {0}
 
--- what is received with the update of an edit
-abbrev pub after_edit : Client → Received → List Step → Received
-after_edit client r steps = received_after r (update_of_edit (basis_of client r) steps)
-
--- the operations that an edit of a client makes on what is received, one after another
-abbrev pub made_by : Client → Received → List Step → List Operation
-made_by client r steps = operations_of_runs (runs_on (basis_of client r) steps)
-
--- the lists as the edit evolves them
-abbrev pub evolved_by : Client → Received → List Step → DocList → List Operation
-evolved_by client r steps = lists_after client (held_clock (held_set r.operations) client.0) (document_of r).units steps
+-- what is received with the update of an edit on a basis
+abbrev pub after_edit_on : Basis → Received → List Step → Received
+after_edit_on basis r steps = received_after r (update_of_edit basis steps)
 
 -- the update of an edit has just the made operations, and all are new: what is received is the old with them, as they are,
 -- and the deleted ids are the old ones with those that are removed. Where what is held is honest, it is so at the moment when
 -- they are made, before anything that waited is held, and each list is the one that the steps evolved
-pub record EditIsTaken (client : Client) (r : Received) (steps : List Step) : Type 0 where
-  pub made : operations_of (update_of_edit (basis_of client r) steps) ≡ made_by client r steps
-  pub new : (o : Operation) → IsIn o (made_by client r steps) → has_operation r.operations o.id ≡ false
-  pub operations : (after_edit client r steps).operations ≡ all_taken (made_by client r steps) r.operations
-  pub members : (o : Operation) → IsIn o (after_edit client r steps).operations
-      ↔ (IsIn o (made_by client r steps) ⊎ IsIn o r.operations)
-  pub deletes : (x : Id) → HasId (after_edit client r steps).deletes x ↔ (HasId r.deletes x ⊎ HasId (removed_by steps) x)
-  pub moment : AreHonest (held_set r.operations) → StandAfter (held_set r.operations) (made_by client r steps) (evolved_by client r steps)
+pub record EditIsTakenOn (basis : Basis) (r : Received) (steps : List Step) : Type 0 where
+  pub made : operations_of (update_of_edit basis steps) ≡ made_on basis steps
+  pub new : (o : Operation) → IsIn o (made_on basis steps) → has_operation r.operations o.id ≡ false
+  pub operations : (after_edit_on basis r steps).operations ≡ all_taken (made_on basis steps) r.operations
+  pub members : (o : Operation) → IsIn o (after_edit_on basis r steps).operations ↔ (IsIn o (made_on basis steps) ⊎ IsIn o r.operations)
+  pub deletes : (x : Id) → HasId (after_edit_on basis r steps).deletes x ↔ (HasId r.deletes x ⊎ HasId (removed_by steps) x)
+  pub moment : AreHonest (held_set r.operations) → StandAfter (held_set r.operations) (made_on basis steps) (evolved_on basis steps)
+
+-- so it is with each edit that is not refused, over each document that a replica may have of what it received
+abbrev pub OwnEditsAreTaken : Type 0
+OwnEditsAreTaken = (client : Client) (document : Document) (r : Received) (steps : List Step) → IsReceived r → IsReplicaDocument document r →
+    Each MakesContent steps → refusal_of (basis_over client document r) steps ≡ None → EditIsTakenOn (basis_over client document r) r steps
+
+-- what is received with the update of an edit on the defined document
+abbrev pub after_edit : Client → Received → List Step → Received
+after_edit client r steps = after_edit_on (basis_of client r) r steps
+
+-- the operations that an edit of a client makes on it
+abbrev pub made_by : Client → Received → List Step → List Operation
+made_by client r steps = made_on (basis_of client r) steps
+
+-- its lists as the edit evolves them
+abbrev pub evolved_by : Client → Received → List Step → DocList → List Operation
+evolved_by client r steps = evolved_on (basis_of client r) steps
+
+-- the update of an edit on it is taken so
+abbrev pub EditIsTaken : Client → Received → List Step → Type 0
+EditIsTaken client r steps = EditIsTakenOn (basis_of client r) r steps
 
 -- so it is with each edit that is not refused
 abbrev pub EditsAreTaken : Type 0
@@ -196,9 +209,19 @@ IsStepInRange (remove spans) = AreMaximal spans
 
 -- the update of an edit that is not refused is valid, where the ids of what is received are in range; and none of its runs
 -- has a made unit as its left origin, so no two of them join
-pub record IsValidEdit (client : Client) (r : Received) (steps : List Step) : Type 0 where
-  pub valid : IsValidUpdate (update_of_edit (basis_of client r) steps)
-  pub lefts : Each (λ run. IfSome run.left (λ y. has_operation r.operations y ≡ true)) (runs_on (basis_of client r) steps)
+pub record IsValidEditOn (basis : Basis) (r : Received) (steps : List Step) : Type 0 where
+  pub valid : IsValidUpdate (update_of_edit basis steps)
+  pub lefts : Each (λ run. IfSome run.left (λ y. has_operation r.operations y ≡ true)) (runs_on basis steps)
+
+-- so it is with each edit of steps in range, over each document that a replica may have of what it received
+abbrev pub OwnEditsAreValid : Type 0
+OwnEditsAreValid = (client : Client) (document : Document) (r : Received) (steps : List Step) → IsReceived r → IsReplicaDocument document r →
+    Each IsStepInRange steps → IsClient client → ((o : Operation) → IsIn o r.operations → IsId o.id) →
+    refusal_of (basis_over client document r) steps ≡ None → IsValidEditOn (basis_over client document r) r steps
+
+-- the update of an edit on the defined document is so valid
+abbrev pub IsValidEdit : Client → Received → List Step → Type 0
+IsValidEdit client r steps = IsValidEditOn (basis_of client r) r steps
 
 -- so it is with each edit of steps in range
 abbrev pub EditsAreValid : Type 0

@@ -102,6 +102,14 @@ block_of_runs (run ∷ runs) = record { client = run.id.client; clock = run.id.c
 abbrev pub runs_on : Basis → List Step → List RunValue
 runs_on basis steps = runs_of basis.client (basis.vector basis.client.0) basis.document.units steps
 
+-- the operations that it makes, one after another
+abbrev pub made_on : Basis → List Step → List Operation
+made_on basis steps = operations_of_runs (runs_on basis steps)
+
+-- the lists of the basis as the edit evolves them
+abbrev pub evolved_on : Basis → List Step → DocList → List Operation
+evolved_on basis steps = lists_after basis.client (basis.vector basis.client.0) basis.document.units steps
+
 -- what an edit answers: one item for each step that makes something, and the ids that are removed
 abbrev pub update_of_edit : Basis → List Step → UpdateValue
 update_of_edit basis steps = record { blocks = block_of_runs (runs_on basis steps); deletes = removed_by steps }

@@ -2,7 +2,9 @@
 
 ghost use Rattle.yd_editing.specs.TextLaw.{QuietTextsStay, InsertsStand, DeletesStand, FormatsStand};
 ghost use Rattle.yd_editing.specs.MapLaw.{SetsStand, UnsetsStand};
-ghost use Rattle.yd_editing.specs.Law.{MadeUnitsStand, MadeRunsStand, StepsStand, RemovalsTell, EditsAreTaken, EditsAreHeld, EditsAreValid, EditsDelete};
+ghost use Rattle.yd_editing.specs.Law.{MadeUnitsStand, MadeRunsStand, StepsStand, RemovalsTell};
+ghost use Rattle.yd_editing.specs.Law.{OwnEditsAreTaken, EditsAreTaken, EditsAreHeld, EditsDelete};
+ghost use Rattle.yd_editing.specs.Law.{OwnEditsAreValid, EditsAreValid};
 
 /// An operation that is made between two neighbours keeps an honest held set honest, and moves no
 /// other.
@@ -25,7 +27,13 @@ pub fn removals_tell()
     ensures { RemovalsTell }
 {}
 
-/// The update of an edit that is not refused has new operations alone, and is taken as it is.
+/// The update of an edit that is not refused has new operations alone, and is taken as it is. So it
+/// is over each document that a replica may have of what it received.
+pub fn own_edits_are_taken()
+    ensures { OwnEditsAreTaken }
+{}
+
+/// So it is over the defined document.
 pub fn edits_are_taken()
     ensures { EditsAreTaken }
 {}
@@ -36,7 +44,13 @@ pub fn edits_are_held()
     ensures { EditsAreHeld }
 {}
 
-/// The update of an edit is valid, and none of its runs has a made unit as its left origin.
+/// The update of an edit is valid, and none of its runs has a made unit as its left origin. So it
+/// is over each document that a replica may have of what it received.
+pub fn own_edits_are_valid()
+    ensures { OwnEditsAreValid }
+{}
+
+/// So it is over the defined document.
 pub fn edits_are_valid()
     ensures { EditsAreValid }
 {}

@@ -3,8 +3,8 @@ use Rattle.std.specs.Prelude.{ℕ, List, ◌++◌, codes, decimal}
 use Rattle.yd_ids.specs.declared.id.Id.{Id}
 use Rattle.yd_making.specs.declared.fault.EditFault.{EditFault}
 use Rattle.yd_making.specs.declared.fault.EditFault.TheVariants.{NoMemory, NoPlace, NotHeld, ClockFull, InsidePair, OwnWaiting, PastEnd, NoKey, Nothing}
-use Rattle.yd_playing.specs.declared.fault.LineCause.{LineCause}
-use Rattle.yd_playing.specs.declared.fault.LineCause.TheVariants.{BadLine, NoTarget, NoMark, Edit}
+use Rattle.yd_causes.specs.declared.cause.LineCause.{LineCause}
+use Rattle.yd_causes.specs.declared.cause.LineCause.TheVariants.{BadLine, NoTarget, NoMark, Edit}
 
 -- a number behind a name
 abbrev pub with_number : List ℕ → ℕ → List ℕ

@@ -10,9 +10,9 @@ use crate::message::tell_message;
 use crate::script::tell_line;
 use crate::writing::write_line;
 use itoa::Buffer;
+use yd_causes::LineCause;
 use yd_files::{File, prefix};
 use yd_parts::{Cause, Column, Spot};
-use yd_playing::LineCause;
 use yd_sync::MessageFault;
 use yd_world::{Outage, Sink};
 

@@ -6,9 +6,9 @@ ghost use Rattle.yd_ending.specs.Writing.{TakesAll, TakesPart, CountsFault};
 
 use crate::writing::write_line;
 use itoa::Buffer;
+use yd_causes::LineCause;
 use yd_ids::Id;
 use yd_making::EditFault;
-use yd_playing::LineCause;
 use yd_world::{Outage, Sink};
 
 /// Writes that the line with this number is refused, in the script under this name.

@@ -36,9 +36,8 @@ use Rattle.yd_meaning.proofs.StandingTableLemmas.{standing_table}
 use Rattle.yd_meaning.proofs.VectorLemmas.{held_written, held_smaller}
 use Rattle.yd_growing.specs.Grown.{table_in, IsGrown, HasAllOfList}
 use Rattle.yd_growing.specs.Own.{ids_in, IsOwnDocument}
-use Rattle.yd_growing.specs.Deletions.{MustBeDeleted, for_name, for_loss, for_key, for_item}
 use Rattle.yd_growing.proofs.ArrangingLemmas.{is_lower, arranged}
-use Rattle.yd_growing.proofs.DeletionLemmas.{deleted_by_definition}
+use Rattle.yd_growing.proofs.DefinedLemmas.{ids_are, defined_each, defined_once, defined_as_held, defined_closed, deleted_both}
 use Rattle.yd_growing.proofs.GrowthLemmas.{in_scans}
 use Rattle.yd_growing.proofs.HonestLemmas.{grown_is_order}
 use Rattle.yd_growing.proofs.StayingLemmas.{stands_held}
@@ -171,36 +170,16 @@ module _ (os : List Operation) (w : IsWritten os) where
   -- ---- the document that is defined
 
   module _ (honest : AreHonest held) (named : Id → Bool) where
-    table : IsTable (rows_of (standing held))
-    table = standing_table held written
-
-    ids_are : (list : DocList) → ids_in (document_with held named) list ≡ order_of (standing held) list
-    ids_are list = (operations_held (standing held) table.distinct (order_of (standing held) list) (λ x i. ((in_order_of (standing held) table list x).0 i).0)).0
-
-    must_be_held : (x : Id) → MustBeDeleted (ids_in (document_with held named)) held named (document_with held named).deleted x → has_operation held x ≡ true
-    must_be_held x (for_name there by) = there
-    must_be_held x (for_loss lost) = (both_hold (has_operation held x) _ lost).0
-    must_be_held x (for_key list i key other) = stands_held held written x ((in_order_of (standing held) table list x).0 (subst (IsIn x) (ids_are list) i)).0
-    must_be_held x (for_item list i item by) = stands_held held written x ((in_order_of (standing held) table list x).0 (subst (IsIn x) (ids_are list) i)).0
-
-    deleted_both : (x : Id) → (document_with held named).deleted x ≡ true → (has_operation held x ≡ true) × (is_deleted held named x ≡ true)
-    deleted_both x e = both_hold (has_operation held x) (is_deleted held named x) e
-
     pub defined_is_own : IsOwnDocument (document_with held named) held named
     defined_is_own = record {
       lists = record {
-        each = λ list. subst (λ ids. (x : Id) → IsIn x ids ↔ (has_operation (standing held) x ≡ true) × (list_of (standing held) x ≡ list)) (sym (ids_are list))
-            (in_order_of (standing held) table list);
-        once = λ list. subst AreDistinct (sym (ids_are list)) (order_distinct (standing held) table list);
-        as_held = λ list. (operations_held (standing held) table.distinct (order_of (standing held) list) (λ x i. ((in_order_of (standing held) table list x).0 i).0)).1;
+        each = defined_each held written named;
+        once = defined_once held written named;
+        as_held = defined_as_held held written named;
         grown = λ list. subst (IsGrown (standing held) list)
-            (grown_is_order held written (honest_set os w honest) list (grown_ids list) (is_grown list) (is_whole list) ∙ sym (ids_are list)) (is_grown list);
+            (grown_is_order held written (honest_set os w honest) list (grown_ids list) (is_grown list) (is_whole list) ∙ sym (ids_are held written named list)) (is_grown list);
       };
-      closed = record {
-        all = λ x must. hold_both (has_operation held x) (is_deleted held named x) (must_be_held x must)
-            (deleted_by_definition held written named (ids_in (document_with held named)) ids_are (document_with held named).deleted (λ y e. (deleted_both y e).1) x must);
-        only_held = λ x e. (deleted_both x e).0;
-      };
-      sound = λ h x e. (deleted_both x e).1;
+      closed = defined_closed held written named;
+      sound = λ h x e. (deleted_both held written named x e).1;
       keys = λ parent. refl;
     }

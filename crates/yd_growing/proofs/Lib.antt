@@ -1,10 +1,12 @@
 pub mod AlikeLemmas
 pub mod ArrangingLemmas
 pub mod ComingLemmas
+pub mod DefinedLemmas
 pub mod DeletionLemmas
 pub mod DocumentLemmas
 pub mod GrowthLemmas
 pub mod HeldLemmas
 pub mod HonestLemmas
 pub mod PartLemmas
+pub mod ReplicaLemmas
 pub mod StayingLemmas

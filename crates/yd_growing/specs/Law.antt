@@ -10,15 +10,16 @@ use Rattle.yd_origins.specs.Table.{OriginTable}
 use Rattle.yd_origins.specs.Growing.{GrowsByScan, IsClosed}
 use Rattle.yd_updates.specs.Received.{has_operation, IsWritten, Received, received_after}
 use Rattle.yd_updates.specs.Law.{IsReceived}
-use Rattle.yd_meaning.specs.Held.{held_set, standing}
+use Rattle.yd_meaning.specs.Held.{held_set, standing, is_named}
 use Rattle.yd_meaning.specs.Order.{order_of, AreHonest}
 use Rattle.yd_meaning.specs.Deleted.{is_deleted}
-use Rattle.yd_meaning.specs.Document.{Document, document_with}
+use Rattle.yd_meaning.specs.Document.{Document, document_with, document_of}
 use Rattle.yd_meaning.specs.Law.{IsPartOf}
 use Rattle.yd_growing.specs.Grown.{table_in, IsGrown, HasAllOfList, StandsHonest}
 use Rattle.yd_growing.specs.Staying.{StaysHeld}
 use Rattle.yd_growing.specs.Deletions.{MustBeDeleted, AreClosedDeletions, AreSoundDeletions, DeletesBesides}
 use Rattle.yd_growing.specs.Own.{IsOwnDocument}
+use Rattle.yd_growing.specs.Replica.{IsReplicaDocument}
 
 -- ---- lists
 
@@ -96,3 +97,12 @@ pub record OwnIsDefined : Type 0 where
       IsOwnDocument document (held_set received) named → document ≡ document_with (held_set received) named
   pub own : (received : List Operation) → IsWritten received → AreHonest (held_set received) → (named : Id → Bool) →
       IsOwnDocument (document_with (held_set received) named) (held_set received) named
+
+-- for every set the defined document is a replica's, and so is each whose lists grew by scans; where the edit rules are kept,
+-- there is no other than the defined one
+pub record ReplicasAreDefined : Type 0 where
+  pub defined : (r : Received) → IsWritten r.operations → IsReplicaDocument (document_of r) r
+  pub own : (r : Received) → IsWritten r.operations → (document : Document) →
+      IsOwnDocument document (held_set r.operations) (is_named r.deletes) → IsReplicaDocument document r
+  pub one : (r : Received) → AreHonest (held_set r.operations) → (document other : Document) →
+      IsReplicaDocument document r → IsReplicaDocument other r → document ≡ other

@@ -3,4 +3,5 @@ pub mod Example
 pub mod Grown
 pub mod Law
 pub mod Own
+pub mod Replica
 pub mod Staying

@@ -1,6 +1,6 @@
 //! The laws of grown documents, each the contract of an empty function.
 
-ghost use Rattle.yd_growing.specs.Law.{GrownIsOrder, GrowthGoesOn, ListsCanGrow, GrownStays, HeldStays, ClosedIsDeleted, ClosedGoesOn, SoundStays, AddingIsSound, OwnIsDefined};
+ghost use Rattle.yd_growing.specs.Law.{GrownIsOrder, GrowthGoesOn, ListsCanGrow, GrownStays, HeldStays, ClosedIsDeleted, ClosedGoesOn, SoundStays, AddingIsSound, OwnIsDefined, ReplicasAreDefined};
 
 /// Where what stands keeps the edit rules, a whole list that grew by scans is the origin order.
 pub fn grown_is_order()
@@ -50,4 +50,9 @@ pub fn adding_is_sound()
 /// Where what is held keeps the edit rules, the own document is just the one that this defines.
 pub fn own_is_defined()
     ensures { OwnIsDefined }
+{}
+
+/// The defined document is a replica's for every set. Where the edit rules are kept, no other is.
+pub fn replicas_are_defined()
+    ensures { ReplicasAreDefined }
 {}

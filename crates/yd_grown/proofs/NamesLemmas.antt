@@ -23,10 +23,10 @@ use Rattle.yd_grown.specs.Grown.{units_named, units_of, ids_of}
 abbrev pub AreDistinctNames : List DocList → Type 0
 AreDistinctNames names = (m n : ℕ) (name : DocList) → slice_get names m ≡ Some name → slice_get names n ≡ Some name → m ≡ n
 
-if-true : {X : Type 0} (t : Bool) (a b : X) → t ≡ true → (if t then a else b) ≡ a
+pub if-true : {X : Type 0} (t : Bool) (a b : X) → t ≡ true → (if t then a else b) ≡ a
 if-true t a b e = ap (λ (s : Bool). if s then a else b) e
 
-if-false : {X : Type 0} (t : Bool) (a b : X) → t ≡ false → (if t then a else b) ≡ b
+pub if-false : {X : Type 0} (t : Bool) (a b : X) → t ≡ false → (if t then a else b) ≡ b
 if-false t a b e = ap (λ (s : Bool). if s then a else b) e
 
 -- the list with a name is that of its number

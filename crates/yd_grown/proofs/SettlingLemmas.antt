@@ -23,7 +23,7 @@ use Rattle.yd_deleting.specs.Law.{is_gone}
 use Rattle.yd_deleting.proofs.LawLemmas.{has_named, named_has, gone_has, has_gone, deletions_go_on}
 use Rattle.yd_placing.specs.Law.{IsEmptyStore}
 use Rattle.yd_placing.specs.Placing.{KeepsAll, CanBePlaced, PlacesAll}
-use Rattle.yd_grown.specs.Grown.{units_named, ids_of, AreOwnDeletions}
+use Rattle.yd_grown.specs.Grown.{units_named, units_of, ids_of, AreOwnDeletions}
 use Rattle.yd_grown.specs.Settling.{DeletesBy, DeletesOn, DeletesAnew}
 use Rattle.yd_grown.proofs.CameLemmas.{written}
 use Rattle.yd_grown.proofs.BecameLemmas.{became_held}
@@ -44,15 +44,24 @@ is_gone-named deleted besides now e = λ i x. same x i
 
 module _ (k : HeldValue) (holds : HoldsAll k) (was it : KeptValue) (order : List ℕ) (can : CanBePlaced k order was) (placed : PlacesAll k was it)
     (keeps : KeepsAll (held_of k.received) it) (sound : IsSoundStore it.store) where
-  pub deletes_on : (deleted waiting more now : List Span) → DeletesBy k order it deleted waiting more now → DeletesOn k deleted waiting more was it now
-  deletes_on deleted waiting more now by part named news from =
-      let same = is_gone-named deleted by.besides now by.grown in
-      let on = deletions_go_on sound_stays it deleted waiting more by.came by.besides by.drops part (held_of k.received) (written k holds it keeps) from.stays (ids_of was) (ids_of it)
+  pub deletes_on : (deleted waiting more besides now : List Span) → DeletesBy k order it deleted waiting more besides now → DeletesOn k deleted waiting more was it now
+  deletes_on deleted waiting more besides now by part named news from =
+      let same = is_gone-named deleted besides now by.grown in
+      let on = deletions_go_on sound_stays it deleted waiting more by.came besides by.drops part (held_of k.received) (written k holds it keeps) from.stays (ids_of was) (ids_of it)
       (became_held k holds part from.stays was it from.keeps from.store order can placed keeps sound by.came by.came_are)
       (is_named named) (is_named news) from.became from.own.closed from.own.sound in record {
         closed = subst (AreClosedDeletions (ids_of it) (held_of k.received) (is_named news)) same on.closed;
         sound = subst (AreSoundDeletions (held_of k.received) (is_named news)) same on.sound;
       }
+
+-- so it is with another store that has the same lists
+pub own_still : (k : HeldValue) (was it new : KeptValue) → ((list : DocList) → units_of new list ≡ units_of it list) → (deleted waiting more now : List Span) →
+    DeletesOn k deleted waiting more was it now → DeletesOn k deleted waiting more was new now
+own_still k was it new same deleted waiting more now on part named news from =
+    let own = on part named news from in record {
+      closed = subst (λ lists. AreClosedDeletions lists (held_of k.received) (is_named news) (is_named now)) (λ i list. map (λ (o : Operation). o.id) (sym (same list) i)) own.closed;
+      sound = own.sound;
+    }
 
 -- ---- from nothing
 

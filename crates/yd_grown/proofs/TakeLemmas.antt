@@ -17,9 +17,8 @@ use Rattle.yd_arena.specs.Arena.{count_of}
 use Rattle.yd_updates.specs.Deletes.{deletes_of}
 use Rattle.yd_updates.specs.Received.{has_operation, with_groups, groups_of}
 use Rattle.yd_updates.proofs.ReceivedLemmas.{nothing_is_received}
-use Rattle.yd_meaning.specs.Held.{standing, is_named}
-use Rattle.yd_meaning.specs.Document.{keys_among}
-use Rattle.yd_growing.specs.Deletions.{AreClosedDeletions}
+use Rattle.yd_meaning.specs.Held.{is_named}
+use Rattle.yd_growing.specs.Deletions.{for_loss, AreClosedDeletions}
 use Rattle.yd_filling.specs.Telling.{IsSoundStore}
 use Rattle.yd_filling.proofs.FillingLemmas.{slice_below, within_names}
 use Rattle.yd_kept.specs.Kept.{KeptValue, KeepsHeld}
@@ -36,9 +35,11 @@ use Rattle.yd_placing.specs.Law.{IsEmptyStore}
 use Rattle.yd_placing.specs.Placing.{KeepsAll}
 use Rattle.yd_placing.proofs.LawLemmas.{entries_can_be_placed, turn_stays_held, keeping_keeps_all}
 use Rattle.yd_grown.specs.declared.sets.Sets.{Sets}
-use Rattle.yd_grown.specs.Grown.{GrownValue, held_in, units_of, AreWaiting, AreOwnDeletions, IsSound, IsUnchanged}
-use Rattle.yd_grown.specs.Settling.{CanSettle, AreLeft, known_of, DeletesThen, Settles}
+use Rattle.yd_grown.specs.Grown.{GrownValue, held_by, units_of, AreWaiting, AreOwnDeletions, AreMarked, seen_of, IsWhole}
+use Rattle.yd_grown.specs.Settling.{CanSettle, AreLeft, known_of, DeletesThen, MarksThen, Settles}
 use Rattle.yd_grown.proofs.NamesLemmas.{units_at, units_none}
+use Rattle.yd_grown.proofs.DocumentLemmas.{seen_again}
+use Rattle.yd_grown.proofs.MarkingLemmas.{nothing_marked}
 use Rattle.yd_grown.proofs.SettlingLemmas.{nothing_kept, nothing_deleted}
 use Rattle.yd_grown.proofs.SoundLemmas.{still_received}
 
@@ -51,7 +52,7 @@ can_settle true old k holds now order tells it keeps = tells
 
 -- ---- where it was taken
 
-module _ (old : GrownValue) (sound : IsSound old) (more named : List Span) (is : named ≡ union_of old.named more) where
+module _ (old : GrownValue) (sound : IsWhole old) (more named : List Span) (is : named ≡ union_of old.named more) where
   ids : AddsSpans old.named named more
   ids x = subst (λ s. HasId s x ↔ (HasId old.named x ⊎ HasId more x)) (sym is) (union_ids old.named more x)
 
@@ -75,7 +76,7 @@ module _ (old : GrownValue) (sound : IsSound old) (more named : List Span) (is :
     )
 
     -- what is named is what was, and more
-    became_named : BecameNamed (held_in old) (held_of k.received) (is_named old.named) (is_named named) (IsNamedIn old.waiting more)
+    became_named : BecameNamed (held_by old) (held_of k.received) (is_named old.named) (is_named named) (IsNamedIn old.waiting more)
     became_named = record {
       stays = λ x e. has_named named x ((ids x).1 (inl (named_has old.named x e)));
       known = λ x these. has_named named x ((ids x).1 (elim these [ inl i ↦ inl ((sound.waits x).0 i).0 | inr i ↦ inr i ]));
@@ -91,14 +92,19 @@ module _ (old : GrownValue) (sound : IsSound old) (more named : List Span) (is :
     module _ (holds : HoldsAll k) (order : List ℕ) (sets : Sets) (same_named : sets.named ≡ old.named) (same_waiting : sets.waiting ≡ old.waiting) (same_deletes : sets.deletes ≡ old.deletes)
         (it : KeptValue) (now : List Span) where
       own_then : (anew : Bool) → TellsOrder anew order old.held k → DeletesThen anew k sets more old.kept it now → AreOwnDeletions it (held_of k.received) named now
-      own_then false tells deletes = deletes (held_in old) old.named named (record {
+      own_then false tells deletes = deletes (held_by old) old.named named (record {
         stays = turn_stays_held old.held k sound.holds holds order tells;
         keeps = sound.keeps;
         store = sound.store;
-        own = subst (λ d. AreOwnDeletions old.kept (held_in old) old.named d) (sym same_deletes) sound.own;
-        became = subst (λ w. BecameNamed (held_in old) (held_of k.received) (is_named old.named) (is_named named) (IsNamedIn w more)) (sym same_waiting) became_named;
+        own = subst (λ d. AreOwnDeletions old.kept (held_by old) old.named d) (sym same_deletes) sound.own;
+        became = subst (λ w. BecameNamed (held_by old) (held_of k.received) (is_named old.named) (is_named named) (IsNamedIn w more)) (sym same_waiting) became_named;
       })
       own_then true tells deletes = deletes named (subst (λ s. AddsSpans s named more) (sym same_named) ids)
+
+      -- all that is lost is deleted, and so it is marked
+      marks_then : (anew : Bool) → AreOwnDeletions it (held_of k.received) named now → MarksThen anew k sets old.kept it now → AreMarked it.store now
+      marks_then false own marks = marks (subst (AreMarked old.kept.store) (sym same_deletes) sound.marks) (λ x gone. named_has now x (own.closed.all x (for_loss gone)))
+      marks_then true own marks = marks (λ x gone. named_has now x (own.closed.all x (for_loss gone)))
 
 -- no clock falls where others are held as they were
 rises_on : (old k : HeldValue) → HoldsAll old → HoldsAll k → (order : List ℕ) → HoldsInTurn order old k → (client : ℕ) → clock_of old.vector client ≤ clock_of k.vector client
@@ -121,11 +127,11 @@ rises_where : (anew : Bool) (old k : HeldValue) → HoldsAll old → HoldsAll k 
 rises_where false old k holds now order tells client e = rises_on old k holds now order tells client
 rises_where true old k holds now order tells client e = absurd (true≢false e)
 
-pub sound_then : (old : GrownValue) → IsSound old → (update : UpdateValue) → IsValidUpdate update → (k : HeldValue) → HoldsAll k →
+pub sound_then : (old : GrownValue) → IsWhole old → (update : UpdateValue) → IsValidUpdate update → (k : HeldValue) → HoldsAll k →
     taken_of k.received ≡ with_groups (groups_of update) (taken_of old.held.received) → (more named : List Span) → more ≡ deletes_of update → named ≡ union_of old.named more →
     (anew : Bool) (order : List ℕ) → TellsOrder anew order old.held k → (sets : Sets) → sets.named ≡ old.named → sets.waiting ≡ old.waiting → sets.deletes ≡ old.deletes →
     (it : KeptValue) (left now : List Span) → Settles anew k sets more old.kept it left now →
-    IsSound (record { held = k; named = named; waiting = left; kept = it; deletes = now })
+    IsWhole (record { held = k; named = named; waiting = left; kept = it; deletes = now })
 sound_then old sound update valid k holds taken more named of is anew order tells sets e f g it left now settles = record {
   received = still_received (record { operations = taken_of old.held.received; deletes = old.named }) update (taken_of k.received) named sound.received valid taken
       (is ∙ ap (union_of old.named) of);
@@ -134,13 +140,15 @@ sound_then old sound update valid k holds taken more named of is anew order tell
   keeps = settles.keeps;
   store = settles.store;
   own = own_then old sound more named is k holds order sets e f g it now anew tells settles.deletes;
+  marks = marks_then old sound more named is k holds order sets e f g it now anew
+      (own_then old sound more named is k holds order sets e f g it now anew tells settles.deletes) settles.marks;
 }
 
 -- ---- where memory ended
 
-module _ (old : GrownValue) (sound : IsSound old) (it : KeptValue) (keeps : KeepsHeld old.kept it) where
-  keeps_all : KeepsAll (held_in old) it
-  keeps_all = keeping_keeps_all (held_in old) (is_written old.held (holds_holding old.held sound.holds)) old.kept it sound.keeps keeps
+module _ (old : GrownValue) (sound : IsWhole old) (it : KeptValue) (keeps : KeepsHeld old.kept it) where
+  keeps_all : KeepsAll (held_by old) it
+  keeps_all = keeping_keeps_all (held_by old) (is_written old.held (holds_holding old.held sound.holds)) old.kept it sound.keeps keeps
 
   was : (n : ℕ) (name : DocList) → slice_get old.kept.names n ≡ Some name → n < count_of old.kept.store.placed
   was n name e = let lt = within_names old.kept.names n name e in omega (arith, lt, sound.keeps.filled.count)
@@ -172,7 +180,7 @@ module _ (old : GrownValue) (sound : IsSound old) (it : KeptValue) (keeps : Keep
   abbrev after : GrownValue
   after = record { held = old.held; named = old.named; waiting = old.waiting; kept = it; deletes = old.deletes }
 
-  pub still_sound : IsSoundStore it.store → IsSound after
+  pub still_sound : IsSoundStore it.store → IsWhole after
   still_sound store = record {
     received = sound.received;
     holds = sound.holds;
@@ -180,22 +188,14 @@ module _ (old : GrownValue) (sound : IsSound old) (it : KeptValue) (keeps : Keep
     keeps = keeps_all;
     store = store;
     own = record {
-      closed = subst (λ lists. AreClosedDeletions lists (held_in old) (is_named old.named) (is_named old.deletes)) (λ i list. map (λ (o : Operation). o.id) (sym (same_units list) i)) sound.own.closed;
+      closed = subst (λ lists. AreClosedDeletions lists (held_by old) (is_named old.named) (is_named old.deletes)) (λ i list. map (λ (o : Operation). o.id) (sym (same_units list) i)) sound.own.closed;
       sound = sound.own.sound;
     };
+    marks = λ x. ((λ m. (sound.marks x).0 ((keeps.marks x).0 m)), (λ h. (keeps.marks x).1 ((sound.marks x).1 h)));
   }
 
-  pub still_same : IsUnchanged old after
-  still_same = record {
-    held = refl;
-    named = refl;
-    waiting = refl;
-    deletes = refl;
-    document = λ i. record { units = λ list. same_units list i; deleted = is_named old.deletes; keys = keys_among (standing (held_in old)) };
-  }
-
-pub unchanged_itself : (s : GrownValue) → IsUnchanged s s
-unchanged_itself s = record { held = refl; named = refl; waiting = refl; deletes = refl; document = refl }
+  pub still_seen : seen_of after ≡ seen_of old
+  still_seen = seen_again old it same_units
 
 -- ---- nothing, received so far
 
@@ -204,7 +204,7 @@ abbrev pub nothing_held : HeldValue
 nothing_held = record { received = record { runs = []; entries = [] }; vector = []; names = []; lacks = [] }
 
 nothing_sound : HoldsAll nothing_held → (it : KeptValue) → IsEmptyStore it → IsSoundStore it.store →
-    IsSound (record { held = nothing_held; named = []; waiting = []; kept = it; deletes = [] })
+    IsWhole (record { held = nothing_held; named = []; waiting = []; kept = it; deletes = [] })
 nothing_sound holds it empty store = record {
   received = nothing_is_received;
   holds = holds;
@@ -212,10 +212,11 @@ nothing_sound holds it empty store = record {
   keeps = nothing_kept it empty;
   store = store;
   own = nothing_deleted it empty.names;
+  marks = nothing_marked it empty;
 }
 
 pub new_sound : (held : HeldValue) → held ≡ nothing_held → HoldsAll held → (it : KeptValue) → IsEmptyStore it → IsSoundStore it.store →
-    (named waiting deletes : List Span) → named ≡ [] → waiting ≡ [] → deletes ≡ [] → IsSound (record { held = held; named = named; waiting = waiting; kept = it; deletes = deletes })
+    (named waiting deletes : List Span) → named ≡ [] → waiting ≡ [] → deletes ≡ [] → IsWhole (record { held = held; named = named; waiting = waiting; kept = it; deletes = deletes })
 new_sound held h holds it empty store named waiting deletes a b c =
-    subst IsSound (λ i. record { held = sym h i; named = sym a i; waiting = sym b i; kept = it; deletes = sym c i })
+    subst IsWhole (λ i. record { held = sym h i; named = sym a i; waiting = sym b i; kept = it; deletes = sym c i })
     (nothing_sound (subst HoldsAll h holds) it empty store)

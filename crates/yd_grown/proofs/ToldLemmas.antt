@@ -1,5 +1,5 @@
 -- What a store with just what is held tells of its units: each is told, by a client's id, and so is the item of its list.
-use Rattle.std.proofs.Common.{◌≡◌, ℕ, zero, suc, ◌<◌, ◌≤◌, true, false, List, [], ◌∷◌, inl, inr, Some, length, get_or, refl, sym, ap, ◌∙◌, subst, arith, true≢false}
+use Rattle.std.proofs.Common.{◌≡◌, ℕ, zero, suc, ◌<◌, ◌≤◌, true, false, List, [], ◌∷◌, inl, inr, Some, length, map, get_or, refl, sym, ap, ◌∙◌, subst, arith, true≢false}
 use Rattle.std.specs.Prelude.{IfSome, is_some, nat_eq, slice_get}
 use Rattle.yd_words.specs.Member.{IsIn}
 use Rattle.yd_words.proofs.OptionLemmas.{if_some_each}
@@ -54,6 +54,11 @@ in_some_list it n x i = elim (split (count_of it.store.placed) n) [
   | inr lt ↦ lt
 ]
 
+id_in : (os : List Operation) (o : Operation) → IsIn o os → IsIn o.id (map (λ (p : Operation). p.id) os)
+id_in [] o i = absurd i
+id_in (p ∷ os) o (inl e) = inl (ap (λ (q : Operation). q.id) e)
+id_in (p ∷ os) o (inr i) = inr (id_in os o i)
+
 -- ---- the document
 
 module _ (k : HeldValue) (holds : HoldsAll k) (it : KeptValue) (keeps : KeepsAll (held_of k.received) it) (sound : IsSoundStore it.store) where
@@ -68,7 +73,7 @@ module _ (k : HeldValue) (holds : HoldsAll k) (it : KeptValue) (keeps : KeepsAll
   })
 
   -- an operation of a list stands
-  list_stands : (n : ℕ) → n < count_of it.store.placed → (o : Operation) → IsIn o (operations_in it.store n) → IsIn o (standing held)
+  pub list_stands : (n : ℕ) → n < count_of it.store.placed → (o : Operation) → IsIn o (operations_in it.store n) → IsIn o (standing held)
   list_stands n lt o i =
       let (name, e) = slice_below it.names n (omega (arith, lt, keeps.filled.count)) in
       (lists_grown (record { units = units_of it; deleted = λ x. false; keys = λ parent. [] }) (λ list. refl)).as_held name o
@@ -103,6 +108,14 @@ module _ (k : HeldValue) (holds : HoldsAll k) (it : KeptValue) (keeps : KeepsAll
       id_of_held y (stands_held held (written k holds it keeps) y (subst (λ os. has_operation os y ≡ true) holds.stands listed)))
 
   -- ---- lemmas for callers
+
+  -- a list that has a unit has a name
+  pub unit_named : (list : DocList) (o : Operation) → IsIn o (units_of it list) → (n : ℕ) × (slice_get k.names n ≡ Some list)
+  unit_named list o i =
+      let grown = lists_grown (record { units = units_of it; deleted = λ x. false; keys = λ parent. [] }) (λ list. refl) in
+      let (up, of) = (grown.each list o.id).0 (id_in (units_of it list) o i) in
+      let (m, number, got) = numbered_id k (holds_holding k holds) o.id (subst (λ os. has_operation os o.id ≡ true) (sym holds.stands) up) in
+      (m, got ∙ ap (λ (l : DocList). Some l) (ap (λ os. list_of os o.id) holds.stands ∙ of))
 
   pub is_told : IsTold it
   is_told = record {

@@ -1,5 +1,5 @@
--- What contracts see of a `Grown`: what was received and what is held of it, and the document that it has of its own (own).
-use Rattle.std.specs.Prelude.{◌≡◌, ◌↔◌, ◌≤◌, ℕ, suc, List, [], ◌∷◌, map, if◌then◌else◌}
+-- What a `Grown` keeps: what was received and is held, and a store with just what is held, which tells its document (own).
+use Rattle.std.specs.Prelude.{◌↔◌, ◌≤◌, ℕ, suc, List, [], ◌∷◌, map, if◌then◌else◌}
 use Rattle.yd_ids.specs.declared.id.Client.{Client}
 use Rattle.yd_ids.specs.declared.id.Id.{Id}
 use Rattle.yd_ids.specs.declared.id.Span.{Span}
@@ -8,7 +8,7 @@ use Rattle.yd_ids.specs.Vector.{clock_of}
 use Rattle.yd_ops.specs.declared.lists.List.{List as DocList}
 use Rattle.yd_ops.specs.Operation.{Operation}
 use Rattle.yd_store.specs.Store.{Stored}
-use Rattle.yd_store.specs.Units.{operations_in}
+use Rattle.yd_store.specs.Units.{operations_in, HasMarked}
 use Rattle.yd_updates.specs.Received.{Received}
 use Rattle.yd_updates.specs.Law.{IsReceived}
 use Rattle.yd_meaning.specs.Names.{same_list}
@@ -20,6 +20,7 @@ use Rattle.yd_kept.specs.Kept.{KeptValue}
 use Rattle.yd_received.specs.Received.{taken_of, held_of}
 use Rattle.yd_held.specs.Held.{HeldValue, HoldsAll}
 use Rattle.yd_placing.specs.Placing.{KeepsAll}
+use Rattle.yd_grown.specs.State.{StateValue}
 
 -- what was received and what is held of it, the ids that are deleted by name, those of them that are not held, the store
 -- with what is held, and the held ids that are deleted
@@ -31,12 +32,12 @@ pub record GrownValue : Type 0 where
   pub deletes : List Span
 
 -- what is received: operations in the order of writing, and deletions
-abbrev pub received_in : GrownValue → Received
-received_in s = record { operations = taken_of s.held.received; deletes = s.named }
+abbrev pub received_by : GrownValue → Received
+received_by s = record { operations = taken_of s.held.received; deletes = s.named }
 
 -- what is held of it
-abbrev pub held_in : GrownValue → List Operation
-held_in s = held_of s.held.received
+abbrev pub held_by : GrownValue → List Operation
+held_by s = held_of s.held.received
 
 -- ---- its document
 
@@ -53,14 +54,18 @@ units_of it list = units_named it.store 0 it.names list
 abbrev pub ids_of : KeptValue → DocList → List Id
 ids_of it list = map (λ (o : Operation). o.id) (units_of it list)
 
--- the document that it has: the operations of each list in its own order, its own delete set, and the keys of what stands; a
--- list without units is not told from one that is not there
-abbrev pub document_in : GrownValue → Document
-document_in s = record {
+-- the document that the store tells: the operations of each list in its own order, the own delete set, and the keys of what
+-- stands; a list without units is not told from one that is not there
+abbrev pub document_by : GrownValue → Document
+document_by s = record {
   units = units_of s.kept;
   deleted = is_named s.deletes;
-  keys = keys_among (standing (held_in s));
+  keys = keys_among (standing (held_by s));
 }
+
+-- how contracts see it: the ids of each list in place of the store, whose room and cuts are not told
+abbrev pub seen_of : GrownValue → StateValue
+seen_of s = record { held = s.held; named = s.named; orders = map (ids_of s.kept) s.held.names; deletes = s.deletes }
 
 -- ---- what is sound
 
@@ -73,21 +78,17 @@ pub record AreOwnDeletions (it : KeptValue) (held : List Operation) (named delet
   pub closed : AreClosedDeletions (ids_of it) held (is_named named) (is_named deletes)
   pub sound : AreSoundDeletions held (is_named named) (is_named deletes)
 
+-- the units of a store that are marked are those with these ids
+abbrev pub AreMarked : Stored → List Span → Type 0
+AreMarked it deletes = (x : Id) → HasMarked it x ↔ HasId deletes x
+
 -- what is received is that of valid updates; all is held that can be; the store has just what is held, in lists that grew by
--- scans; and what is deleted is so by their order
-pub record IsSound (s : GrownValue) : Type 0 where
-  pub received : IsReceived (received_in s)
+-- scans; and what is deleted is so by their order, and is marked
+pub record IsWhole (s : GrownValue) : Type 0 where
+  pub received : IsReceived (received_by s)
   pub holds : HoldsAll s.held
   pub waits : AreWaiting s.held.vector s.named s.waiting
-  pub keeps : KeepsAll (held_in s) s.kept
+  pub keeps : KeepsAll (held_by s) s.kept
   pub store : IsSoundStore s.kept.store
-  pub own : AreOwnDeletions s.kept (held_in s) s.named s.deletes
-
--- nothing has changed that is told: what was received and is held, what is deleted and what waits, and the document. The store
--- may have more room, more cuts, and more lists without units
-pub record IsUnchanged (old new : GrownValue) : Type 0 where
-  pub held : new.held ≡ old.held
-  pub named : new.named ≡ old.named
-  pub waiting : new.waiting ≡ old.waiting
-  pub deletes : new.deletes ≡ old.deletes
-  pub document : document_in new ≡ document_in old
+  pub own : AreOwnDeletions s.kept (held_by s) s.named s.deletes
+  pub marks : AreMarked s.kept.store s.deletes

@@ -1,7 +1,11 @@
 pub mod Above
 pub mod Brings
 pub mod Coming
+pub mod Deleting
 pub mod Grown
 pub mod Law
+pub mod Lent
 pub mod Novelty
 pub mod Settling
+pub mod State
+pub mod Waiting

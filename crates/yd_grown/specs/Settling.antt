@@ -5,7 +5,7 @@ use Rattle.yd_ids.specs.declared.id.Span.{Span}
 use Rattle.yd_ids.specs.Set.{HasId, union_of}
 use Rattle.yd_ids.specs.Vector.{clock_of}
 use Rattle.yd_ops.specs.Operation.{Operation}
-use Rattle.yd_meaning.specs.Held.{is_named}
+use Rattle.yd_meaning.specs.Held.{is_named, is_lost}
 use Rattle.yd_growing.specs.Staying.{StaysHeld}
 use Rattle.yd_filling.specs.Telling.{IsSoundStore}
 use Rattle.yd_kept.specs.Kept.{KeptValue}
@@ -17,7 +17,7 @@ use Rattle.yd_deleting.specs.Falling.{IsNamedIn, Drops}
 use Rattle.yd_deleting.specs.Law.{BecameNamed}
 use Rattle.yd_placing.specs.Placing.{KeepsAll, CanBePlaced}
 use Rattle.yd_grown.specs.declared.sets.Sets.{Sets as SetsValue}
-use Rattle.yd_grown.specs.Grown.{AreOwnDeletions}
+use Rattle.yd_grown.specs.Grown.{AreOwnDeletions, AreMarked}
 use Rattle.yd_grown.specs.Coming.{AreCame}
 
 -- a set, or what it grew to
@@ -28,9 +28,8 @@ grown_to set (Some grown) = grown
 -- ---- what is deleted
 
 -- a set grew to have what is deleted besides, since some entries came into a store
-pub record DeletesBy (k : HeldValue) (order : List ℕ) (it : KeptValue) (deleted waiting more now : List Span) : Type 0 where
+pub record DeletesBy (k : HeldValue) (order : List ℕ) (it : KeptValue) (deleted waiting more besides now : List Span) : Type 0 where
   pub came : List Came
-  pub besides : List Span
   pub came_are : AreCame k it order came
   pub drops : Drops it deleted (IsNamedIn waiting more) came besides
   pub grown : now ≡ union_of deleted besides
@@ -49,6 +48,10 @@ abbrev pub DeletesOn : HeldValue → List Span → List Span → List Span → K
 DeletesOn k deleted waiting more was new now = (part : List Operation) (named news : List Span) → GoesOnFrom k part was deleted named waiting more news →
     AreOwnDeletions new (held_of k.received) news now
 
+-- where what was deleted was marked, and all that is lost is deleted now, so it is with what is deleted now
+abbrev pub MarksOn : HeldValue → KeptValue → KeptValue → List Span → List Span → Type 0
+MarksOn k was new deleted now = AreMarked was.store deleted → ((x : Id) → is_lost (held_of k.received) x ≡ true → HasId now x) → AreMarked new.store now
+
 -- ---- what waits
 
 -- what waits of two sets: their ids that are not held
@@ -66,6 +69,15 @@ CanSettle true k order it = AreHeldInTurn k.received.runs k.received.entries (λ
 abbrev pub DeletesAnew : HeldValue → List Span → List Span → KeptValue → List Span → Type 0
 DeletesAnew k named more new now = (news : List Span) → ((x : Id) → HasId news x ↔ (HasId named x ⊎ HasId more x)) → AreOwnDeletions new (held_of k.received) news now
 
+-- where all that is lost is deleted now, what is deleted now is marked
+abbrev pub MarksAnew : HeldValue → KeptValue → List Span → Type 0
+MarksAnew k new now = ((x : Id) → is_lost (held_of k.received) x ≡ true → HasId now x) → AreMarked new.store now
+
+-- the marks go on from those that were, or are set anew
+abbrev pub MarksThen : Bool → HeldValue → SetsValue → KeptValue → KeptValue → List Span → Type 0
+MarksThen false k sets was new now = MarksOn k was new sets.deletes now
+MarksThen true k sets was new now = MarksAnew k new now
+
 -- what is deleted goes on from what was, or is found anew
 abbrev pub DeletesThen : Bool → HeldValue → SetsValue → List Span → KeptValue → KeptValue → List Span → Type 0
 DeletesThen false k sets more was new now = DeletesOn k sets.deletes sets.waiting more was new now
@@ -76,9 +88,10 @@ abbrev pub known_of : Bool → SetsValue → List Span
 known_of false sets = sets.waiting
 known_of true sets = sets.named
 
--- the store has just what is held, and what waits and what is deleted is so
+-- the store has just what is held, what waits and what is deleted is so, and what is deleted is marked
 pub record Settles (anew : Bool) (k : HeldValue) (sets : SetsValue) (more : List Span) (was new : KeptValue) (left now : List Span) : Type 0 where
   pub keeps : KeepsAll (held_of k.received) new
   pub store : IsSoundStore new.store
   pub waits : AreLeft k (known_of anew sets) more left
   pub deletes : DeletesThen anew k sets more was new now
+  pub marks : MarksThen anew k sets was new now

@@ -56,3 +56,13 @@ impl From<yd_ops::NoMemory> for NoMemory {
         NoMemory
     }
 }
+
+impl From<yd_merge::NoMemory> for NoMemory {
+    ghost use Rattle.std.specs.Prelude.{◌≡◌};
+
+    ghost from_gives = { λ _ e. e ≡ record {} };
+
+    fn from(_error: yd_merge::NoMemory) -> NoMemory {
+        NoMemory
+    }
+}

@@ -1,12 +1,15 @@
 //! What is deleted and what waits once more is held or named.
 
 ghost use Rattle.std.specs.Prelude.{◌≡◌, true, IfOk, OnOk, OnErr};
+ghost use Rattle.yd_arena.specs.Arena.{count_of};
 ghost use Rattle.yd_filling.specs.Telling.{IsSoundStore};
 ghost use Rattle.yd_kept.specs.Kept.{KeepsHeld};
+ghost use Rattle.yd_kept.specs.Marking.{AreHeld, AreParted};
 ghost use Rattle.yd_received.specs.Received.{held_of};
 ghost use Rattle.yd_placing.specs.Back.{CanBeTakenOut};
 ghost use Rattle.yd_placing.specs.Placing.{KeepsAll, CanBePlaced};
-ghost use Rattle.yd_grown.specs.Settling.{grown_to, DeletesBy, DeletesOn, DeletesAnew, CanSettle, known_of, Settles};
+ghost use Rattle.yd_grown.specs.Settling.{grown_to, DeletesBy, DeletesOn, DeletesAnew, MarksOn, MarksAnew};
+ghost use Rattle.yd_grown.specs.Settling.{CanSettle, known_of, Settles};
 
 use crate::coming::came_of;
 use crate::fault::NoMemory;
@@ -28,9 +31,18 @@ pub(crate) struct Settled {
     pub deletes: Option<IdSet>,
 }
 
-/// Places what became held, and answers what waits then and what is deleted. `sets` has what was
-/// so before, and `more` what is named besides. Where all was held anew, another store takes the
-/// place of the one that was there. Where memory ends, no unit has changed.
+/// What is deleted besides, since entries came into a store.
+#[derive(Drop)]
+pub(crate) struct Fallen {
+    /// The ids that fall.
+    pub besides: IdSet,
+    /// What the deleted ids grow to with them; None where these are as before.
+    pub grown: Option<IdSet>,
+}
+
+/// Places what became held, marks what is deleted then, and answers that and what waits. `sets` has
+/// what was so before, and `more` what is named besides. Where all was held anew, another store takes
+/// the place of the one that was there. Where memory ends, no unit has changed.
 pub(crate) fn settle(
     kept: &mut Kept,
     held: &Held,
@@ -77,6 +89,7 @@ fn settle_anew(
     ensures all { OnOk result (KeepsAll (held_of held.now.received) kept.new) }
     ensures store { OnOk result (IsSoundStore kept.new.store) }
     ensures deletes { IfOk result (λ now. DeletesAnew held.now named.now more.now kept.new now) }
+    ensures marks { IfOk result (λ now. MarksAnew held.now kept.new now) }
     ensures unchanged { OnErr result (kept.new ≡ kept.old) }
 {
     let alloc = held.received().allocator();
@@ -92,8 +105,8 @@ fn settle_anew(
     }
 }
 
-/// Places what became held, and answers what the deleted ids grow to. Where memory ends, no unit
-/// has changed.
+/// Places what became held, marks what falls, and answers what the deleted ids grow to. Where memory
+/// ends, no unit has changed.
 fn settle_on(
     kept: &mut Kept,
     held: &Held,
@@ -107,14 +120,20 @@ fn settle_on(
     ensures store { OnOk result (IsSoundStore kept.new.store) }
     ensures deletes { IfOk result (λ grown. DeletesOn held.now deletes.now waiting.now more.now
         kept.old kept.new (grown_to deletes.now grown)) }
+    ensures marks { IfOk result (λ grown. MarksOn held.now kept.old kept.new
+        deletes.now (grown_to deletes.now grown)) }
     ensures unchanged { OnErr result (KeepsHeld kept.old kept.new) }
 {
     // What is held, and that the store is sound, says where each unit stands.
     let _ = held.received();
     place(kept, held, order)?;
     let _ = kept.store();
-    match deleted_then(kept, held, order, deletes, waiting, more) {
-        Ok(grown) => Ok(grown),
+    match parted_then(kept, held, order, deletes, waiting, more) {
+        Ok(Fallen { besides, grown }) => {
+            kept.mark_each(&besides);
+            let _ = kept.store();
+            Ok(grown)
+        }
         Err(NoMemory) => {
             put_out(kept, held, order);
             Err(NoMemory)
@@ -122,24 +141,51 @@ fn settle_on(
     }
 }
 
-/// What the deleted ids grow to, since entries came into the store.
-fn deleted_then(
+/// What falls, since entries came into the store, whose runs are parted there. Where memory ends, no
+/// unit has changed either.
+fn parted_then(
+    kept: &mut Kept,
+    held: &Held,
+    order: &[usize],
+    deletes: &IdSet,
+    waiting: &IdSet,
+    more: &IdSet,
+) -> Result<Fallen, NoMemory>
+    requires all { KeepsAll (held_of held.now.received) kept.old }
+    requires store { IsSoundStore kept.old.store }
+    requires came { CanBeTakenOut held.now order.now kept.old }
+    ensures deletes { IfOk result (λ fallen. DeletesBy held.now order.now kept.old deletes.now
+        waiting.now more.now fallen.besides (grown_to deletes.now fallen.grown)) }
+    ensures held { IfOk result (λ fallen. AreHeld kept.new.store fallen.besides) }
+    ensures parted { IfOk result (λ fallen. AreParted kept.new.store fallen.besides) }
+    ensures kept { KeepsHeld kept.old kept.new }
+    ensures names { kept.new.names ≡ kept.old.names }
+    ensures count { count_of kept.new.store.placed ≡ count_of kept.old.store.placed }
+{
+    let fallen = fallen_then(kept, held, order, deletes, waiting, more)?;
+    kept.part_each(&fallen.besides)?;
+    Ok(fallen)
+}
+
+/// What falls, since entries came into the store.
+fn fallen_then(
     kept: &Kept,
     held: &Held,
     order: &[usize],
     deletes: &IdSet,
     waiting: &IdSet,
     more: &IdSet,
-) -> Result<Option<IdSet>, NoMemory>
+) -> Result<Fallen, NoMemory>
     requires all { KeepsAll (held_of held.now.received) kept.now }
     requires store { IsSoundStore kept.now.store }
     requires came { CanBeTakenOut held.now order.now kept.now }
-    ensures { IfOk result (λ grown. DeletesBy held.now order.now kept.now deletes.now waiting.now
-        more.now (grown_to deletes.now grown)) }
+    ensures deletes { IfOk result (λ fallen. DeletesBy held.now order.now kept.now deletes.now
+        waiting.now more.now fallen.besides (grown_to deletes.now fallen.grown)) }
+    ensures held { IfOk result (λ fallen. AreHeld kept.now.store fallen.besides) }
 {
     let alloc = held.received().allocator();
     let came = came_of(alloc, kept, held, order)?;
     let besides = deletions_besides(alloc, kept, deletes, waiting, more, &came)?;
     let grown = grown_by(deletes, &besides)?;
-    Ok(grown)
+    Ok(Fallen { besides, grown })
 }

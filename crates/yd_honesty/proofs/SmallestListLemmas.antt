@@ -23,15 +23,15 @@ use Rattle.yd_firsts.specs.Firsts.{ComparesFirsts, HaveStarts}
 use Rattle.yd_order.specs.Stretch.{among_rows, rows_of_stretches}
 use Rattle.yd_order.specs.declared.stretch.Stretch.{Stretch}
 use Rattle.yd_entries.specs.declared.entry.Entry.{Entry}
-use Rattle.yd_entries.specs.Entries.{is_held, is_listed, is_listed_at}
+use Rattle.yd_entries.specs.Entries.{is_held, is_listed}
 use Rattle.yd_received.specs.Received.{ReceivedValue, taken_of, held_of, listed_of}
 use Rattle.yd_entries.proofs.WrittenLemmas.{taken_written}
 use Rattle.yd_held.specs.Held.{HeldValue, HoldsAll}
 use Rattle.yd_held.proofs.HeldUnitLemmas.{covers_less}
 use Rattle.yd_held.proofs.HeldEntryLemmas.{is_taken, chosen_written, id_chosen}
-use Rattle.yd_state.specs.Stretches.{AreGathered, stretch_of, stretches_in}
-use Rattle.yd_state.proofs.ListOrderLemmas.{list_table, stretches_are_table, list_stretches_end}
-use Rattle.yd_state.proofs.NumberLemmas.{id_listed}
+use Rattle.yd_stretches.specs.Stretches.{AreGathered, stretch_of, stretches_in}
+use Rattle.yd_stretches.proofs.ListStretchLemmas.{list_table, stretches_are_table, list_stretches_end}
+use Rattle.yd_stretches.proofs.NumberLemmas.{listed_number, id_listed}
 use Rattle.yd_honesty.specs.Dishonest.{BreaksRules, dishonest_of, meets_rules}
 use Rattle.yd_honesty.specs.Judging.{IsKept, IsList, AreHeld, AreOfList, Breaks, IsUpTo, IsBest, IsBestOf, IsBestOfAll}
 use Rattle.yd_honesty.proofs.DishonestLemmas.{dishonest_none, dishonest_some}
@@ -41,8 +41,6 @@ use Rattle.yd_honesty.proofs.PlacesLemmas.{place_in}
 use Rattle.yd_honesty.proofs.RuleLemmas.{rules_decide}
 use Rattle.yd_honesty.proofs.StartLemmas.{StartBreaks, start_breaks}
 use Rattle.yd_held.specs.Numbered.{list_at_place, is_in_list}
-use Rattle.yd_entries.specs.declared.place.Place.{Place}
-use Rattle.yd_entries.specs.declared.place.Place.TheVariants.{Waits, Lost, In}
 use Rattle.yd_words.proofs.FilterLemmas.{one_kept}
 use Rattle.yd_words.proofs.MemberLemmas.{each_in}
 use Rattle.yd_words.specs.Test.{is_some_and}
@@ -51,11 +49,6 @@ use Rattle.yd_words.specs.Test.{is_some_and}
 
 no_smaller : (a b c : Id) → a.client.0 ≡ b.client.0 → a.clock ≤ b.clock → is_smaller a c ≡ false → is_smaller b c ≡ false
 no_smaller a b c e le f = grind (arith, tests)
-
-listed_number : (p : Place) → is_listed_at p ≡ true → (n : ℕ) × (list_at_place p ≡ Some n)
-listed_number Waits e = absurd (true≢false (sym e))
-listed_number Lost e = absurd (true≢false (sym e))
-listed_number (In n) e = (n, refl)
 
 in_mapped : (ts : List Entry) (t : Entry) → IsIn t ts → IsIn (stretch_of t) (map stretch_of ts)
 in_mapped [] t i = absurd i

@@ -20,7 +20,7 @@ use Rattle.yd_updates.specs.Received.{has_operation}
 use Rattle.yd_entries.specs.declared.entry.Entry.{Entry}
 use Rattle.yd_entries.specs.Entries.{is_listed}
 use Rattle.yd_received.specs.Received.{ReceivedValue, held_of, listed_of}
-use Rattle.yd_state.specs.Stretches.{stretch_of}
+use Rattle.yd_stretches.specs.Stretches.{stretch_of}
 use Rattle.yd_honesty.specs.Pasts.{IsHeldWhole}
 
 -- all that can be held is held, and what is in lists are the held operations that are not lost

@@ -47,12 +47,12 @@ impl From<yd_firsts::NoMemory> for NoMemory {
     }
 }
 
-impl From<yd_state::NoMemory> for NoMemory {
+impl From<yd_stretches::NoMemory> for NoMemory {
     ghost use Rattle.std.specs.Prelude.{◌≡◌};
 
     ghost from_gives = { λ _ e. e ≡ record {} };
 
-    fn from(_error: yd_state::NoMemory) -> NoMemory {
+    fn from(_error: yd_stretches::NoMemory) -> NoMemory {
         NoMemory
     }
 }

@@ -9,7 +9,7 @@
 //! these. [`dishonest`] puts each list in order and judges its units by both.
 //!
 //! ```rust
-//! if let Some(id) = dishonest(alloc, &state)? {
+//! if let Some(id) = dishonest(alloc, held)? {
 //!     // The operation with this id was not put where its maker saw it.
 //! }
 //! ```

@@ -4,11 +4,11 @@ ghost use Rattle.std.specs.Prelude.{◌≡◌, ◌<◌, ◌+◌, ℕ, Option, So
 ghost use Rattle.yd_ids.specs.declared.id.Id.{Id as IdSeen};
 ghost use Rattle.yd_ops.specs.declared.lists.List.{List as DocList};
 ghost use Rattle.yd_meaning.specs.Held.{held_set};
-ghost use Rattle.yd_state.specs.State.{received_in};
+ghost use Rattle.yd_received.specs.Received.{taken_of};
+ghost use Rattle.yd_stretches.specs.Stretches.{stretch_lists};
 ghost use Rattle.yd_honesty.specs.Dishonest.{dishonest_of};
 ghost use Rattle.yd_honesty.specs.Pasts.{ArePasts};
 ghost use Rattle.yd_honesty.specs.Judging.{IsKept, IsList, AreHeld, AreEnds, AreAt, AreOfList, IsBest, IsBestOf, is_better};
-ghost use Rattle.yd_state.specs.Stretches.{stretch_lists};
 
 use crate::ends::ends_of;
 use crate::fault::NoMemory;
@@ -17,10 +17,11 @@ use crate::pasts::pasts_of;
 use crate::places::{Spots, spots_of};
 use std::alloc::Global;
 use yd_firsts::compare_firsts;
+use yd_held::Held;
 use yd_ids::{Id, Vector, is_smaller};
 use yd_order::{Comparison, Stretch};
 use yd_received::Received;
-use yd_state::{State, gathered};
+use yd_stretches::gathered;
 
 /// The smallest id of an operation that breaks the edit rules, among those that are held and not
 /// lost. There is none exactly where what is held is honest (own; the rules are those of YATA).
@@ -29,13 +30,13 @@ use yd_state::{State, gathered};
 /// then the first units of its pieces are judged one by one. Beside that it takes memory with
 /// entries times clients. A piece costs the steps from its left to its right origin, where what is
 /// made on what is not of its past is one step.
-pub fn dishonest(alloc: Global, state: &State) -> Result<Option<Id>, NoMemory>
+pub fn dishonest(alloc: Global, held: &Held) -> Result<Option<Id>, NoMemory>
     ensures { IfOk result (λ found.
-        found ≡ dishonest_of (held_set (received_in state.now).operations)) }
+        found ≡ dishonest_of (held_set (taken_of held.now.received))) }
 {
-    let received = state.received();
+    let received = held.received();
     let pasts = pasts_of(alloc, received)?;
-    let marks = all_marked(alloc, state.names().len())?;
+    let marks = all_marked(alloc, held.names().len())?;
     let lists = gathered(alloc, received.entries(), &marks)?;
     let mut smallest = None;
     for n in 0..lists.len() {

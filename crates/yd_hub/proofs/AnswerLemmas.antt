@@ -17,7 +17,7 @@ use Rattle.yd_updates.proofs.GroupLemmas.{deletes_of-ids}
 use Rattle.yd_updates.proofs.LevelLemmas.{half_full}
 use Rattle.yd_updates.proofs.PartnerLemmas.{pair_half, partners_decide}
 use Rattle.yd_updates.proofs.ReceivedLemmas.{set_is_received}
-use Rattle.yd_meaning.specs.Deleted.{is_in_delete_set}
+use Rattle.yd_meaning.specs.Document.{Document}
 use Rattle.yd_meaning.specs.Held.{held_clock, held_set}
 use Rattle.yd_grouping.specs.Law.{IsFrom}
 use Rattle.yd_grouping.specs.Merged.{cut_of, reply_of}
@@ -25,7 +25,8 @@ use Rattle.yd_grouping.proofs.GroupableLemmas.{received_groupable}
 use Rattle.yd_grouping.proofs.CutLemmas.{cut_has}
 use Rattle.yd_grouping.proofs.ReplyLemmas.{reply-operations, reply_valid}
 use Rattle.yd_hub.specs.Answers.{AreAnswersOf, TellsNews}
-use Rattle.yd_hub.specs.OwnAnswers.{CanAnswer, answers_of}
+use Rattle.yd_hub.specs.ExchangeLaw.{KnowsDerived}
+use Rattle.yd_hub.specs.OwnAnswers.{AreOwnDeletes, CanAnswer, answers_of}
 use Rattle.yd_hub.proofs.NewsLemmas.{news_says}
 
 pub are_answers : (r : Received) (vector : List (Client × ℕ)) (own : List Span) → CanAnswer r vector own → AreAnswersOf r (answers_of r vector own)
@@ -69,6 +70,8 @@ can_answer updates vector own valid maximal counts = record {
   maximal = maximal;
 }
 
-pub knows_derived : (r : Received) (vector : List (Client × ℕ)) (own : List Span) → ((x : Id) → HasId own x → is_in_delete_set r x ≡ true) →
-    (x : Id) → HasId (answers_of r vector own).deletes x → HasId r.deletes x ⊎ (is_in_delete_set r x ≡ true)
-knows_derived r vector own derived x h = elim ((union_ids own r.deletes x).0 h) [ inl own ↦ inr (derived x own) | inr told ↦ inl told ]
+pub knows_derived : (r : Received) (vector : List (Client × ℕ)) (own : List Span) → AreOwnDeletes own r → KnowsDerived r (answers_of r vector own)
+knows_derived r vector own are honest x h = elim ((union_ids own r.deletes x).0 h) [
+  | inl i ↦ inr (subst (λ (d : Document). d.deleted x ≡ true) (are.is.defined honest) ((are.deletes x).0 i))
+  | inr told ↦ inl told
+]

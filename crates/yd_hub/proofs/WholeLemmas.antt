@@ -13,6 +13,7 @@ use Rattle.yd_meaning.specs.Held.{held_set}
 use Rattle.yd_meaning.specs.Order.{AreHonest}
 use Rattle.yd_meaning.specs.Law.{ShowAlike}
 use Rattle.yd_meaning.proofs.HeldLemmas.{held_needs}
+use Rattle.yd_meaning.proofs.PartLemmas.{part_stays}
 use Rattle.yd_meaning.proofs.VectorLemmas.{held_written}
 use Rattle.yd_hub.specs.Answers.{Answers, AreAnswersOf}
 use Rattle.yd_hub.specs.ExchangeLaw.{HasBoth, IsSideOf, AddsDerived, IsPartOfNow, LowersNoHeld, IsExchange}
@@ -93,15 +94,15 @@ module _ (one other one_then other_then one_last other_last : Received) (asking_
   some_of (inl a) = inl a
   some_of (inr b) = inr b.0
 
-  one_derived : AddsDerived one_last other_last other_then
-  one_derived = subst (λ r. AddsDerived r other_last other_then) (sym ex.one_takes) (reply_derives one other_last other_then asking_one.vector answers_other ex.answering.1
+  one_derived : AreHonest (held_set other_then.operations) → AddsDerived one_last other_last other_then
+  one_derived honest = subst (λ r. AddsDerived r other_last other_then) (sym ex.one_takes) (reply_derives one other_last other_then asking_one.vector answers_other ex.answering.1
       (λ x h. told other one_then other_last asking_other answers_one ex.answering.0 ex.other_takes x (told_then one one_then one_last asking_one answers_other (some_of ex.one_answers) ex.one_takes x h))
-      other_part.deletes ex.knowing.1)
+      other_part.deletes (ex.knowing.1 honest))
 
-  other_derived : AddsDerived other_last one_last one_then
-  other_derived = subst (λ r. AddsDerived r one_last one_then) (sym ex.other_takes) (reply_derives other one_last one_then asking_other.vector answers_one ex.answering.0
+  other_derived : AreHonest (held_set one_then.operations) → AddsDerived other_last one_last one_then
+  other_derived honest = subst (λ r. AddsDerived r one_last one_then) (sym ex.other_takes) (reply_derives other one_last one_then asking_other.vector answers_one ex.answering.0
       (λ x h. told one other_then one_last asking_one answers_other ex.answering.1 ex.one_takes x (told_then other other_then other_last asking_other answers_one (some_of ex.other_answers) ex.other_takes x h))
-      one_part.deletes ex.knowing.0)
+      one_part.deletes (ex.knowing.0 honest))
 
   -- ---- for callers
 
@@ -109,5 +110,12 @@ module _ (one other one_then other_then one_last other_last : Received) (asking_
   whole_ids x = both_same one other one_last other_last (one_both other_side) (other_both one_side) x
 
   pub whole_shown : ((o p : Operation) → IsIn o one_last.operations → IsIn p other_last.operations → o.id ≡ p.id → o ≡ p) → AreHonest (held_set one_last.operations) → ShowAlike one_last other_last
-  whole_shown alike honest = documents_meet one_last other_last one_then other_then one_is other_is
-      (both_alike one other one_last other_last one_is other_is (one_both other_side) (other_both one_side) alike) honest one_part other_part one_derived other_derived
+  whole_shown alike honest = documents_meet one_last other_last one_then other_then one_is other_is same honest one_part other_part
+      (one_derived ((part_stays other_last.operations other_is.written (held_set other_then.operations) other_part.held).honest honest_too))
+      (other_derived ((part_stays one_last.operations one_is.written (held_set one_then.operations) one_part.held).honest honest))
+    where
+      same : one_last.operations ≡ other_last.operations
+      same = both_alike one other one_last other_last one_is other_is (one_both other_side) (other_both one_side) alike
+
+      honest_too : AreHonest (held_set other_last.operations)
+      honest_too = subst (λ os. AreHonest (held_set os)) same honest

@@ -67,9 +67,9 @@ pub record DocumentsMeet : Type 0 where
       ((x : Id) → HasId answers.deletes x → HasId other_then.deletes x ⊎ (is_in_delete_set other_then x ≡ true)) →
       AddsDerived (received_after one (answers.reply vector)) other other_then
 
--- the deletions that a replica knows were told to it, or are in its delete set: so it is where what it holds is honest
+-- where what it holds is honest, the deletions that a replica knows were told to it, or are in its delete set
 abbrev pub KnowsDerived : Received → Answers → Type 0
-KnowsDerived r answers = (x : Id) → HasId answers.deletes x → HasId r.deletes x ⊎ (is_in_delete_set r x ≡ true)
+KnowsDerived r answers = AreHonest (held_set r.operations) → (x : Id) → HasId answers.deletes x → HasId r.deletes x ⊎ (is_in_delete_set r x ≡ true)
 
 -- one exchange in each direction with nothing else between: each side asks, and takes the other's reply; one of them may answer
 -- only after it took

@@ -1,11 +1,11 @@
 -- What a replica answers: its state vector, the deletions that it was told or derived, its replies, and what is news to it (own).
-use Rattle.std.specs.Prelude.{◌≡◌, ◌⊎◌, ℕ, zero, suc, Bool, true, false, ◌&&◌, ◌||◌, not, List, [], ◌∷◌, nat_lt}
+use Rattle.std.specs.Prelude.{◌≡◌, ℕ, zero, suc, Bool, true, false, ◌&&◌, ◌||◌, not, List, [], ◌∷◌, nat_lt}
 use Rattle.yd_words.specs.Each.{Each}
 use Rattle.yd_ids.specs.declared.id.Client.{Client}
 use Rattle.yd_ids.specs.declared.id.Id.{Id}
 use Rattle.yd_ids.specs.declared.id.Span.{Span}
 use Rattle.yd_ids.specs.Ids.{is_same}
-use Rattle.yd_ids.specs.Set.{AreMaximal, HasId, union_of}
+use Rattle.yd_ids.specs.Set.{AreMaximal, union_of}
 use Rattle.yd_ids.specs.Vector.{clock_of}
 use Rattle.yd_ops.specs.Operation.{Operation, level_of, operations_of}
 use Rattle.yd_ops.specs.Valid.{IsValidUpdate}
@@ -13,11 +13,13 @@ use Rattle.yd_ops.specs.Value.{UpdateValue}
 use Rattle.yd_updates.specs.Deletes.{deletes_of}
 use Rattle.yd_updates.specs.Law.{IsReceived}
 use Rattle.yd_updates.specs.Received.{Received, has_operation, received_set}
-use Rattle.yd_meaning.specs.Deleted.{is_in_delete_set}
+use Rattle.yd_meaning.specs.Document.{AreDeletedIn, Document}
 use Rattle.yd_meaning.specs.Held.{held_clock, held_set, is_named}
+use Rattle.yd_growing.specs.Replica.{IsReplicaDocument}
 use Rattle.yd_grouping.specs.Groupable.{AreGroupable}
 use Rattle.yd_grouping.specs.Merged.{reply_of}
 use Rattle.yd_hub.specs.Answers.{Answers, AreAnswersOf, TellsNews}
+use Rattle.yd_hub.specs.ExchangeLaw.{KnowsDerived}
 
 -- ---- what is news
 
@@ -67,11 +69,17 @@ pub record CanAnswer (r : Received) (vector : List (Client × ℕ)) (own : List 
   pub counts : (client : ℕ) → clock_of vector client ≡ held_clock (held_set r.operations) client
   pub maximal : AreMaximal own
 
+-- the spans are the delete set of a document that a replica may have which received this: where the edit rules are kept, the one
+-- that this defines
+pub record AreOwnDeletes (own : List Span) (r : Received) : Type 0 where
+  pub document : Document
+  pub is : IsReplicaDocument document r
+  pub deletes : AreDeletedIn own document
+
 -- so it answers as the laws of synchronisation ask for; and what is received of valid updates can be answered with
 pub record ReplicasAnswer : Type 0 where
   pub can : (updates : List UpdateValue) (vector : List (Client × ℕ)) (own : List Span) → Each IsValidUpdate updates → AreMaximal own →
       ((client : ℕ) → clock_of vector client ≡ held_clock (held_set (received_set updates).operations) client) → CanAnswer (received_set updates) vector own
   pub answers : (r : Received) (vector : List (Client × ℕ)) (own : List Span) → CanAnswer r vector own → AreAnswersOf r (answers_of r vector own)
   pub news : (r : Received) (vector : List (Client × ℕ)) (own : List Span) → IsReceived r → TellsNews r (answers_of r vector own)
-  pub derived : (r : Received) (vector : List (Client × ℕ)) (own : List Span) → ((x : Id) → HasId own x → is_in_delete_set r x ≡ true) →
-      (x : Id) → HasId (answers_of r vector own).deletes x → HasId r.deletes x ⊎ (is_in_delete_set r x ≡ true)
+  pub derived : (r : Received) (vector : List (Client × ℕ)) (own : List Span) → AreOwnDeletes own r → KnowsDerived r (answers_of r vector own)

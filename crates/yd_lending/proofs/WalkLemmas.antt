@@ -140,3 +140,31 @@ none_lent it list e = ap (flat_map (lent_at it)) (none (places_in it.placed list
     none : (places : List ℕ) → last_of places ≡ None → places ≡ []
     none [] f = refl
     none (x ∷ xs) f = let some = some_last x xs in (let no : Some some.0 ≡ None = sym some.1 ∙ f in absurd cc)
+
+-- ---- the last of what is left
+
+-- from a place of a list on, the last place is that of the list
+left_last : (before : Option ℕ) (xs : List ℕ) (p q : ℕ) → IsIn p xs → last_from before xs ≡ Some q → (front : List ℕ) × (p ∷ behind (Some p) xs ≡ front ++ q ∷ [])
+left_last before [] p q i e = absurd i
+left_last before (x ∷ xs) p q i e = elim (same_place x p) [
+  | inl same ↦ rw same.0 (subst (λ k. (front : List ℕ) × (k ∷ xs ≡ front ++ q ∷ [])) same.1 (last_parts x xs q e))
+  | inr other ↦ rw other.0 (left_last (Some x) xs p q (elim i [ inl f ↦ absurd (other.1 (sym f)) | inr j ↦ j ]) e)
+]
+
+-- the units of the run at the last place are the last of those that are left, where some are
+pub left_lent : (it : Stored) (list : ℕ) (next : Option ℕ) (first place : ℕ) (units : List Lent) → next ≡ Some first → IsIn first (places_in it.placed list) →
+    last_of (places_in it.placed list) ≡ Some place → units ≡ lent_at it place → (front : List Lent) × (units_left (walk_at it list next) ≡ front ++ units)
+left_lent it list next first place units n i e u = let parts = left_last None (places_in it.placed list) first place i e in (
+  flat_map (lent_at it) parts.0,
+  ap (λ z. flat_map (lent_at it) (places_from z (places_in it.placed list))) n
+      ∙ ap (flat_map (lent_at it)) parts.1 ∙ flat_map-append (lent_at it) parts.0 (place ∷ [])
+      ∙ ap (λ us. flat_map (lent_at it) parts.0 ++ us) (append-nil (lent_at it place) ∙ sym u),
+)
+
+-- a list with a place has a last one
+pub some_place : (it : Stored) (list place : ℕ) → IsIn place (places_in it.placed list) → last_of (places_in it.placed list) ≡ None → ⊥
+some_place it list place i e = go (places_in it.placed list) i e
+  where
+    go : (places : List ℕ) → IsIn place places → last_of places ≡ None → ⊥
+    go [] j f = j
+    go (x ∷ xs) j f = let some = some_last x xs in (let no : Some some.0 ≡ None = sym some.1 ∙ f in absurd cc)

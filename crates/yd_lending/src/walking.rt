@@ -1,10 +1,10 @@
 //! A walk through a list, from its first place to its last.
 
-ghost use Rattle.std.specs.Prelude.{◌≡◌, ◌++◌, ◌<◌, [], IfSome, IfNone, MatchOption};
+ghost use Rattle.std.specs.Prelude.{◌≡◌, ◌++◌, ◌<◌, List, [], IfSome, IfNone, MatchOption};
 ghost use Rattle.yd_ops.specs.View.{content_value};
 ghost use Rattle.yd_ops.specs.Value.{len_of};
 ghost use Rattle.yd_arena.specs.Arena.{count_of};
-ghost use Rattle.yd_lending.specs.Lending.{HasNoGone, units_of_run, lent_in, units_left};
+ghost use Rattle.yd_lending.specs.Lending.{Lent, HasNoGone, units_of_run, lent_in, units_left};
 
 use crate::lent::{LentRun, lent_run};
 use std::marker::Model;
@@ -64,5 +64,22 @@ impl<'a> ListWalk<'a> {
         let run = lent_run(self.store, place);
         self.next = self.store.next(place);
         Some(run)
+    }
+
+    /// The last run of those that are still to come, or none where no unit is left. It takes no memory,
+    /// and a few steps.
+    pub fn last(&self) -> Option<LentRun<'a>>
+        ensures last { IfSome result (λ run. (front : List Lent)
+            × (units_left self.now ≡ front ++ units_of_run run)) }
+        ensures some { IfSome result (λ run. 0 < run.len) }
+        ensures len { IfSome result (λ run. run.len ≡ len_of (content_value run.content.now)) }
+        ensures none { IfNone result (units_left self.now ≡ []) }
+    {
+        let _next = self.next?;
+        let Some(place) = self.store.last(self.list) else {
+            return None;
+        };
+        self.store.is_sound();
+        Some(lent_run(self.store, place))
     }
 }

@@ -170,13 +170,24 @@ pub no_last : (it : KeptValue) (document : Document) (name : DocList) → Tells 
     None ≡ last.last_of (ids_in document name)
 no_last it document name tells no_one = sym (ap (λ os. last.last_of (map (λ (o : Operation). o.id) os)) (tells.lists.others name (not_named it.names name no_one)))
 
+-- the ids of a run are in range that stands behind others of units in range
+pub behind_ranged : (all : List Lent) (run : LentRun) → ((front : List Lent) × (all ≡ front ++ units_of_run run)) → 0 < run.len →
+    run.len ≡ len_of (content_value run.content.now) → Each HasRoom all → IsInRange run
+behind_ranged all run parts some len rooms =
+    let units : List UnitContent = units_of_content (content_value run.content.now) in
+    let long : length units ≡ run.len = length-units_of_content (content_value run.content.now) ∙ sym len in
+    let own : Each HasRoom (units_of_run run) = each_behind HasRoom parts.0 (units_of_run run) (subst (Each HasRoom) parts.1 rooms) in
+    let r = lent_last run.id run.deleted units [] (omega (arith, long, some)) (subst (Each HasRoom) (sym (append-nil (units_of_run run))) own) in
+    record { client = r.0; ids = omega (arith, r.1, long) }
+
+-- so it is with the last run of a walk
+pub left_ranged : (walk : Walk) (z : Option LentRun) → IfSome z (λ run. (front : List Lent) × (units_left walk ≡ front ++ units_of_run run)) →
+    IfSome z (λ run. 0 < run.len) → IfSome z (λ run. run.len ≡ len_of (content_value run.content.now)) → AreInRange (Some walk) → IfSome z IsInRange
+left_ranged walk None parts some len h = tt
+left_ranged walk (Some run) parts some len h = behind_ranged (units_left walk) run parts some len h
+
 -- the ids of the last run are in range
 pub last_ranged : (it : KeptValue) (n : ℕ) (run : LentRun) → IsTold it → IsArena it.store.placed.lines (runs_of it.store.placed) → AreLists it.store.placed.linked →
     AreTold (runs_of it.store.placed) (told_of it.store.contents) → n < count_of it.store.placed →
     ((front : List Lent) × (lent_in it.store n ≡ front ++ units_of_run run)) → 0 < run.len → run.len ≡ len_of (content_value run.content.now) → IsInRange run
-last_ranged it n run is arena lists told lt parts some len =
-    let units : List UnitContent = units_of_content (content_value run.content.now) in
-    let long : length units ≡ run.len = length-units_of_content (content_value run.content.now) ∙ sym len in
-    let all : Each HasRoom (units_of_run run) = each_behind HasRoom parts.0 (units_of_run run) (subst (Each HasRoom) parts.1 (list_ranged it n is arena lists told lt)) in
-    let r = lent_last run.id run.deleted units [] (omega (arith, long, some)) (subst (Each HasRoom) (sym (append-nil (units_of_run run))) all) in
-    record { client = r.0; ids = omega (arith, r.1, long) }
+last_ranged it n run is arena lists told lt parts some len = behind_ranged (lent_in it.store n) run parts some len (list_ranged it n is arena lists told lt)

@@ -1,5 +1,5 @@
 -- The lists of a store with names, in the words of the document that it tells (own).
-use Rattle.std.specs.Prelude.{◌≡◌, ◌↔◌, ◌+◌, true, List, [], Option, Some, None, map}
+use Rattle.std.specs.Prelude.{◌≡◌, ◌↔◌, ◌+◌, ◌++◌, true, List, [], Option, Some, None, map}
 use Rattle.yd_words.specs.Each.{Each}
 use Rattle.yd_ids.specs.declared.id.Id.{Id}
 use Rattle.yd_ids.specs.Id.{IsClient, IsClock}
@@ -25,6 +25,10 @@ lent_units document list = map (λ (o : Operation). lent (document.deleted o.id)
 abbrev pub units_to_come : Option Walk → List Lent
 units_to_come None = []
 units_to_come (Some walk) = units_left walk
+
+-- some units stand behind others, and are the last of all
+abbrev pub EndIn : List Lent → List Lent → Type 0
+EndIn all units = (front : List Lent) × (all ≡ front ++ units)
 
 -- the id of a unit is in range, and so is the clock behind it
 pub record HasRoom (unit : Lent) : Type 0 where

@@ -8,7 +8,8 @@ ghost use Rattle.yd_meaning.specs.Document.{Document};
 ghost use Rattle.yd_arena.specs.Arena.{count_of};
 ghost use Rattle.yd_lending.specs.Lending.{units_of_run, units_left};
 ghost use Rattle.yd_deleting.specs.Falling.{IsTold};
-ghost use Rattle.yd_listing.specs.Listing.{Tells, lent_units, units_to_come, AreInRange, IsInRange};
+ghost use Rattle.yd_listing.specs.Listing.{Tells, lent_units, units_to_come, EndIn};
+ghost use Rattle.yd_listing.specs.Listing.{AreInRange, IsInRange};
 
 use std::marker::Model;
 use yd_kept::Kept;
@@ -79,6 +80,33 @@ impl<'a> ListView<'a> {
             Some(walk) => next_in_range(walk),
         }
     }
+
+    /// The last run of those that are still to come, or none where no unit is left. It takes no memory,
+    /// and a few steps.
+    pub fn last(&self) -> Option<LentRun<'a>>
+        ensures last { IfSome result (λ run. EndIn (units_to_come self.now) (units_of_run run)) }
+        ensures some { IfSome result (λ run. 0 < run.len) }
+        ensures len { IfSome result (λ run. run.len ≡ len_of (content_value run.content.now)) }
+        ensures within { IfSome result IsInRange }
+        ensures none { IfNone result (units_to_come self.now ≡ []) }
+    {
+        match &self.walk {
+            None => None,
+            Some(walk) => last_in_range(walk),
+        }
+    }
+}
+
+/// The last run of a walk, where the ids of all units that are still to come are in range.
+fn last_in_range<'a>(walk: &ListWalk<'a>) -> Option<LentRun<'a>>
+    requires { AreInRange (Some walk.now) }
+    ensures last { IfSome result (λ run. EndIn (units_left walk.now) (units_of_run run)) }
+    ensures some { IfSome result (λ run. 0 < run.len) }
+    ensures len { IfSome result (λ run. run.len ≡ len_of (content_value run.content.now)) }
+    ensures within { IfSome result IsInRange }
+    ensures none { IfNone result (units_left walk.now ≡ []) }
+{
+    walk.last()
 }
 
 /// The next run of a walk, where the ids of all units that are still to come are in range.

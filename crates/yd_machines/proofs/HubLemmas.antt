@@ -3,7 +3,7 @@ use Rattle.std.proofs.Common.{◌≡◌, ℕ, ◌<◌, ◌≤◌, Bool, true, fa
 use Rattle.std.specs.Prelude.{◌↔◌, IfOk, IsTrue, OnOk, if◌then◌else◌}
 use Rattle.yd_ids.specs.declared.id.Client.{Client}
 use Rattle.yd_ops.specs.Value.{UpdateValue}
-use Rattle.yd_state.specs.Brings.{BringsSomething}
+use Rattle.yd_state.specs.Brings.{BringsUnknown}
 use Rattle.yd_sync.specs.declared.fault.MessageFault.{MessageFault}
 use Rattle.yd_sync.specs.Message.{MessageValue, change, step1, step2}
 use Rattle.yd_sync.specs.MessageReading.{message_reading}
@@ -15,12 +15,12 @@ use Rattle.yd_hub.specs.Actions.{close, entries_to, send, to_each}
 use Rattle.yd_hub.specs.Answers.{Answers}
 use Rattle.yd_hub.specs.Hub.{HubState, actions_if_open, actions_of_closed, actions_of_message, actions_of_news, actions_of_opened, actions_of_what, after_closed, after_message, after_opened, after_update, after_what, closed_if_open}
 use Rattle.yd_hub.specs.Sessions.{is_open, most_sessions, with_session, without}
-use Rattle.yd_hub.proofs.NewsLemmas.{brings_says}
+use Rattle.yd_hub.proofs.NewsLemmas.{unknown_says}
 use Rattle.yd_doc.specs.Kept.{Kept, own_deletes, received_of}
 use Rattle.yd_hub.specs.declared.action.ActionList.{ActionList}
 use Rattle.yd_hub.specs.Orders.{ordered}
 use Rattle.yd_machines.specs.declared.fault.NoMemory.{NoMemory}
-use Rattle.yd_machines.specs.Asked.{IsAnswering, answers_in}
+use Rattle.yd_machines.specs.Asked.{answers_in}
 use Rattle.yd_machines.specs.HubStep.{HubTakes, IsNewsTo}
 
 -- ---- a session that comes
@@ -100,19 +100,19 @@ module _ (hub : HubState) (now : ℕ) (s : Session) (bytes : List ℕ) where
 -- ---- an update that comes
 
 -- it is news exactly where the replica says that it brings something
-news_is : (replica : Kept) (vector : List (Client × ℕ)) (update : UpdateValue) (brings : Bool) → IsAnswering replica → IsTrue brings ↔ BringsSomething update (received_of replica) →
+news_is : (replica : Kept) (vector : List (Client × ℕ)) (update : UpdateValue) (brings : Bool) → IsTrue brings ↔ BringsUnknown update (received_of replica) (own_deletes replica) →
     (answers_in replica vector).is_news update ≡ brings
-news_is replica vector update brings is says = brings_says (received_of replica) (own_deletes replica) update brings is.deletes says
+news_is replica vector update brings says = unknown_says (received_of replica) (own_deletes replica) update brings says
 
-pub news_orders : (replica : Kept) (hub : HubState) (session : ℕ) (update : UpdateValue) (brings : Bool) → IsAnswering replica → IsTrue brings ↔ BringsSomething update (received_of replica) →
+pub news_orders : (replica : Kept) (hub : HubState) (session : ℕ) (update : UpdateValue) (brings : Bool) → IsTrue brings ↔ BringsUnknown update (received_of replica) (own_deletes replica) →
     brings ≡ true → (vector : List (Client × ℕ)) → actions_of_news (answers_in replica vector) hub session update ≡ to_each (change update) (without session hub.sessions)
-news_orders replica hub session update brings is says e vector =
-    ap (λ t. if t then to_each (change update) (without session hub.sessions) else []) (news_is replica vector update brings is says ∙ e)
+news_orders replica hub session update brings says e vector =
+    ap (λ t. if t then to_each (change update) (without session hub.sessions) else []) (news_is replica vector update brings says ∙ e)
 
-pub no_news_orders : (replica : Kept) (hub : HubState) (session : ℕ) (update : UpdateValue) (brings : Bool) → IsAnswering replica → IsTrue brings ↔ BringsSomething update (received_of replica) →
+pub no_news_orders : (replica : Kept) (hub : HubState) (session : ℕ) (update : UpdateValue) (brings : Bool) → IsTrue brings ↔ BringsUnknown update (received_of replica) (own_deletes replica) →
     brings ≡ false → (vector : List (Client × ℕ)) → actions_of_news (answers_in replica vector) hub session update ≡ []
-no_news_orders replica hub session update brings is says e vector =
-    ap (λ t. if t then to_each (change update) (without session hub.sessions) else []) (news_is replica vector update brings is says ∙ e)
+no_news_orders replica hub session update brings says e vector =
+    ap (λ t. if t then to_each (change update) (without session hub.sessions) else []) (news_is replica vector update brings says ∙ e)
 
 -- an update of a step 2 was taken
 pub takes_step2 : (replica : Kept) (old new : HubState) (now session : ℕ) (update : UpdateValue) (message : MessageValue) (result : Result ActionList NoMemory) → message ≡ step2 update →

@@ -1,13 +1,12 @@
--- What a replica answers at a moment: what it received decides it, and its own delete set.
+-- What a replica answers at a moment: what it received decides it, and the delete set of its own document.
 use Rattle.std.specs.Prelude.{ℕ, List}
 use Rattle.yd_ids.specs.declared.id.Client.{Client}
 use Rattle.yd_ids.specs.Set.{AreMaximal}
 use Rattle.yd_updates.specs.Law.{IsReceived}
-use Rattle.yd_meaning.specs.Deleted.{AreDeleteSet}
 use Rattle.yd_grouping.specs.Groupable.{AreGroupable}
 use Rattle.yd_doc.specs.Kept.{Kept, own_deletes, received_of}
 use Rattle.yd_hub.specs.Answers.{Answers}
-use Rattle.yd_hub.specs.OwnAnswers.{CanAnswer, answers_of}
+use Rattle.yd_hub.specs.OwnAnswers.{AreOwnDeletes, CanAnswer, answers_of}
 
 -- its answers, with a state vector
 abbrev pub answers_in : Kept → List (Client × ℕ) → Answers
@@ -22,5 +21,5 @@ IsVectorOf replica vector = CanAnswer (received_of replica) vector (own_deletes 
 pub record IsAnswering (replica : Kept) : Type 0 where
   pub received : IsReceived (received_of replica)
   pub groupable : AreGroupable (received_of replica).operations
-  pub deletes : AreDeleteSet (own_deletes replica) (received_of replica)
+  pub deletes : AreOwnDeletes (own_deletes replica) (received_of replica)
   pub maximal : AreMaximal (own_deletes replica)

@@ -8,7 +8,7 @@ ghost use Rattle.yd_machines.specs.Asked.{IsAnswering, IsVectorOf};
 
 use crate::fault::NoMemory;
 use yd_doc::Replica;
-use yd_doc::law::{own_document_is_defined, received_can_be_grouped, received_is_sound};
+use yd_doc::law::{own_document_is_replicas, received_can_be_grouped, received_is_sound};
 use yd_ids::Vector;
 
 /// A replica can answer with each vector that counts what it holds: a law, so the call does nothing
@@ -18,7 +18,7 @@ pub fn is_answering(replica: &Replica)
 {
     received_is_sound(replica);
     received_can_be_grouped(replica);
-    own_document_is_defined(replica);
+    own_document_is_replicas(replica);
     let deletes = replica.deletes();
     let _spans = deletes.spans();
 }

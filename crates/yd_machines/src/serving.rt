@@ -10,7 +10,6 @@ ghost use Rattle.yd_hub.specs.Hub.{after_update};
 ghost use Rattle.yd_hub.specs.Orders.{AreSendable, ordered};
 ghost use Rattle.yd_machines.specs.HubStep.{HubTakes, IsNewsTo, hub_state, replica_of_hub};
 
-use crate::answering::is_answering;
 use crate::fault::NoMemory;
 use crate::hub::{Hub, sending};
 use yd_hub::{Action, ActionList};
@@ -73,7 +72,6 @@ impl Hub {
         ensures sendable { IfOk result AreSendable }
         ensures unchanged { OnErr result (hub_state self.new ≡ hub_state self.old) }
     {
-        is_answering(&self.replica);
         // What may want memory comes first, so that no update is applied and not passed on.
         let others = self.sessions.others(session)?;
         let mut actions = ActionList::none(self.alloc);

@@ -1,5 +1,5 @@
--- What an edit reads of a state, and what is known of it.
-use Rattle.std.proofs.Common.{◌≡◌, ◌<◌, ◌+◌, ◌^◌, ℕ, true, List, Some, None, refl, sym, ap, ◌∙◌, subst, arith}
+-- What is known of a state that an edit reads.
+use Rattle.std.proofs.Common.{◌≡◌, ◌<◌, ◌+◌, ◌^◌, ℕ, true, List, ap, ◌∙◌, subst, arith}
 use Rattle.yd_words.specs.Member.{IsIn}
 use Rattle.yd_ids.specs.declared.id.Client.{Client}
 use Rattle.yd_ids.specs.declared.id.Id.{Id}
@@ -9,35 +9,19 @@ use Rattle.yd_ops.specs.Operation.{Operation}
 use Rattle.yd_updates.specs.Received.{has_operation, IsWritten}
 use Rattle.yd_updates.proofs.OneOfLemmas.{operation_with, id_is_there}
 use Rattle.yd_meaning.specs.Held.{held_set, held_clock, standing}
-use Rattle.yd_meaning.specs.Document.{Document}
 use Rattle.yd_meaning.proofs.StandingLemmas.{standing_in}
 use Rattle.yd_meaning.proofs.VectorLemmas.{held_written, held_below}
-use Rattle.yd_editing.specs.Basis.{Basis, basis_of}
-use Rattle.yd_editing.proofs.UnitLemmas.{written_units_stand}
 use Rattle.yd_entries.specs.Entries.{covers}
 use Rattle.yd_held.proofs.HeldUnitLemmas.{covers_less, unit_covers}
 use Rattle.yd_held.proofs.HeldEntryLemmas.{is_taken, taken_entry}
-use Rattle.yd_state.specs.State.{StateValue, received_in, listed_of, document_in, IsSound}
-use Rattle.yd_state.proofs.LentLemmas.{document_defined}
-use Rattle.yd_making.specs.Given.{basis_in}
+use Rattle.yd_received.specs.Received.{listed_of}
+use Rattle.yd_state.specs.State.{StateValue, received_in, document_in, IsSound}
+use Rattle.yd_state.proofs.LentLemmas.{document_replica}
 use Rattle.yd_making.proofs.RightsLemmas.{AreBelow}
 
 module _ (client : Client) (s : StateValue) (sound : IsSound s) where
-  -- it is what an edit reads of what was received
-  pub basis_is : basis_in client s ≡ basis_of client (received_in s)
-  basis_is = ap (λ (d : Document). with_document d) (document_defined s sound)
-    where
-      with_document : Document → Basis
-      with_document d = record {
-        client = client;
-        document = d;
-        vector = (basis_in client s).vector;
-        has_type = (basis_in client s).has_type;
-        waits = (basis_in client s).waits;
-      }
-
   -- what is in lists is what stands of all that is held
-  pub listed_stands : listed_of s ≡ standing (held_set (received_in s).operations)
+  pub listed_stands : listed_of s.held.received ≡ standing (held_set (received_in s).operations)
   listed_stands = sound.holds.stands ∙ ap standing sound.holds.held
 
   -- all ids that were received are in range
@@ -52,7 +36,7 @@ module _ (client : Client) (s : StateValue) (sound : IsSound s) where
   pub units_below : AreBelow client (held_clock (held_set (received_in s).operations) client.0) (document_in s).units
   units_below name y e own =
       let (o, i, f) = operation_with ((document_in s).units name) y e in
-      let stands : IsIn o (standing held) = written_units_stand held w name o (subst (λ (d : Document). IsIn o (d.units name)) (document_defined s sound) i) in
+      let stands : IsIn o (standing held) = (document_replica s sound).as_held name o i in
       let there : has_operation held o.id ≡ true = id_is_there held o (standing_in held w o stands).0 in
       let below : o.id.clock < held_clock held o.id.client.0 = (held_below (received_in s).operations sound.received.written o.id.client o.id.clock).0 there in
       subst (λ (x : Id). x.clock < held_clock held client.0) f (subst (λ n. o.id.clock < held_clock held n) (ap (λ (x : Id). x.client.0) f ∙ own) below)

@@ -1,5 +1,5 @@
 -- The update that is made of the parts is that of the edit, and it is valid.
-use Rattle.std.proofs.Common.{◌≡◌, ℕ, true, Bool, false, List, [], ◌∷◌, map, Option, Some, None, refl, sym, ap, ap₂, ◌∙◌, subst}
+use Rattle.std.proofs.Common.{◌≡◌, ℕ, true, Bool, false, List, [], ◌∷◌, map, Option, Some, None, refl, ap, ap₂, ◌∙◌}
 use Rattle.std.specs.Prelude.{IfSome, if◌then◌else◌}
 use Rattle.yd_words.specs.Each.{Each}
 use Rattle.yd_ids.specs.declared.id.Client.{Client}
@@ -18,14 +18,15 @@ use Rattle.yd_editing.specs.Basis.{Basis}
 use Rattle.yd_editing.specs.Made.{runs_of, block_of_runs, runs_on, removed_by, update_of_edit}
 use Rattle.yd_editing.specs.Refused.{first_of_steps, parent_refusal, after_refusal, place_refusal, removal_refusal, pair_refusal, waiting_refusal, clock_refusal, refusal_of}
 use Rattle.yd_editing.proofs.RefusalLemmas.{neither, no_step, not_some}
-use Rattle.yd_editing.proofs.ValidLemmas.{MakesInRange, valid_blocks}
+use Rattle.yd_editing.proofs.ValidLemmas.{MakesInRange, own_valid_blocks}
 use Rattle.yd_state.specs.State.{StateValue, received_in, document_in, IsSound}
+use Rattle.yd_state.proofs.LentLemmas.{document_replica}
 use Rattle.yd_making.specs.Given.{basis_in}
 use Rattle.yd_making.specs.Steps.{IsProper}
 use Rattle.yd_making.specs.Rights.{rights_from, runs_with}
 use Rattle.yd_making.specs.Blocks.{block_from}
 use Rattle.yd_making.proofs.RightsLemmas.{IsAt, runs_are}
-use Rattle.yd_making.proofs.GivenLemmas.{basis_is, ids_in_range, units_below}
+use Rattle.yd_making.proofs.GivenLemmas.{ids_in_range, units_below}
 
 -- ---- what is known of an edit that is not refused
 
@@ -97,8 +98,7 @@ module _ (client : Client) (s : StateValue) (sound : IsSound s) (steps : List St
 
   pub made_valid : IsClient client → AreMaximal (removed_by steps) → IsValidUpdate (update_of_edit basis steps)
   made_valid is maximal = record {
-    blocks = subst (λ (b : Basis). Each IsValidBlock (block_of_runs (runs_on b steps))) (sym (basis_is client s sound))
-        (valid_blocks client (received_in s) steps sound.received (in_range steps proper) is (ids_in_range client s sound)
-        (subst (λ b. refusal_of b steps ≡ None) (basis_is client s sound) accepted));
+    blocks = own_valid_blocks client (document_in s) (received_in s) steps sound.received (document_replica s sound) (ids_in_range client s sound) accepted
+        (in_range steps proper) is;
     deletes = maximal;
   }

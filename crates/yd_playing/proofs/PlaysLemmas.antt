@@ -8,8 +8,8 @@ use Rattle.yd_ops.specs.declared.updates.Update.{Update}
 use Rattle.yd_ops.specs.Value.{UpdateValue}
 use Rattle.yd_ops.specs.View.{update_value}
 use Rattle.yd_updates.specs.Received.{Received, received_after}
-use Rattle.yd_meaning.specs.Document.{Document, IsDocumentOf, document_of}
-use Rattle.yd_editing.specs.Basis.{Basis}
+use Rattle.yd_meaning.specs.Document.{Document}
+use Rattle.yd_editing.specs.Basis.{Basis, basis_over}
 use Rattle.yd_editing.specs.Made.{update_of_edit}
 use Rattle.yd_editing.specs.Refused.{refusal_of}
 use Rattle.yd_editing.specs.Step.{Step, Refusal}
@@ -29,10 +29,10 @@ use Rattle.yd_script.specs.Lines.{Numbered}
 use Rattle.yd_script.specs.Reading.{line_in}
 use Rattle.yd_playing.specs.Answer.{PlaysAs}
 use Rattle.yd_playing.specs.Desk.{Desk, with_mark, with_update}
-use Rattle.yd_playing.specs.Ended.{asked_ends, basis_over, change_ends, edit_ends, line_ends, mark_ends, place_ends, text_ends, undo_ends}
+use Rattle.yd_playing.specs.Ended.{asked_ends, change_ends, edit_ends, line_ends, mark_ends, place_ends, text_ends, undo_ends}
 use Rattle.yd_playing.specs.Stopped.{IsUnread, refused_by}
 use Rattle.yd_playing.specs.declared.desk.Mark.{Mark}
-use Rattle.yd_playing.specs.declared.fault.LineCause.TheVariants.{BadLine, NoTarget, NoMark, Edit}
+use Rattle.yd_causes.specs.declared.cause.LineCause.TheVariants.{BadLine, NoTarget, NoMark, Edit}
 use Rattle.yd_playing.specs.declared.fault.PlayFault.{PlayFault}
 use Rattle.yd_playing.specs.declared.fault.PlayFault.TheVariants.{NoMemory, Refused}
 
@@ -137,16 +137,15 @@ module _ (basis : Basis) (desk after : Desk) (number step : ℕ) (found : Result
 -- ---- texts
 
 -- a text that is a line ends as the line does
-pub text_is : (client : Client) (desk : Desk) (text : List ℕ) (document : Document) (line : Line) → IsDocumentOf document desk.received → line_in text ≡ Some line →
-    text_ends client desk text ≡ line_ends (basis_over client document desk.received) desk line
-text_is client desk text document line is asked =
-    ap (λ (d : Document). asked_ends (basis_over client d desk.received) desk (line_in text)) (sym is) ∙ ap (asked_ends (basis_over client document desk.received) desk) asked
+pub text_is : (client : Client) (desk : Desk) (text : List ℕ) (document : Document) (line : Line) → line_in text ≡ Some line →
+    text_ends client document desk text ≡ line_ends (basis_over client document desk.received) desk line
+text_is client desk text document line asked = ap (asked_ends (basis_over client document desk.received) desk) asked
 
 -- another one is refused
-pub unread_refused : (client : Client) (desk : Desk) (line : Numbered) (fault : PlayFault) (after : Desk) → IsUnread line fault → after.received ≡ desk.received →
-    PlaysAs (text_ends client desk line.text) line.number desk.received after (Err fault)
-unread_refused client desk line NoMemory after is same = (tt, inl same)
-unread_refused client desk line (Refused number BadLine) after is same = ((is.0, ap (asked_ends (basis_over client (document_of desk.received) desk.received) desk) is.1), inl same)
-unread_refused client desk line (Refused number (NoTarget step)) after is same = absurd is
-unread_refused client desk line (Refused number NoMark) after is same = absurd is
-unread_refused client desk line (Refused number (Edit fault)) after is same = absurd is
+pub unread_refused : (client : Client) (document : Document) (desk : Desk) (line : Numbered) (fault : PlayFault) (after : Desk) → IsUnread line fault → after.received ≡ desk.received →
+    PlaysAs (text_ends client document desk line.text) line.number desk.received after (Err fault)
+unread_refused client document desk line NoMemory after is same = (tt, inl same)
+unread_refused client document desk line (Refused number BadLine) after is same = ((is.0, ap (asked_ends (basis_over client document desk.received) desk) is.1), inl same)
+unread_refused client document desk line (Refused number (NoTarget step)) after is same = absurd is
+unread_refused client document desk line (Refused number NoMark) after is same = absurd is
+unread_refused client document desk line (Refused number (Edit fault)) after is same = absurd is

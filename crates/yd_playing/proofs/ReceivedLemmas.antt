@@ -1,14 +1,14 @@
 -- What is received behind lines that are played: what was, and their updates.
-use Rattle.std.proofs.Common.{◌≡◌, ℕ, List, [], ◌∷◌, ◌++◌, Option, Some, None, Result, Ok, Err, refl, sym, ap, ◌∙◌, subst}
+use Rattle.std.proofs.Common.{◌≡◌, ℕ, List, [], ◌∷◌, ◌++◌, Option, Some, None, Result, Ok, Err, inl, inr, refl, sym, ap, ◌∙◌, subst}
 use Rattle.std.specs.Prelude.{ℤ, option_and_then}
 use Rattle.yd_ids.specs.declared.id.Client.{Client}
 use Rattle.yd_ops.specs.declared.lists.List.{List as DocList}
 use Rattle.yd_ops.specs.declared.lists.Parent.{Parent}
 use Rattle.yd_units.specs.Text.{units_of}
 use Rattle.yd_ops.specs.Value.{UpdateValue, string}
-use Rattle.yd_updates.specs.Received.{Received, received_after, received_more}
-use Rattle.yd_meaning.specs.Document.{document_of}
-use Rattle.yd_editing.specs.Basis.{Basis}
+use Rattle.yd_updates.specs.Received.{IsWritten, Received, groups_of, received_after, received_more}
+use Rattle.yd_updates.proofs.TurnLemmas.{groups_written}
+use Rattle.yd_editing.specs.Basis.{Basis, basis_over}
 use Rattle.yd_shown.specs.Shown.{own_list}
 use Rattle.yd_editing.specs.Refused.{refusal_of}
 use Rattle.yd_editing.specs.Step.{Step, Refusal}
@@ -21,11 +21,10 @@ use Rattle.yd_script.specs.Lines.{Numbered}
 use Rattle.yd_script.specs.Reading.{line_in}
 use Rattle.yd_playing.specs.Asked.{change_refusal, change_steps}
 use Rattle.yd_playing.specs.Desk.{Desk, Played, marked}
-use Rattle.yd_playing.specs.Ended.{asked_ends, basis_over, change_ends, edit_ends, insertion_ends, line_ends, mark_ends, place_ends, place_over, seen_over, text_ends, undo_ends}
+use Rattle.yd_playing.specs.Ended.{MayEnd, asked_ends, change_ends, edit_ends, insertion_ends, line_ends, mark_ends, place_ends, place_over, seen_over, undo_ends}
 use Rattle.yd_playing.specs.Led.{led}
-use Rattle.yd_playing.specs.Played.{Stop, behind_updates, script_result}
-use Rattle.yd_playing.proofs.PlayedLemmas.{first_ends}
-use Rattle.yd_playing.specs.declared.fault.LineCause.{LineCause}
+use Rattle.yd_playing.specs.Played.{LinesMayEnd}
+use Rattle.yd_causes.specs.declared.cause.LineCause.{LineCause}
 
 -- ---- one line
 
@@ -83,25 +82,26 @@ more_received r (u ∷ us) vs = more_received (received_after r u) us vs
 
 -- ---- lemmas for callers
 
-pub script_received : (client : Client) (lines : List Numbered) (desk : Desk) (played : Played) → script_result client desk lines ≡ Ok played →
+-- what is received behind a line
+pub line_received : (client : Client) (desk : Desk) (text : List ℕ) (played : Played) → MayEnd client desk text (Ok played) →
     played.desk.received ≡ received_more desk.received played.updates
-script_received client [] desk played e =
-    let same : ◌≡◌ {A = Played} (record { updates = []; desk = desk }) played = cc in subst (λ (q : Played). q.desk.received ≡ received_more desk.received q.updates) same refl
-script_received client (line ∷ lines) desk played e = by_line (text_ends client desk line.text) refl e (script_received client lines)
-  where
-    by_rest : (first : Played) → text_ends client desk line.text ≡ Ok first → (ends : Result Played Stop) → script_result client first.desk lines ≡ ends → behind_updates first.updates ends ≡ Ok played →
-        ((desk : Desk) (played : Played) → script_result client desk lines ≡ Ok played → played.desk.received ≡ received_more desk.received played.updates) →
-        played.desk.received ≡ received_more desk.received played.updates
-    by_rest first is (Err stop) rest e more = absurd cc
-    by_rest first is (Ok others) rest e more =
-        let both : ◌≡◌ {A = Played} (record { updates = first.updates ++ others.updates; desk = others.desk }) played = cc in
-        subst (λ (q : Played). q.desk.received ≡ received_more desk.received q.updates) both
-        (more first.desk others rest
-        ∙ ap (λ (s : Received). received_more s others.updates) (of_asked (basis_over client (document_of desk.received) desk.received) desk first (line_in line.text) is)
-        ∙ sym (more_received desk.received first.updates others.updates))
+line_received client desk text played (document, own, e) = of_asked (basis_over client document desk.received) desk played (line_in text) e
 
-    by_line : (ends : Result Played LineCause) → text_ends client desk line.text ≡ ends → first_ends client line lines ends ≡ Ok played →
-        ((desk : Desk) (played : Played) → script_result client desk lines ≡ Ok played → played.desk.received ≡ received_more desk.received played.updates) →
-        played.desk.received ≡ received_more desk.received played.updates
-    by_line (Err cause) is e more = absurd cc
-    by_line (Ok first) is e more = by_rest first is (script_result client first.desk lines) refl e more
+-- and behind all
+pub lines_received : (client : Client) (lines : List Numbered) (desk : Desk) (played : Played) → LinesMayEnd client desk lines (Ok played) →
+    played.desk.received ≡ received_more desk.received played.updates
+lines_received client [] desk played e =
+    let same : ◌≡◌ {A = Played} played (record { updates = []; desk = desk }) = cc in subst (λ (q : Played). q.desk.received ≡ received_more desk.received q.updates) (sym same) refl
+lines_received client (line ∷ lines) desk played (inl (cause, first, e)) = absurd cc
+lines_received client (line ∷ lines) desk played (inr (first, Err stop, plays, more, e)) = absurd cc
+lines_received client (line ∷ lines) desk played (inr (first, Ok rest, plays, more, e)) =
+    let same : ◌≡◌ {A = Played} played (record { updates = first.updates ++ rest.updates; desk = rest.desk }) = cc in
+    subst (λ (q : Played). q.desk.received ≡ received_more desk.received q.updates) (sym same)
+    (lines_received client lines first.desk rest more
+    ∙ ap (λ (s : Received). received_more s rest.updates) (line_received client desk line.text first plays)
+    ∙ sym (more_received desk.received first.updates rest.updates))
+
+-- what is received stays in the order of writing
+pub more_written : (r : Received) (us : List UpdateValue) → IsWritten r.operations → IsWritten (received_more r us).operations
+more_written r [] written = written
+more_written r (u ∷ us) written = more_written (received_after r u) us (groups_written (groups_of u) r.operations written)

@@ -8,7 +8,7 @@ use Rattle.yd_ops.specs.View.{update_value}
 use Rattle.yd_updates.specs.Received.{Received}
 use Rattle.yd_playing.specs.Desk.{Desk, Played}
 use Rattle.yd_playing.specs.Stopped.{IsStop, IsLeft}
-use Rattle.yd_playing.specs.declared.fault.LineCause.{LineCause}
+use Rattle.yd_causes.specs.declared.cause.LineCause.{LineCause}
 use Rattle.yd_playing.specs.declared.fault.PlayFault.{PlayFault}
 
 -- the update that a line made, where it made one

@@ -1,5 +1,5 @@
 -- How a line of a script ends: what it leaves, or why it is refused (own).
-use Rattle.std.specs.Prelude.{ℕ, ℤ, List, Option, Some, None, option_and_then, Result, Ok, Err, if◌then◌else◌}
+use Rattle.std.specs.Prelude.{◌≡◌, ℕ, ℤ, List, Option, Some, None, option_and_then, Result, Ok, Err, if◌then◌else◌}
 use Rattle.yd_units.specs.Text.{units_of}
 use Rattle.yd_ids.specs.declared.id.Client.{Client}
 use Rattle.yd_ops.specs.declared.lists.List.{List as DocList}
@@ -7,9 +7,10 @@ use Rattle.yd_ops.specs.declared.lists.Parent.{Parent}
 use Rattle.yd_ops.specs.declared.lists.Parent.TheVariants as parents
 use Rattle.yd_ops.specs.Value.{UpdateValue, string}
 use Rattle.yd_updates.specs.Received.{Received}
-use Rattle.yd_meaning.specs.Document.{Document, document_of}
+use Rattle.yd_meaning.specs.Document.{Document}
+use Rattle.yd_growing.specs.Replica.{IsReplicaDocument}
 use Rattle.yd_shown.specs.Shown.{own_list}
-use Rattle.yd_editing.specs.Basis.{Basis, basis_of}
+use Rattle.yd_editing.specs.Basis.{Basis, basis_over}
 use Rattle.yd_editing.specs.Made.{update_of_edit}
 use Rattle.yd_editing.specs.Refused.{refusal_of}
 use Rattle.yd_editing.specs.Step.{Step, Refusal}
@@ -30,22 +31,12 @@ use Rattle.yd_script.specs.Reading.{line_in}
 use Rattle.yd_playing.specs.Asked.{change_steps, change_refusal}
 use Rattle.yd_playing.specs.Desk.{Desk, Played, marked, with_mark, with_update}
 use Rattle.yd_playing.specs.Led.{led}
-use Rattle.yd_playing.specs.declared.fault.LineCause.{LineCause}
-use Rattle.yd_playing.specs.declared.fault.LineCause.TheVariants.{BadLine, NoTarget, NoMark, Edit}
+use Rattle.yd_causes.specs.declared.cause.LineCause.{LineCause}
+use Rattle.yd_causes.specs.declared.cause.LineCause.TheVariants.{BadLine, NoTarget, NoMark, Edit}
 
 -- ---- what a line reads
 
--- what an edit of a client reads of what is received, over a document
-abbrev pub basis_over : Client → Document → Received → Basis
-basis_over client document r = record {
-  client = client;
-  document = document;
-  vector = (basis_of client r).vector;
-  has_type = (basis_of client r).has_type;
-  waits = (basis_of client r).waits;
-}
-
--- what an undo reads: this, and the list that each unit is in
+-- what an undo reads: the basis of its edit, and the list that each unit is in
 abbrev pub seen_over : Basis → Received → Seen
 seen_over basis r = record { basis = basis; list_of = list_where (stands_in r) }
 
@@ -108,6 +99,10 @@ module _ (basis : Basis) (desk : Desk) where
 
 -- ---- a text
 
--- how a text ends that is played by a client: over the document that what is received defines
-abbrev pub text_ends : Client → Desk → List ℕ → Result Played LineCause
-text_ends client desk text = asked_ends (basis_over client (document_of desk.received) desk.received) desk (line_in text)
+-- how a text ends that is played by a client over a document
+abbrev pub text_ends : Client → Document → Desk → List ℕ → Result Played LineCause
+text_ends client document desk text = asked_ends (basis_over client document desk.received) desk (line_in text)
+
+-- a text may end so: over a document that a replica may have of what is received
+abbrev pub MayEnd : Client → Desk → List ℕ → Result Played LineCause → Type 0
+MayEnd client desk text ends = (document : Document) × IsReplicaDocument document desk.received × (text_ends client document desk text ≡ ends)

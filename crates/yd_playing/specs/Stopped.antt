@@ -7,15 +7,15 @@ use Rattle.yd_making.specs.declared.fault.EditFault.TheVariants as edits
 use Rattle.yd_script.specs.Lines.{Numbered}
 use Rattle.yd_script.specs.Reading.{line_in}
 use Rattle.yd_playing.specs.Desk.{Played, first_desk}
-use Rattle.yd_playing.specs.Played.{script_result}
-use Rattle.yd_playing.specs.declared.fault.LineCause.{LineCause}
-use Rattle.yd_playing.specs.declared.fault.LineCause.TheVariants.{BadLine, NoTarget, NoMark, Edit}
+use Rattle.yd_playing.specs.Played.{LinesMayEnd}
+use Rattle.yd_causes.specs.declared.cause.LineCause.{LineCause}
+use Rattle.yd_causes.specs.declared.cause.LineCause.TheVariants.{BadLine, NoTarget, NoMark, Edit}
 use Rattle.yd_playing.specs.declared.fault.PlayFault.{PlayFault}
 use Rattle.yd_playing.specs.declared.fault.PlayFault.TheVariants.{NoMemory, Refused}
 
 -- the line with this number is the first that is refused: all before it are played
 abbrev pub StopsAt : Client → Received → List Numbered → ℕ → LineCause → Type 0
-StopsAt client r lines number cause = script_result client (first_desk r) lines ≡ Err (record { number = number; cause = cause })
+StopsAt client r lines number cause = LinesMayEnd client (first_desk r) lines (Err (record { number = number; cause = cause }))
 
 -- a fault says which line is the first that is refused and why, or memory is wanted
 abbrev pub StopsFor : Client → Received → List Numbered → PlayFault → Type 0

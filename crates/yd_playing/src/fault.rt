@@ -2,24 +2,12 @@
 
 ghost use Rattle.std.specs.Prelude.{◌≡◌};
 ghost use Rattle.yd_playing.specs.Stopped.{refused_by};
-ghost use Rattle.yd_playing.specs.declared.fault.LineCause.TheVariants.{NoTarget as LeadsNowhere, NoMark as HasNoMark};
+ghost use Rattle.yd_causes.specs.declared.cause.LineCause.TheVariants.{NoTarget as LeadsNowhere, NoMark as HasNoMark};
 ghost use Rattle.yd_playing.specs.declared.fault.PlayFault.TheVariants.{NoMemory as NoRoom, Refused as IsRefused};
 
 use std::alloc::AllocFailed;
+use yd_causes::LineCause;
 use yd_making::EditFault;
-
-/// Why a line is refused.
-#[derive(Clone, Copy, Debug, PartialEq, Eq)]
-pub enum LineCause {
-    /// The text is no line of a script.
-    BadLine,
-    /// The step of its target with this number, from 1, leads to no live type.
-    NoTarget(u64),
-    /// No place is kept under its name.
-    NoMark,
-    /// The line's edit is refused. It is never for want of memory.
-    Edit(EditFault),
-}
 
 /// Why a script was not played to its end.
 #[derive(Clone, Copy, Debug, PartialEq, Eq)]

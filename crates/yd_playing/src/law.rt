@@ -2,8 +2,8 @@
 
 ghost use Rattle.yd_playing.specs.Law.{LinesEndOneWay};
 
-/// All lines of a script are carried out, and then what they make is one thing, or one line is the
-/// first that is refused, for one cause.
+/// All lines of a script are carried out, or one line is the first that is refused. Where the edit
+/// rules are kept at each line, it is one of both, with one row of updates, or for one cause.
 pub fn lines_end_one_way()
     ensures { LinesEndOneWay }
 {}

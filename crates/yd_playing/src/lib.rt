@@ -18,5 +18,5 @@ mod lines;
 mod playing;
 mod undoing;
 
-pub use fault::{LineCause, PlayFault};
+pub use fault::PlayFault;
 pub use playing::play;

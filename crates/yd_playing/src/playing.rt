@@ -5,10 +5,11 @@ ghost use Rattle.yd_words.specs.Each.{Each};
 ghost use Rattle.yd_ops.specs.Valid.{IsValidUpdate};
 ghost use Rattle.yd_ops.specs.View.{update_value};
 ghost use Rattle.yd_updates.specs.Received.{received_more};
+ghost use Rattle.yd_growing.specs.Replica.{IsReplicaDocument};
 ghost use Rattle.yd_script.specs.Line.{IsValidLine, line_of};
 ghost use Rattle.yd_script.specs.Lines.{numbered_of, script_lines};
 ghost use Rattle.yd_script.specs.Reading.{line_in};
-ghost use Rattle.yd_doc.specs.Kept.{received_of};
+ghost use Rattle.yd_doc.specs.Kept.{own_document, received_of};
 ghost use Rattle.yd_playing.specs.Answer.{PlaysAs, AreValid};
 ghost use Rattle.yd_playing.specs.Desk.{desk_of};
 ghost use Rattle.yd_playing.specs.Ended.{text_ends};
@@ -16,11 +17,12 @@ ghost use Rattle.yd_playing.specs.Played.{ArePlayed, HasPlayed};
 ghost use Rattle.yd_playing.specs.Stopped.{StopsFor, IsUnread};
 
 use crate::desk::Desk;
-use crate::fault::{LineCause, PlayFault};
+use crate::fault::PlayFault;
 use crate::lines::{play_asked, push_made};
 use std::alloc::Global;
+use yd_causes::LineCause;
 use yd_doc::Replica;
-use yd_doc::law::own_document_is_defined;
+use yd_doc::law::own_document_is_replicas;
 use yd_ops::Update;
 use yd_script::{Line, LineFault, Lines, NumberedLine, read_line};
 use yd_v1::UpdateList;
@@ -53,20 +55,21 @@ pub fn play(alloc: Global, replica: &mut Replica, script: &str) -> Result<Update
     Ok(updates)
 }
 
-/// Plays one line.
+/// Plays one line, over the replica's own document.
 fn play_line(
     alloc: Global,
     replica: &mut Replica,
     desk: &mut Desk,
     line: &NumberedLine<'_>,
 ) -> Result<Option<Update>, PlayFault>
-    ensures plays { PlaysAs (text_ends replica.old.client (desk_of replica.old desk.old)
-        (numbered_of line.now).text) (numbered_of line.now).number (received_of replica.old)
-        (desk_of replica.new desk.new) result }
+    ensures plays { PlaysAs (text_ends replica.old.client (own_document replica.old)
+        (desk_of replica.old desk.old) (numbered_of line.now).text) (numbered_of line.now).number
+        (received_of replica.old) (desk_of replica.new desk.new) result }
+    ensures own { IsReplicaDocument (own_document replica.old) (received_of replica.old) }
     ensures valid { IfOk result AreValid }
     ensures client { replica.new.client ≡ replica.old.client }
 {
-    own_document_is_defined(replica);
+    own_document_is_replicas(replica);
     let asked = read(alloc, line)?;
     play_asked(alloc, replica, desk, line.number, asked)
 }

@@ -1,6 +1,7 @@
 -- Ids in a row, of which fewer and fewer are left.
-use Rattle.std.proofs.Common.{◌≡◌, ℕ, suc, ◌+◌, ◌-◌, ◌<◌, ◌≤◌, ◌||◌, Bool, true, false, List, [], ◌∷◌, inl, inr, sym, ap, ◌∙◌, arith, tests, true≢false}
+use Rattle.std.proofs.Common.{◌≡◌, ℕ, suc, ◌+◌, ◌-◌, ◌<◌, ◌≤◌, ◌||◌, Bool, true, false, List, [], ◌∷◌, nat_lt, inl, inr, refl, sym, ap, ◌∙◌, arith, tests, true≢false}
 use Rattle.std.proofs.lemmas.Bool.{cases_Bool, false_from_ne_true}
+use Rattle.std.specs.Prelude.{if◌then◌else◌, min}
 use Rattle.yd_words.specs.Each.{Each}
 use Rattle.yd_words.proofs.TestLemmas.{split}
 use Rattle.yd_ids.specs.declared.id.Id.{Id}
@@ -9,6 +10,7 @@ use Rattle.yd_ids.specs.Span.{InSpan, EndsBefore}
 use Rattle.yd_ids.specs.Set.{HasId}
 use Rattle.yd_ops.specs.Operation.{later_id}
 use Rattle.yd_meaning.specs.Held.{is_in_span}
+use Rattle.yd_subsets.specs.Below.{span_below}
 
 abbrev pub span_from : Id → ℕ → Span
 span_from x len = record { client = x.client; clock = x.clock; len = len }
@@ -76,3 +78,18 @@ apart_spans span (s ∷ spans) each y i (inl j) = elim each.0 [
     clocks : span.clock + span.len < s.clock → y.clock < span.clock + span.len → s.clock ≤ y.clock → ⊥
     clocks a b c = absurd (omega (arith, a, b, c))
 apart_spans span (s ∷ spans) each y i (inr j) = apart_spans span spans each.1 y i j
+
+-- a span whose ids are all below their client's clock is there whole
+pub below_all : (clocks : ℕ → ℕ) (span : Span) → 0 < span.len → ((y : Id) → is_in_span span y ≡ true → y.clock < clocks y.client.0) → (span_below clocks span).len ≡ span.len
+below_all clocks span some below = go (nat_lt span.clock (clocks span.client.0)) refl (last (below y (in_span_is span y (refl, omega arith, omega (arith, some)))))
+  where
+    y : Id
+    y = record { client = span.client; clock = span.clock + (span.len - 1) }
+
+    last : span.clock + (span.len - 1) < clocks span.client.0 → span.clock + span.len ≤ clocks span.client.0
+    last lt = omega (arith, lt, some)
+
+    go : (t : Bool) → nat_lt span.clock (clocks span.client.0) ≡ t → span.clock + span.len ≤ clocks span.client.0 →
+        (if t then min span.len (clocks span.client.0 - span.clock) else 0) ≡ span.len
+    go true e le = omega (arith, le)
+    go false e le = grind (arith, tests)

@@ -1,11 +1,11 @@
 -- What is made again of ids in a row, group by group, and of spans: all that was left shows in the end.
-use Rattle.std.proofs.Common.{◌≡◌, ◌≢◌, ℕ, zero, suc, ◌+◌, ◌-◌, ◌<◌, ◌≤◌, ◌&&◌, ◌||◌, Bool, true, false, List, [], ◌∷◌, ◌++◌, map, length, nat_lt, Option, Some, None, inl, inr, refl, sym, ap, ◌∙◌, subst, append_assoc, arith, tests, true≢false}
+use Rattle.std.proofs.Common.{◌≡◌, ◌≢◌, ℕ, zero, suc, ◌+◌, ◌-◌, ◌<◌, ◌≤◌, ◌⊎◌, ◌&&◌, ◌||◌, not, Bool, true, false, List, [], ◌∷◌, ◌++◌, map, length, Option, Some, None, inl, inr, refl, sym, ap, ◌∙◌, subst, append_assoc, arith, true≢false}
 use Rattle.std.proofs.lemmas.Bool.{cases_Bool, false_from_ne_true}
 use Rattle.std.proofs.lemmas.List.{length-map}
-use Rattle.std.specs.Prelude.{if◌then◌else◌, min}
+use Rattle.std.specs.Prelude.{if◌then◌else◌}
 use Rattle.yd_words.specs.Each.{Each}
 use Rattle.yd_words.specs.Member.{IsIn}
-use Rattle.yd_words.proofs.MemberLemmas.{each_in, in_right_part}
+use Rattle.yd_words.proofs.MemberLemmas.{each_in, in_left_part, in_right_part}
 use Rattle.yd_ids.specs.declared.id.Client.{Client}
 use Rattle.yd_ids.specs.declared.id.Id.{Id}
 use Rattle.yd_ids.specs.declared.id.Span.{Span}
@@ -18,35 +18,50 @@ use Rattle.yd_meaning.specs.Held.{is_in_span, is_named}
 use Rattle.yd_meaning.specs.ListNames.{same_list_decides}
 use Rattle.yd_meaning.specs.Names.{has_key}
 use Rattle.yd_state.specs.Lent.{Lent, lent}
-use Rattle.yd_state.proofs.NamedLemmas.{named_has}
 use Rattle.yd_copying.specs.Content.{can_be_made, kind_of, content_of}
 use Rattle.yd_remaking.specs.Group.{units_from, row_behind, group_from}
 use Rattle.yd_remaking.specs.Parts.{contents_of}
 use Rattle.yd_remaking.specs.Rows.{unit_before}
 use Rattle.yd_subsets.specs.Below.{span_below}
 use Rattle.yd_editing.specs.Made.{put_behind, run_of_step, lists_with, lists_after}
-use Rattle.yd_editing.specs.Step.{Step, make}
+use Rattle.yd_editing.specs.Step.{Step, make, remove}
 use Rattle.yd_editing.proofs.AroundLemmas.{HasNot, SplitAt, split_at, apart_one}
 use Rattle.yd_editing.proofs.DeleteLemmas.{apart_parts}
 use Rattle.yd_editing.proofs.IndexLemmas.{AreApart}
 use Rattle.yd_editing.proofs.InsertLemmas.{contents_from}
+use Rattle.yd_editing.proofs.NamedLemmas.{named_has}
 use Rattle.yd_editing.proofs.TakenLemmas.{run_within}
 use Rattle.yd_undo.specs.Remade.{Seen, units_in, is_place, group_in, step_of_group, taken_by, steps_from, steps_of_groups}
-use Rattle.yd_undo.proofs.RemadeLemmas.{group_open, row_next}
+use Rattle.yd_undo.proofs.RemadeLemmas.{group_bound, group_open, row_next}
 use Rattle.yd_restoring.specs.Again.{contents, AreAgain}
 use Rattle.yd_restoring.proofs.AgainLemmas.{IsOf, again_same, again_then, content_again}
 use Rattle.yd_restoring.proofs.BeforeLemmas.{last_id}
+use Rattle.yd_restoring.specs.Keyed.{MakesElse}
+use Rattle.yd_restoring.proofs.ElseLemmas.{other_list}
 use Rattle.yd_restoring.proofs.KindLemmas.{kind_made, kinds_of}
-use Rattle.yd_restoring.proofs.LeftLemmas.{span_from, left_at, in_span_is, is_in_span-is, in_front, in_behind, not_behind, behind_same, none_left, apart_spans}
+use Rattle.yd_restoring.proofs.LeftLemmas.{span_from, left_at, in_span_is, is_in_span-is, in_front, in_behind, not_behind, behind_same, none_left, apart_spans, below_all}
 use Rattle.yd_restoring.proofs.PutLemmas.{counts, counted, counted_alike, Grown, grown_less, one_of}
 use Rattle.yd_restoring.proofs.PutLemmas as put
-use Rattle.yd_restoring.proofs.RowLemmas.{from_unit, before_unit, AreFrom, from_within, from_each, Row, row_at}
+use Rattle.yd_restoring.proofs.RowLemmas.{from_unit, before_unit, AreFrom, from_within, from_each, Row, row_at, group_ids}
 
 -- ---- contents
 
 lent_contents : (deleted : Id → Bool) (os : List Operation) → contents_of (map (lent deleted) os) ≡ contents os
 lent_contents deleted [] = refl
 lent_contents deleted (o ∷ os) = ap (λ us. o.content ∷ us) (lent_contents deleted os)
+
+-- ---- how many ids are done with a group
+
+one_id : (x y : Id) → is_in_span (span_from x 1) y ≡ true → y ≡ x
+one_id x y e = let (c, low, high) = is_in_span-is (span_from x 1) y e in sym (same_numbers x y c (omega (arith, low, high)))
+
+taken_most : (us : List Lent) (most : ℕ) → 0 < most → length us ≤ most → taken_by us ≤ most
+taken_most [] most some le = omega (arith, some)
+taken_most (u ∷ us) most some le = le
+
+taken_some : (us : List Lent) → 0 < taken_by us
+taken_some [] = omega arith
+taken_some (u ∷ us) = omega arith
 
 -- ---- what steps do to a list
 
@@ -61,6 +76,15 @@ module _ (seen : Seen) (client : Client) (start : ℕ) (live : Id → Bool) (fre
     pub list : seen.list_of x ≡ Some name
     pub there : IsIn x (map (λ (o : Operation). o.id) units)
     pub dead : live x ≡ false
+
+  -- an id that no unit of the list has, and that is of another list, if of any
+  pub record IsElse (x : Id) : Type 0 where
+    pub apart_from : HasNot x units
+    pub elsewhere : (other : DocList) → seen.list_of x ≡ Some other → other ≢ name
+
+  -- it is one or the other
+  abbrev pub IsEither : Id → Type 0
+  IsEither x = IsOwn x ⊎ IsElse x
 
   -- the lists after steps, of which these ids are left then; what counts is the same again
   pub record Goes (lists : DocList → List Operation) (left less : Id → Bool) (clock : ℕ) (steps : List Step) : Type 0 where
@@ -94,16 +118,52 @@ module _ (seen : Seen) (client : Client) (start : ℕ) (live : Id → Bool) (fre
     again = subst (λ us. AreAgain (counted live less (lists name)) us) (counted_alike live less left (lists name) same) (again_same (counted live less (lists name)));
   }
 
+  -- nothing is made in this list
+  goes_else : (steps : List Step) → Each (MakesElse name) steps → (lists : DocList → List Operation) (left less : Id → Bool) (clock : ℕ) → start ≤ clock →
+      Grown client start left units (lists name) → ((y : Id) → less y ≡ true → left y ≡ true) →
+      ((o : Operation) → IsIn o (lists name) → counts live less o ≡ counts live left o) → Goes lists left less clock steps
+  goes_else [] each lists left less clock on grown fewer same = goes_none lists left less clock on grown fewer same
+  goes_else (make other after content ∷ steps) each lists left less clock on grown fewer same =
+      wrap (goes_else steps each.1 (lists_with lists other after news) left less (clock + len_of content) (omega (arith, on))
+      (subst (λ os. Grown client start left units os) (sym stays) grown) fewer (λ o i. same o (subst (λ os. IsIn o os) stays i)))
+    where
+      news : List Operation
+      news = operations_of_run (run_of_step client clock lists other after content)
+
+      stays : lists_with lists other after news name ≡ lists name
+      stays = other_list name lists other each.0 after news
+
+      wrap : Goes (lists_with lists other after news) left less (clock + len_of content) steps → Goes lists left less clock (make other after content ∷ steps)
+      wrap g = record {
+        clock_then = g.clock_then;
+        lists_then = g.lists_then;
+        goes = g.goes;
+        on = g.on;
+        grown = g.grown;
+        again = subst (λ os. AreAgain (counted live less (g.lists_then name)) (counted live left os)) stays g.again;
+      }
+  goes_else (remove spans ∷ steps) each lists left less clock on grown fewer same = let g = goes_else steps each.1 lists left less clock on grown fewer same in
+      record { clock_then = g.clock_then; lists_then = g.lists_then; goes = g.goes; on = g.on; grown = g.grown; again = g.again }
+
+  -- how many ids are done with the group that begins with an id, and what its step does
+  pub record Made (lists : DocList → List Operation) (clock : ℕ) (x : Id) (len : ℕ) (later : Id → Bool) : Type 0 where
+    pub bound : taken_by (group_in seen (seen.list_of x) x len) ≤ len
+    pub positive : 0 < taken_by (group_in seen (seen.list_of x) x len)
+    pub goes : Goes lists (left_at x len later)
+        (left_at (later_id x (taken_by (group_in seen (seen.list_of x) x len))) (len - taken_by (group_in seen (seen.list_of x) x len)) later) clock
+        (step_of_group seen (seen.list_of x) x (group_in seen (seen.list_of x) x len))
+
   -- ---- one group
 
   module _ (lists : DocList → List Operation) (clock : ℕ) (on : start ≤ clock) (x : Id) (len : ℕ) (some : 0 < len) (later : Id → Bool)
-      (disjoint : (y : Id) → is_in_span (span_from x len) y ≡ true → later y ≡ false) (own : (y : Id) → is_in_span (span_from x len) y ≡ true → IsOwn y)
-      (grown : Grown client start (left_at x len later) units (lists name)) where
-    first_in : is_in_span (span_from x len) x ≡ true
-    first_in = in_span_is (span_from x len) x (refl, omega arith, omega (arith, some))
-
+      (disjoint : (y : Id) → is_in_span (span_from x len) y ≡ true → later y ≡ false) (own_x : IsOwn x)
+      (either : (y : Id) → is_in_span (span_from x len) y ≡ true → IsEither y) (grown : Grown client start (left_at x len later) units (lists name)) where
     abbrev at : SplitAt units x
-    at = split_at units x (own x first_in).there
+    at = split_at units x own_x.there
+
+    -- of the ids those of the list are deleted
+    dead_there : (o : Operation) → IsIn o units → is_in_span (span_from x len) o.id ≡ true → live o.id ≡ false
+    dead_there o i e = elim (either o.id e) [ inl own ↦ own.dead | inr k ↦ absurd (k.apart_from o i refl) ]
 
     has_not : HasNot x at.front
     has_not o i e = apart_parts at.front (at.unit ∷ at.back) (subst (λ os. AreApart os) at.parts apart) o at.unit i (inl refl) (e ∙ sym at.is)
@@ -118,7 +178,7 @@ module _ (seen : Seen) (client : Client) (start : ℕ) (live : Id → Bool) (fre
     before_x = ap (λ os. unit_before x None (map (lent deleted) os)) at.parts ∙ before_unit deleted x at.front at.unit at.back has_not at.is
 
     group_is : group_in seen (seen.list_of x) x len ≡ group_from len (map (lent deleted) (at.unit ∷ at.back))
-    group_is = ap (λ l. group_in seen l x len) (own x first_in).list ∙ group_open seen name x len no_key place ∙ ap (group_from len) from_x
+    group_is = ap (λ l. group_in seen l x len) own_x.list ∙ group_open seen name x len no_key place ∙ ap (group_from len) from_x
 
     -- the unit cannot be made
     none_made : can_be_made at.unit.content ≡ false → Goes lists (left_at x len later) (left_at (later_id x 1) (len - 1) later) clock []
@@ -139,7 +199,7 @@ module _ (seen : Seen) (client : Client) (start : ℕ) (live : Id → Bool) (fre
         the_unit : (o : Operation) → IsIn o (lists name) → is_in_span (span_from x 1) o.id ≡ true → can_be_made o.content ≡ false
         the_unit o i a = elim (one_of client start live fresh (left_at x len later) units (lists name) grown o i) [
           | inl j ↦ ap can_be_made (ap (λ (p : Operation). p.content) (same_unit o j a)) ∙ e
-          | inr n ↦ absurd (true≢false (sym (fresh o.id n.0 n.1) ∙ (own o.id (in_front x o.id len 1 some a)).dead))
+          | inr n ↦ absurd (true≢false (sym (fresh o.id n.0 n.1) ∙ ap live (id_is o.id a) ∙ own_x.dead))
         ]
           where
             id_is : (y : Id) → is_in_span (span_from x 1) y ≡ true → y ≡ x
@@ -205,7 +265,7 @@ module _ (seen : Seen) (client : Client) (start : ℕ) (live : Id → Bool) (fre
       are_left o i = let inside = in_front x o.id len n within (of_group o i) in (
         ap (λ t. t || later o.id) inside,
         made i,
-        (own o.id inside).dead,
+        dead_there o (subst (λ os. IsIn o os) (sym parts) (in_right_part o at.front (group ++ row.back) (in_left_part o group row.back i))) inside,
         ap (λ t. t || later o.id) (not_behind x o.id len n (of_group o i)) ∙ disjoint o.id inside,
       )
         where
@@ -254,26 +314,19 @@ module _ (seen : Seen) (client : Client) (start : ℕ) (live : Id → Bool) (fre
         again = subst (λ os. AreAgain (counted live less os) (counted live (left_at x len later) (lists name))) (sym list_is) put_again;
       }
 
-    -- how many ids are done with the group, and what its step does
-    pub record Made : Type 0 where
-      pub bound : taken_by (group_in seen (seen.list_of x) x len) ≤ len
-      pub positive : 0 < taken_by (group_in seen (seen.list_of x) x len)
-      pub goes : Goes lists (left_at x len later)
-          (left_at (later_id x (taken_by (group_in seen (seen.list_of x) x len))) (len - taken_by (group_in seen (seen.list_of x) x len)) later) clock
-          (step_of_group seen (seen.list_of x) x (group_in seen (seen.list_of x) x len))
-
     of_found : (us : List Lent) → group_in seen (seen.list_of x) x len ≡ us → taken_by us ≤ len → 0 < taken_by us →
-        Goes lists (left_at x len later) (left_at (later_id x (taken_by us)) (len - taken_by us) later) clock (step_of_group seen (Some name) x us) → Made
+        Goes lists (left_at x len later) (left_at (later_id x (taken_by us)) (len - taken_by us) later) clock (step_of_group seen (Some name) x us) →
+        Made lists clock x len later
     of_found us e bound positive g = record {
       bound = subst (λ vs. taken_by vs ≤ len) (sym e) bound;
       positive = subst (λ vs. 0 < taken_by vs) (sym e) positive;
       goes = subst (λ l. Goes lists (left_at x len later)
           (left_at (later_id x (taken_by (group_in seen (seen.list_of x) x len))) (len - taken_by (group_in seen (seen.list_of x) x len)) later) clock
-          (step_of_group seen l x (group_in seen (seen.list_of x) x len))) (sym (own x first_in).list)
+          (step_of_group seen l x (group_in seen (seen.list_of x) x len))) (sym own_x.list)
           (subst (λ vs. Goes lists (left_at x len later) (left_at (later_id x (taken_by vs)) (len - taken_by vs) later) clock (step_of_group seen (Some name) x vs)) (sym e) g);
     }
 
-    pub made : Made
+    pub made : Made lists clock x len later
     made = elim (cases_Bool (can_be_made at.unit.content)) [
       | inl can ↦ of_found (map (lent deleted) (at.unit ∷ (row can).row)) (group_found can)
           (subst (λ k. k ≤ len) (ap suc (sym (length-map (row can).row (lent deleted)))) (within can)) (omega arith)
@@ -284,51 +337,108 @@ module _ (seen : Seen) (client : Client) (start : ℕ) (live : Id → Bool) (fre
           (omega (arith, some)) (omega arith) (none_made cannot)
     ]
 
-  -- ---- ids in a row
+  -- ---- what is made in other lists
 
-  row_goes : (most len : ℕ) → len < most → (lists : DocList → List Operation) (clock : ℕ) → start ≤ clock → (x : Id) (later : Id → Bool) →
-      ((y : Id) → is_in_span (span_from x len) y ≡ true → later y ≡ false) → ((y : Id) → is_in_span (span_from x len) y ≡ true → IsOwn y) →
-      Grown client start (left_at x len later) units (lists name) → Goes lists (left_at x len later) later clock (steps_from seen x 0 len)
-  row_goes zero len lt lists clock on x later disjoint own grown = absurd (omega (arith, lt))
-  row_goes (suc most) zero lt lists clock on x later disjoint own grown = goes_none lists (left_at x 0 later) later clock on grown
-      (λ y e. none_left x y later ∙ e) (λ o i. ap (λ t. live o.id || (t && can_be_made o.content)) (sym (none_left x o.id later)))
-  row_goes (suc most) (suc len) lt lists clock on x later disjoint own grown =
-      subst (λ steps. Goes lists (left_at x (suc len) later) later clock steps)
-      (sym (row_next seen x (suc len) n (group_in seen (seen.list_of x) x (suc len)) refl (omega arith) refl m.bound))
-      (goes_then lists (left_at x (suc len) later) (left_at (later_id x n) (suc len - n) later) later clock
-      (step_of_group seen (seen.list_of x) x (group_in seen (seen.list_of x) x (suc len))) (steps_from seen (later_id x n) 0 (suc len - n)) m.goes
-      (row_goes most (suc len - n) (omega (arith, lt, m.positive)) m.goes.lists_then m.goes.clock_then m.goes.on (later_id x n) later
-      (λ y e. disjoint y (in_behind x y (suc len) n m.bound e)) (λ y e. own y (in_behind x y (suc len) n m.bound e)) m.goes.grown))
-    where
-      n : ℕ
-      n = taken_by (group_in seen (seen.list_of x) x (suc len))
+  -- a group of another list
+  else_makes : (x : Id) (l : Option DocList) → ((other : DocList) → l ≡ Some other → other ≢ name) → (us : List Lent) → Each (MakesElse name) (step_of_group seen l x us)
+  else_makes x None f us = tt
+  else_makes x (Some other) f [] = tt
+  else_makes x (Some other) f (u ∷ us) = (f other refl, tt)
 
-      m : Made lists clock on x (suc len) (omega arith) later disjoint own grown
-      m = made lists clock on x (suc len) (omega arith) later disjoint own grown
+  module _ (others : (other : DocList) → other ≢ name → (o p : Operation) → IsIn o (seen.basis.document.units other) → IsIn p units → p.id ≢ o.id) where
+    module _ (lists : DocList → List Operation) (clock : ℕ) (on : start ≤ clock) (x : Id) (len : ℕ) (some : 0 < len) (later : Id → Bool) (is_else : IsElse x)
+        (grown : Grown client start (left_at x len later) units (lists name)) where
+      abbrev group_else : List Lent
+      group_else = group_in seen (seen.list_of x) x len
+
+      -- its ids are of no unit of the list
+      apart_group : (l : Option DocList) → ((other : DocList) → l ≡ Some other → other ≢ name) → (y : Id) → is_in_span (span_from x (taken_by (group_in seen l x len))) y ≡ true →
+          HasNot y units
+      apart_group None f y e = λ o i same. is_else.apart_from o i (same ∙ one_id x y e)
+      apart_group (Some other) f y e = go (not (has_key other) && is_place seen other) refl
+        where
+          go : (t : Bool) → not (has_key other) && is_place seen other ≡ t → HasNot y units
+          go false g o i same = is_else.apart_from o i (same ∙ one_id x y (subst (λ us. is_in_span (span_from x (taken_by us)) y ≡ true)
+              (ap (λ t. if t then group_from len (units_from x (units_in seen other)) else []) g) e))
+          go true g o i same = elim (group_ids seen.basis.document.deleted x len (seen.basis.document.units other) y
+              (subst (λ us. is_in_span (span_from x (taken_by us)) y ≡ true) (ap (λ t. if t then group_from len (units_from x (units_in seen other)) else []) g) e)) [
+                | inl a ↦ is_else.apart_from o i (same ∙ a)
+                | inr (p, j, a) ↦ others other (f other refl) p o j i (same ∙ sym a)
+              ]
+
+      bound_else : (l : Option DocList) → taken_by (group_in seen l x len) ≤ len
+      bound_else None = omega (arith, some)
+      bound_else (Some other) = go (not (has_key other) && is_place seen other)
+        where
+          go : (t : Bool) → taken_by (if t then group_from len (units_from x (units_in seen other)) else []) ≤ len
+          go false = omega (arith, some)
+          go true = taken_most (group_from len (units_from x (units_in seen other))) len some (group_bound len (units_from x (units_in seen other)) some)
+
+      pub made_else : Made lists clock x len later
+      made_else = record {
+        bound = le;
+        positive = taken_some group_else;
+        goes = goes_else (step_of_group seen (seen.list_of x) x group_else) (else_makes x (seen.list_of x) is_else.elsewhere group_else) lists (left_at x len later)
+            (left_at (later_id x n) (len - n) later) clock on grown (λ y f. fewer y (is_in_span (span_from (later_id x n) (len - n)) y) refl f) same_counts;
+      }
+        where
+          n : ℕ
+          n = taken_by group_else
+
+          le : taken_by (group_in seen (seen.list_of x) x len) ≤ len
+          le = bound_else (seen.list_of x)
+
+          fewer : (y : Id) (t : Bool) → is_in_span (span_from (later_id x n) (len - n)) y ≡ t → t || later y ≡ true → left_at x len later y ≡ true
+          fewer y true f h = ap (λ b. b || later y) (in_behind x y len n le f)
+          fewer y false f h = elim (cases_Bool (is_in_span (span_from x len) y)) [
+            | inl a ↦ ap (λ b. b || later y) a
+            | inr a ↦ ap (λ b. b || later y) a ∙ h
+          ]
+
+          same_counts : (o : Operation) → IsIn o (lists name) → counts live (left_at (later_id x n) (len - n) later) o ≡ counts live (left_at x len later) o
+          same_counts o i = elim (cases_Bool (is_in_span (span_from x n) o.id)) [
+            | inl a ↦ elim (one_of client start live fresh (left_at x len later) units (lists name) grown o i) [
+              | inl j ↦ absurd (apart_group (seen.list_of x) is_else.elsewhere o.id a o j refl)
+              | inr new ↦ let alive : live o.id ≡ true = fresh o.id new.0 new.1 in rw alive refl
+            ]
+            | inr a ↦ ap (λ t. live o.id || ((t || later o.id) && can_be_made o.content)) (behind_same x o.id len n le a)
+          ]
+
+    -- ---- ids in a row
+
+    row_goes : (most len : ℕ) → len < most → (lists : DocList → List Operation) (clock : ℕ) → start ≤ clock → (x : Id) (later : Id → Bool) →
+        ((y : Id) → is_in_span (span_from x len) y ≡ true → later y ≡ false) → ((y : Id) → is_in_span (span_from x len) y ≡ true → IsEither y) →
+        Grown client start (left_at x len later) units (lists name) → Goes lists (left_at x len later) later clock (steps_from seen x 0 len)
+    row_goes zero len lt lists clock on x later disjoint either grown = absurd (omega (arith, lt))
+    row_goes (suc most) zero lt lists clock on x later disjoint either grown = goes_none lists (left_at x 0 later) later clock on grown
+        (λ y e. none_left x y later ∙ e) (λ o i. ap (λ t. live o.id || (t && can_be_made o.content)) (sym (none_left x o.id later)))
+    row_goes (suc most) (suc len) lt lists clock on x later disjoint either grown =
+        subst (λ steps. Goes lists (left_at x (suc len) later) later clock steps)
+        (sym (row_next seen x (suc len) n (group_in seen (seen.list_of x) x (suc len)) refl (omega arith) refl m.bound))
+        (goes_then lists (left_at x (suc len) later) (left_at (later_id x n) (suc len - n) later) later clock
+        (step_of_group seen (seen.list_of x) x (group_in seen (seen.list_of x) x (suc len))) (steps_from seen (later_id x n) 0 (suc len - n)) m.goes
+        (row_goes most (suc len - n) (omega (arith, lt, m.positive)) m.goes.lists_then m.goes.clock_then m.goes.on (later_id x n) later
+        (λ y e. disjoint y (in_behind x y (suc len) n m.bound e)) (λ y e. either y (in_behind x y (suc len) n m.bound e)) m.goes.grown))
+      where
+        n : ℕ
+        n = taken_by (group_in seen (seen.list_of x) x (suc len))
+
+        m : Made lists clock x (suc len) later
+        m = elim (either x (in_span_is (span_from x (suc len)) x (refl, omega arith, omega arith))) [
+          | inl own ↦ made lists clock on x (suc len) (omega arith) later disjoint own either grown
+          | inr other ↦ made_else lists clock on x (suc len) (omega arith) later other grown
+        ]
 
   -- ---- spans
 
-  below_all : (clocks : ℕ → ℕ) (span : Span) → 0 < span.len → ((y : Id) → is_in_span span y ≡ true → y.clock < clocks y.client.0) → (span_below clocks span).len ≡ span.len
-  below_all clocks span some below = go (nat_lt span.clock (clocks span.client.0)) refl (last (below y (in_span_is span y (refl, omega arith, omega (arith, some)))))
-    where
-      y : Id
-      y = record { client = span.client; clock = span.clock + (span.len - 1) }
-
-      last : span.clock + (span.len - 1) < clocks span.client.0 → span.clock + span.len ≤ clocks span.client.0
-      last lt = omega (arith, lt, some)
-
-      go : (t : Bool) → nat_lt span.clock (clocks span.client.0) ≡ t → span.clock + span.len ≤ clocks span.client.0 →
-          (if t then min span.len (clocks span.client.0 - span.clock) else 0) ≡ span.len
-      go true e le = omega (arith, le)
-      go false e le = grind (arith, tests)
-
-  pub spans_go : (spans : List Span) → AreMaximal spans → ((y : Id) → is_named spans y ≡ true → IsOwn y × (y.clock < seen.basis.vector y.client.0)) →
+  pub spans_go : ((other : DocList) → other ≢ name → (o p : Operation) → IsIn o (seen.basis.document.units other) → IsIn p units → p.id ≢ o.id) →
+      (spans : List Span) → AreMaximal spans → ((y : Id) → is_named spans y ≡ true → IsEither y × (y.clock < seen.basis.vector y.client.0)) →
       (lists : DocList → List Operation) (clock : ℕ) → start ≤ clock → Grown client start (is_named spans) units (lists name) →
       Goes lists (is_named spans) (λ y. false) clock (steps_of_groups seen spans)
-  spans_go [] maximal own lists clock on grown = goes_none lists (is_named []) (λ y. false) clock on grown (λ y e. e) (λ o i. refl)
-  spans_go (span ∷ spans) maximal own lists clock on grown =
+  spans_go others [] maximal own lists clock on grown = goes_none lists (is_named []) (λ y. false) clock on grown (λ y e. e) (λ o i. refl)
+  spans_go others (span ∷ spans) maximal own lists clock on grown =
       goes_then lists (is_named (span ∷ spans)) (is_named spans) (λ y. false) clock (steps_from seen x 0 (span_below seen.basis.vector span).len) (steps_of_groups seen spans) first
-      (spans_go spans maximal.3 (λ y e. own y (or_true (is_in_span span y) e)) first.lists_then first.clock_then first.on first.grown)
+      (spans_go others spans maximal.3 (λ y e. own y (or_true (is_in_span span y) e)) first.lists_then first.clock_then first.on first.grown)
     where
       x : Id
       x = record { client = span.client; clock = span.clock }
@@ -337,7 +447,7 @@ module _ (seen : Seen) (client : Client) (start : ℕ) (live : Id → Bool) (fre
       or_true true e = refl
       or_true false e = e
 
-      in_first : (y : Id) → is_in_span span y ≡ true → IsOwn y × (y.clock < seen.basis.vector y.client.0)
+      in_first : (y : Id) → is_in_span span y ≡ true → IsEither y × (y.clock < seen.basis.vector y.client.0)
       in_first y e = own y (ap (λ t. t || is_named spans y) e)
 
       len_is : (span_below seen.basis.vector span).len ≡ span.len
@@ -345,6 +455,6 @@ module _ (seen : Seen) (client : Client) (start : ℕ) (live : Id → Bool) (fre
 
       first : Goes lists (is_named (span ∷ spans)) (is_named spans) clock (steps_from seen x 0 (span_below seen.basis.vector span).len)
       first = subst (λ len. Goes lists (is_named (span ∷ spans)) (is_named spans) clock (steps_from seen x 0 len)) (sym len_is)
-          (row_goes (suc span.len) span.len (omega arith) lists clock on x (is_named spans)
+          (row_goes others (suc span.len) span.len (omega arith) lists clock on x (is_named spans)
           (λ y e. false_from_ne_true (is_named spans y) (λ f. apart_spans span spans maximal.2 y (is_in_span-is span y e) (named_has spans y f)))
           (λ y e. (in_first y e).0) grown)

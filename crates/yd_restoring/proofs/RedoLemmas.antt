@@ -26,7 +26,6 @@ use Rattle.yd_meaning.specs.Order.{list_of, order_of}
 use Rattle.yd_meaning.specs.Text.{live_units}
 use Rattle.yd_meaning.proofs.RowLemmas.{written_distinct, one_operation}
 use Rattle.yd_meaning.proofs.StandingLemmas.{standing_in}
-use Rattle.yd_state.proofs.NamedLemmas.{has_named, named_has}
 use Rattle.yd_subsets.proofs.PartLemmas.{part_maximal, part_ids}
 use Rattle.yd_copying.specs.Content.{can_be_made}
 use Rattle.yd_editing.specs.Basis.{basis_of, is_type, has_type_item}
@@ -39,7 +38,8 @@ use Rattle.yd_editing.proofs.AroundLemmas.{SplitAt, split_at}
 use Rattle.yd_editing.proofs.EditedListLemmas as edited
 use Rattle.yd_editing.proofs.EditedListLemmas.{as_list, live_before, other_evolves}
 use Rattle.yd_editing.proofs.LiveLemmas.{own_live}
-use Rattle.yd_editing.proofs.OwnListLemmas.{is_held, quiet_after, unit_received}
+use Rattle.yd_editing.proofs.NamedLemmas.{has_named, named_has}
+use Rattle.yd_editing.proofs.OwnListLemmas.{quiet_after, unit_received}
 use Rattle.yd_editing.proofs.RefusalLemmas.{id_in_map}
 use Rattle.yd_editing.proofs.TakenLemmas.{honest_held}
 use Rattle.yd_editing.proofs.UnitLemmas.{in_list, unit_ids, units_stand, held_id}
@@ -126,7 +126,7 @@ module _ (client : Client) (r : Received) (name : DocList) (quiet : IsQuietText 
   then_is = honest_held r_after.operations quiet_then.received.written quiet_then.honest
 
   stands : EditIsHeld client r steps
-  stands = is_held client r name quiet steps makes (shows.own client r name quiet e of makes done) (shows.removed client r name quiet e of makes done) done
+  stands = shows.held_after client r name quiet e of makes done
 
   moment : StandAfter held (made_by client r steps) (evolved_by client r steps)
   moment = edited.moment client r name (as_list r name quiet) steps makes (shows.own client r name quiet e of makes done) (shows.removed client r name quiet e of makes done) done

@@ -1,20 +1,25 @@
 -- A group among the units of a list: it stands in a row, its ids are in a row, and its units are of one kind.
-use Rattle.std.proofs.Common.{◌≡◌, ◌⊎◌, ℕ, zero, suc, ◌+◌, ◌<◌, ◌≤◌, ◌&&◌, Bool, true, false, List, [], ◌∷◌, ◌++◌, map, length, nat_eq, nat_lt, Option, Some, None, inl, inr, refl, sym, ap, ◌∙◌, subst, arith, tests}
+use Rattle.std.proofs.Common.{◌≡◌, ◌⊎◌, ℕ, zero, suc, ◌+◌, ◌-◌, ◌<◌, ◌≤◌, ◌&&◌, Bool, true, false, List, [], ◌∷◌, ◌++◌, map, length, nat_eq, nat_lt, Option, Some, None, inl, inr, refl, sym, ap, ◌∙◌, subst, arith, tests}
+use Rattle.std.proofs.lemmas.List.{length-map}
 use Rattle.std.specs.Prelude.{if◌then◌else◌}
 use Rattle.yd_words.specs.Each.{Each}
 use Rattle.yd_words.specs.Member.{IsIn}
+use Rattle.yd_words.proofs.MemberLemmas.{in_left_part}
 use Rattle.yd_words.proofs.TestLemmas.{both_hold}
 use Rattle.yd_ids.specs.declared.id.Id.{Id}
 use Rattle.yd_ids.specs.Ids.{is_same}
-use Rattle.yd_ids.proofs.IdLemmas.{same_itself, other_id, same_is, same_numbers}
+use Rattle.yd_ids.proofs.IdLemmas.{same_itself, other_id, same_is, same_numbers, same_says}
 use Rattle.yd_ops.specs.Operation.{Operation, later_id}
 use Rattle.yd_state.specs.Lent.{lent}
-use Rattle.yd_copying.specs.Content.{kind_of}
-use Rattle.yd_remaking.specs.Group.{units_from, goes_on, row_behind}
+use Rattle.yd_meaning.specs.Held.{is_in_span}
+use Rattle.yd_copying.specs.Content.{can_be_made, kind_of}
+use Rattle.yd_remaking.specs.Group.{units_from, goes_on, row_behind, group_from}
 use Rattle.yd_remaking.specs.Rows.{unit_before}
 use Rattle.yd_editing.proofs.AroundLemmas.{HasNot}
+use Rattle.yd_undo.specs.Remade.{taken_by}
 use Rattle.yd_restoring.proofs.AgainLemmas.{IsOf}
 use Rattle.yd_restoring.proofs.BeforeLemmas.{last_id}
+use Rattle.yd_restoring.proofs.LeftLemmas.{span_from, is_in_span-is}
 
 -- ---- at a unit
 
@@ -125,3 +130,64 @@ row_at deleted kind next (suc most) (o ∷ os) = go (goes_on kind next (lent del
       kinds = tt;
       bound = omega arith;
     }
+
+-- ---- the ids of a group
+
+-- the unit with an id and those behind it, where it is there
+record At (deleted : Id → Bool) (x : Id) (os : List Operation) : Type 0 where
+  pub unit : Operation
+  pub back : List Operation
+  pub inside : (o : Operation) → IsIn o (unit ∷ back) → IsIn o os
+  pub is : unit.id ≡ x
+  pub from : units_from x (map (lent deleted) os) ≡ map (lent deleted) (unit ∷ back)
+
+at_or_none : (deleted : Id → Bool) (x : Id) (os : List Operation) → (units_from x (map (lent deleted) os) ≡ []) ⊎ At deleted x os
+at_or_none deleted x [] = inl refl
+at_or_none deleted x (o ∷ os) = elim (same_says o.id x) [
+  | inl same ↦ inr (record {
+    unit = o;
+    back = os;
+    inside = λ p i. i;
+    is = same.1;
+    from = ap (λ t. if t then map (lent deleted) (o ∷ os) else units_from x (map (lent deleted) os)) same.0;
+  })
+  | inr other ↦ elim (at_or_none deleted x os) [
+    | inl e ↦ inl (ap (λ t. if t then map (lent deleted) (o ∷ os) else units_from x (map (lent deleted) os)) other.0 ∙ e)
+    | inr a ↦ inr (record {
+      unit = a.unit;
+      back = a.back;
+      inside = λ p i. inr (a.inside p i);
+      is = a.is;
+      from = ap (λ t. if t then map (lent deleted) (o ∷ os) else units_from x (map (lent deleted) os)) other.0 ∙ a.from;
+    })
+  ]
+]
+
+one_of_span : (x y : Id) → is_in_span (span_from x 1) y ≡ true → y ≡ x
+one_of_span x y e = let (c, low, high) = is_in_span-is (span_from x 1) y e in sym (same_numbers x y c (omega (arith, low, high)))
+
+-- each id that is done with the group which begins with an id is this one, or that of a unit of the list
+pub group_ids : (deleted : Id → Bool) (x : Id) (most : ℕ) (os : List Operation) (y : Id) →
+    is_in_span (span_from x (taken_by (group_from most (units_from x (map (lent deleted) os))))) y ≡ true → (y ≡ x) ⊎ ((o : Operation) × IsIn o os × (o.id ≡ y))
+group_ids deleted x most os y e = elim (at_or_none deleted x os) [
+  | inl none ↦ inl (one_of_span x y (subst (λ us. is_in_span (span_from x (taken_by (group_from most us))) y ≡ true) none e))
+  | inr at ↦ go at (can_be_made at.unit.content) refl (subst (λ us. is_in_span (span_from x (taken_by (group_from most us))) y ≡ true) at.from e)
+]
+  where
+    go : (at : At deleted x os) (t : Bool) → can_be_made at.unit.content ≡ t →
+        is_in_span (span_from x (taken_by (if t then lent deleted at.unit ∷ row_behind (kind_of at.unit.content) (later_id at.unit.id 1) (most - 1) (map (lent deleted) at.back) else []))) y ≡ true →
+        (y ≡ x) ⊎ ((o : Operation) × IsIn o os × (o.id ≡ y))
+    go at false c f = inl (one_of_span x y f)
+    go at true c f = inr (of_row (row_at deleted (kind_of at.unit.content) (later_id at.unit.id 1) (most - 1) at.back))
+      where
+        of_row : Row deleted (kind_of at.unit.content) (later_id at.unit.id 1) (most - 1) at.back → (o : Operation) × IsIn o os × (o.id ≡ y)
+        of_row row = let (d, low, high) = is_in_span-is (span_from x (suc (length row.row))) y (subst (λ k. is_in_span (span_from x k) y ≡ true) count f) in
+            let (o, i, g) = from_each x (at.unit ∷ row.row) (subst (λ z. AreFrom z (at.unit ∷ row.row)) at.is (refl, row.ids)) y (sym d) low high in
+            (o, at.inside o (within o i), g)
+          where
+            count : suc (length (row_behind (kind_of at.unit.content) (later_id at.unit.id 1) (most - 1) (map (lent deleted) at.back))) ≡ suc (length row.row)
+            count = ap suc (ap length row.is ∙ length-map row.row (lent deleted))
+
+            within : (o : Operation) → IsIn o (at.unit ∷ row.row) → IsIn o (at.unit ∷ at.back)
+            within o (inl h) = inl h
+            within o (inr j) = inr (subst (λ ps. IsIn o ps) (sym row.parts) (in_left_part o row.row row.back j))

@@ -18,17 +18,17 @@ use Rattle.yd_meaning.specs.Names.{item_of_list}
 use Rattle.yd_meaning.specs.Order.{list_of, order_of}
 use Rattle.yd_meaning.specs.Text.{live_units}
 use Rattle.yd_meaning.proofs.VectorLemmas.{held_below}
-use Rattle.yd_state.proofs.NamedLemmas.{has_named, named_has}
 use Rattle.yd_copying.specs.Content.{can_be_made}
 use Rattle.yd_editing.specs.Basis.{basis_of, has_type_item}
-use Rattle.yd_editing.specs.Law.{IsHonestHeld, after_edit, MakesContent, evolved_by, EditIsTaken}
+use Rattle.yd_editing.specs.Law.{IsHonestHeld, after_edit, MakesContent, evolved_by, EditIsTaken, EditIsHeld}
 use Rattle.yd_editing.specs.Made.{lists_after, removed_by}
 use Rattle.yd_editing.specs.Refused.{refusal_of}
 use Rattle.yd_editing.specs.Step.{Step}
 use Rattle.yd_editing.specs.TextLaw.{IsQuietText, MakesIn}
 use Rattle.yd_editing.proofs.EditedListLemmas.{as_list, live_before}
 use Rattle.yd_editing.proofs.LiveLemmas.{own_live}
-use Rattle.yd_editing.proofs.OwnListLemmas.{taken, live_evolved, units_apart, unit_received}
+use Rattle.yd_editing.proofs.NamedLemmas.{has_named, named_has}
+use Rattle.yd_editing.proofs.OwnListLemmas.{taken, is_held, live_evolved, units_apart, unit_received}
 use Rattle.yd_editing.proofs.TakenLemmas.{honest_held}
 use Rattle.yd_editing.proofs.UnitLemmas.{in_list, unit_ids, held_id}
 use Rattle.yd_standing.specs.Standing.{stands_in, list_where}
@@ -38,7 +38,8 @@ use Rattle.yd_undo.specs.Steps.{is_live, undo_steps}
 use Rattle.yd_undo.proofs.LawLemmas.{undo_removes}
 use Rattle.yd_restoring.specs.Again.{contents, AreAgain}
 use Rattle.yd_restoring.specs.Law.{IsOfText, shows_again}
-use Rattle.yd_restoring.proofs.LoopLemmas.{IsOwn, Goes, spans_go}
+use Rattle.yd_restoring.proofs.ApartLemmas.{lists_apart}
+use Rattle.yd_restoring.proofs.LoopLemmas.{IsEither, Goes, spans_go}
 use Rattle.yd_restoring.proofs.OwnLemmas.{keys_none, remade_own}
 use Rattle.yd_restoring.proofs.PutLemmas.{counts, counted, grown_first}
 
@@ -118,6 +119,9 @@ module _ (client : Client) (r : Received) (name : DocList) (quiet : IsQuietText 
   pub edit : EditIsTaken client r steps
   edit = taken client r name quiet steps makes own removed done
 
+  pub held_after : EditIsHeld client r steps
+  held_after = is_held client r name quiet steps makes own removed done
+
   -- what a deletion names then is received
   named_received : (x : Id) → HasId r_after.deletes x → has_operation r.operations x ≡ true
   named_received x h = elim ((edit.deletes x).0 h) [ inl a ↦ quiet.deletes x a | inr b ↦ of_list x (removed x b) ]
@@ -131,19 +135,20 @@ module _ (client : Client) (r : Received) (name : DocList) (quiet : IsQuietText 
           less : x.clock < start → ⊥
           less l = absurd (omega (arith, l, le))
 
-  own_dead : (x : Id) → is_named e.deleted x ≡ true → IsOwn seen client start live fresh name quiet.no_key place (units_apart r name quiet) older x × (x.clock < seen.basis.vector x.client.0)
+  own_dead : (x : Id) → is_named e.deleted x ≡ true → IsEither seen client start live fresh name quiet.no_key place (units_apart r name quiet) older x × (x.clock < seen.basis.vector x.client.0)
   own_dead x f = let i = of.deleted x (named_has e.deleted x f) in (
-    record {
+    inl (record {
       list = list_is x f;
       there = subst (λ ids. IsIn x ids) (sym (unit_ids held is name)) i;
       dead = ap not (has_named r_after.deletes x ((edit.deletes x).1 (inl (of.dead x (named_has e.deleted x f)))));
-    },
+    }),
     (is_below x).0 (of_list x i),
   )
 
   pub loop : Goes seen client start live fresh name quiet.no_key place (units_apart r name quiet) older (document_of r).units (is_named e.deleted) (λ y. false) start
       (steps_of_groups seen e.deleted)
-  loop = spans_go seen client start live fresh name quiet.no_key place (units_apart r name quiet) older e.deleted of.maximal own_dead (document_of r).units start (omega arith)
+  loop = spans_go seen client start live fresh name quiet.no_key place (units_apart r name quiet) older (λ other differ o p i j. lists_apart held is name other differ o p i j)
+      e.deleted of.maximal own_dead (document_of r).units start (omega arith)
       (grown_first client start (is_named e.deleted) units)
 
   no_keys : steps_of_keys seen e.deleted e.deleted ≡ []

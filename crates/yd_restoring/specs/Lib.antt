@@ -1,2 +1,4 @@
 pub mod Again
+pub mod Each
+pub mod Keyed
 pub mod Law

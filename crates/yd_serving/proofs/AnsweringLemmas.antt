@@ -2,12 +2,12 @@
 use Rattle.std.proofs.Common.{◌≡◌, ℕ, List, [], ◌∷◌, refl, sym, subst}
 use Rattle.yd_ids.specs.declared.id.Client.{Client}
 use Rattle.yd_updates.specs.Received.{Received}
-use Rattle.yd_meaning.specs.Deleted.{AreDeleteSet}
 use Rattle.yd_sync.specs.MessageReading.{message_reading}
 use Rattle.yd_sync.specs.MessageWriting.{bytes_of_message}
 use Rattle.yd_doc.specs.Kept.{Kept, own_deletes, received_of}
 use Rattle.yd_hub.specs.Answers.{Answers, AreAnswersOf, TellsNews}
 use Rattle.yd_hub.specs.Hub.{HubState}
+use Rattle.yd_hub.specs.OwnAnswers.{AreOwnDeletes}
 use Rattle.yd_hub.specs.Peer.{PeerState}
 use Rattle.yd_hub.specs.Serving.{AreAnswered, Turn, turn_after}
 use Rattle.yd_hub.specs.Syncing.{IsPeerAnswered, peer_after_turn, peer_turn}
@@ -16,9 +16,9 @@ use Rattle.yd_machines.specs.Asked.{IsVectorOf, answers_in}
 use Rattle.yd_serving.specs.Answering.{AnswersPeer, AnswersTurns, HasAnswers}
 use Rattle.yd_serving.specs.Reason.{reason_of}
 
--- the vector counts what a replica holds, and its own delete set is what it received defines
+-- the vector counts what a replica holds, and its own delete set is that of its document
 abbrev pub Speaks : Kept → List (Client × ℕ) → Type 0
-Speaks replica vector = IsVectorOf replica vector × AreDeleteSet (own_deletes replica) (received_of replica)
+Speaks replica vector = IsVectorOf replica vector × AreOwnDeletes (own_deletes replica) (received_of replica)
 
 pub has_answers : (replica : Kept) (r : Received) (vector : List (Client × ℕ)) → r ≡ received_of replica → Speaks replica vector → HasAnswers r (answers_in replica vector)
 has_answers replica r vector same speaks = subst (λ (s : Received). HasAnswers s (answers_in replica vector)) (sym same)

@@ -3,7 +3,6 @@ use Rattle.std.proofs.Common.{◌≡◌, ◌≢◌, ◌+◌, ◌<◌, ◌≤◌,
 use Rattle.std.proofs.lemmas.Result.{err_from_is_err_and}
 use Rattle.std.specs.Result.{IsErrAnd}
 use Rattle.yd_ids.specs.declared.id.Client.{Client}
-use Rattle.yd_meaning.specs.Deleted.{AreDeleteSet}
 use Rattle.yd_world.specs.Faults.{HasOutage}
 use Rattle.yd_world.specs.Traffic.{IsNoFault, TakesEvent}
 use Rattle.yd_world.specs.declared.board.Sent.{Sent}
@@ -18,6 +17,7 @@ use Rattle.yd_sync.specs.Table.{is_due}
 use Rattle.yd_sync.proofs.PresenceLemmas.{tested}
 use Rattle.yd_doc.specs.Kept.{Kept, own_deletes, received_of}
 use Rattle.yd_hub.specs.Answers.{Answers}
+use Rattle.yd_hub.specs.OwnAnswers.{AreOwnDeletes}
 use Rattle.yd_hub.specs.Peer.{PeerEventValue, PeerState, Refusal, after_heard, answer_to_heard, bad, clock_full, edited, is_clock_full, is_stuck, opened, peer_after, peer_answer, received, stated, tick}
 use Rattle.yd_hub.specs.Serving.{Turn}
 use Rattle.yd_hub.specs.Syncing.{PeerTurn, Said, Synced, behind, counted, done, ended, event_done, of_close, of_event, of_other, peer_after_turn, peer_turn, refused, said, turn_done}
@@ -87,7 +87,7 @@ said_outcome count event peer peer_now answers sent failed a b says after answer
 
 -- its messages went out
 pub exchanged : (replica : Kept) (count : ℕ) (event : PeerEventValue) (peer peer_now : PeerState) (sent messages : List MessageValue) (failed : Bool) (a b : Board) → peer.received ≡ received_of replica →
-    AreDeleteSet (own_deletes replica) (received_of replica) → StepTakes replica peer peer_now event sent → messages ≡ sent → Says messages failed a b → ExchangesOn count event peer peer_now a b (Ok failed)
+    AreOwnDeletes (own_deletes replica) (received_of replica) → StepTakes replica peer peer_now event sent → messages ≡ sent → Says messages failed a b → ExchangesOn count event peer peer_now a b (Ok failed)
 exchanged replica count event peer peer_now sent messages false a b same deletes takes are says_messages =
     let says : Says sent false a b = subst (λ (ms : List MessageValue). Says ms false a b) are says_messages in
     record {

@@ -1,25 +1,24 @@
--- What a replica answers in the turns of a loop, exactly: with a vector that counts what it holds, and the delete set that it derives (own).
+-- What a replica answers in the turns of a loop, exactly: with a vector that counts what it holds, and the delete set of its own document (own).
 use Rattle.std.specs.Prelude.{◌≡◌, ℕ, List, [], ◌∷◌}
 use Rattle.yd_ids.specs.declared.id.Client.{Client}
 use Rattle.yd_ids.specs.declared.id.Span.{Span}
 use Rattle.yd_updates.specs.Received.{Received}
-use Rattle.yd_meaning.specs.Deleted.{AreDeleteSet}
 use Rattle.yd_sync.specs.MessageReading.{message_reading}
 use Rattle.yd_sync.specs.MessageWriting.{bytes_of_message}
 use Rattle.yd_hub.specs.Answers.{Answers}
-use Rattle.yd_hub.specs.OwnAnswers.{CanAnswer, answers_of}
+use Rattle.yd_hub.specs.OwnAnswers.{AreOwnDeletes, CanAnswer, answers_of}
 use Rattle.yd_hub.specs.Hub.{HubState}
 use Rattle.yd_hub.specs.Peer.{PeerState}
 use Rattle.yd_hub.specs.Serving.{AreAnswered, Turn, turn_after}
 use Rattle.yd_hub.specs.Syncing.{IsPeerAnswered, peer_after_turn, peer_turn}
 use Rattle.yd_serving.specs.Reason.{reason_of}
 
--- these are the answers of a replica that received this
+-- these are the answers of a replica that received this, by the delete set of a document that it may have
 pub record HasAnswers (r : Received) (answers : Answers) : Type 0 where
   pub vector : List (Client × ℕ)
   pub own : List Span
   pub can : CanAnswer r vector own
-  pub deletes : AreDeleteSet own r
+  pub deletes : AreOwnDeletes own r
   pub are : answers ≡ answers_of r vector own
 
 -- in each turn of a server they are those of one that received what the hub then has

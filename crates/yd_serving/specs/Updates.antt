@@ -6,9 +6,9 @@ use Rattle.yd_ops.specs.declared.updates.Update.{Update}
 use Rattle.yd_ops.specs.Value.{UpdateValue}
 use Rattle.yd_ops.specs.View.{update_value}
 use Rattle.yd_updates.specs.Received.{Received, received_set}
-use Rattle.yd_meaning.specs.Deleted.{AreDeleteSet}
 use Rattle.yd_grouping.specs.Merged.{reply_of}
 use Rattle.yd_hub.specs.Hub.{HubState}
+use Rattle.yd_hub.specs.OwnAnswers.{AreOwnDeletes}
 use Rattle.yd_hub.specs.Peer.{PeerState}
 use Rattle.yd_hub.specs.Syncing.{done, refused}
 use Rattle.yd_serving.specs.declared.fault.ServeFault.{ServeFault}
@@ -27,10 +27,10 @@ hub_with update = record { received = received_set (update ∷ []); sessions = [
 abbrev pub peer_with : UpdateValue → PeerState
 peer_with update = record { received = received_set (update ∷ []); own = None; table = []; taken_step2 = false; answered_step1 = false }
 
--- the reply to the empty vector of one that received this, with the delete set that this defines
+-- the reply to the empty vector of one that received this, with the delete set of a document that it may have
 pub record IsAllOf (r : Received) (reply : UpdateValue) : Type 0 where
   pub own : List Span
-  pub deletes : AreDeleteSet own r
+  pub deletes : AreOwnDeletes own r
   pub is : reply ≡ reply_of r own (clock_of [])
 
 -- the update was served for so many turns, and this is all that the server then has

@@ -14,12 +14,15 @@ use Rattle.yd_ops.specs.declared.lists.Parent.{Parent}
 use Rattle.yd_ops.specs.Value.{UpdateValue}
 use Rattle.yd_ops.specs.Valid.{IsValidUpdate}
 use Rattle.yd_ops.specs.Operation.{Operation, level_of}
-use Rattle.yd_updates.specs.Received.{Received, received_set, IsWritten}
+use Rattle.yd_updates.specs.Received.{Received, received_set}
 use Rattle.yd_updates.specs.Agreement.{operations_of_all, AreAlike, Agree, HaveSameContents, SayTheSame}
 use Rattle.yd_updates.specs.Law.{IsReceived}
+use Rattle.yd_meaning.specs.Held.{held_set, is_named}
+use Rattle.yd_meaning.specs.Order.{AreHonest}
 use Rattle.yd_meaning.specs.Deleted.{is_in_delete_set}
-use Rattle.yd_meaning.specs.Document.{Document, IsDocumentOf}
+use Rattle.yd_meaning.specs.Document.{Document}
 use Rattle.yd_meaning.specs.Text.{live_units, shown_text}
+use Rattle.yd_growing.specs.Replica.{IsReplicaDocument}
 use Rattle.yd_shown.specs.Seen.{seen_units, text_units}
 use Rattle.yd_any.specs.Same.{same_tree, same_fields}
 use Rattle.yd_shown.specs.Pieces.{Piece, with_attribute, attributes_of_piece, delta_pieces, list_pieces}
@@ -50,12 +53,13 @@ ShowTheSame one other = (parent : Parent) (mode : Mode) → shown one parent mod
 abbrev pub EqualsShowTheSame : Type 0
 EqualsShowTheSame = (one other : Document) → AreEqual one other → ShowTheSame one other
 
--- the documents of two received sets show the same
+-- where what is held keeps the edit rules, replicas that received the two sets show the same
 abbrev pub ViewsAreAlike : Received → Received → Type 0
-ViewsAreAlike one other = (document another : Document) → IsDocumentOf document one → IsDocumentOf another other → ShowTheSame document another
+ViewsAreAlike one other = AreHonest (held_set one.operations) → (document another : Document) → IsReplicaDocument document one → IsReplicaDocument another other →
+    ShowTheSame document another
 
--- where operations of one id are alike, updates with the same contents, in any order and repeated, show the same. Under
--- agreement so do updates of which some were merged
+-- where operations of one id are alike, updates with the same contents, in any order and repeated, show the same if they keep
+-- the edit rules. Under agreement so do updates of which some were merged
 pub record ViewsConverge : Type 0 where
   pub any_order : (one other : List UpdateValue) → Each IsValidUpdate one → Each IsValidUpdate other → AreAlike (operations_of_all one) →
       HaveSameContents one other → ViewsAreAlike (received_set one) (received_set other)
@@ -85,9 +89,9 @@ pub record HasKeysOfUnits (document : Document) : Type 0 where
       is_among key (document.keys parent) ≡ true ↔ ((o : Operation) × IsIn o (document.units (key_list parent key)))
   pub ascend : (parent : Parent) → KeysAscend (document.keys parent)
 
--- so it is in each document of what is received
+-- so it is in each document of a replica, whatever it received
 abbrev pub KeysHaveUnits : Type 0
-KeysHaveUnits = (r : Received) → IsWritten r.operations → (document : Document) → IsDocumentOf document r → HasKeysOfUnits document
+KeysHaveUnits = (r : Received) (document : Document) → IsReplicaDocument document r → HasKeysOfUnits document
 
 -- ---- maps
 
@@ -102,17 +106,17 @@ FieldsAscend no_fields = Unit {0}
 FieldsAscend (field key t fs) = FieldsAbove key fs × FieldsAscend fs
 
 -- a map has, under each key of the parent, the value of the last unit of the key's list where that is live and counted, and
--- nothing else; so keys under which nothing stands may be left out. In each document of what is received it is so under every
--- key, and the keys ascend
+-- nothing else; so keys under which nothing stands may be left out. In each document of a replica, whatever it received, it is
+-- so under every key, and the keys ascend
 pub record MapsShowLast : Type 0 where
   pub under_keys : (show : Operation → AnyTree) (document : Document) (parent : Parent) (key : List ℕ) →
       first_at key (map_fields show document parent) ≡ (if is_among key (document.keys parent) then value_under show document parent key else None)
   pub left_out : (show : Operation → AnyTree) (document : Document) (parent : Parent) (test : List ℕ → Bool) →
       ((key : List ℕ) → test key ≡ false → unit_under document parent key ≡ None) →
       fields_under show document parent (filter test (document.keys parent)) ≡ map_fields show document parent
-  pub received : (show : Operation → AnyTree) (r : Received) → IsWritten r.operations → (document : Document) → IsDocumentOf document r →
+  pub received : (show : Operation → AnyTree) (r : Received) (document : Document) → IsReplicaDocument document r →
       (parent : Parent) (key : List ℕ) → first_at key (map_fields show document parent) ≡ value_under show document parent key
-  pub ascend : (show : Operation → AnyTree) (r : Received) (document : Document) → IsDocumentOf document r →
+  pub ascend : (show : Operation → AnyTree) (r : Received) (document : Document) → IsReplicaDocument document r →
       (parent : Parent) → FieldsAscend (map_fields show document parent)
 
 -- ---- what is deleted
@@ -124,13 +128,16 @@ pub record AreLiveAlike (one other : Document) : Type 0 where
   pub keys : (parent : Parent) → one.keys parent ≡ other.keys parent
 
 -- what is deleted shows nothing: documents that differ in this alone show the same; under a key whose last unit is deleted
--- nothing stands; and the live units of what is received are in no delete set, and full ones
+-- nothing stands; and the live units of a replica, whatever it received, are full ones, and no deletion names them. Where the
+-- edit rules are kept, they are in no delete set
 pub record DeletedShowNothing : Type 0 where
   pub alike : (one other : Document) → AreLiveAlike one other → ShowTheSame one other
   pub under_key : (document : Document) (parent : Parent) (key : List ℕ) (o : Operation) →
       last_unit (document.units (key_list parent key)) ≡ Some o → document.deleted o.id ≡ true → unit_under document parent key ≡ None
-  pub live : (r : Received) → IsReceived r → (document : Document) → IsDocumentOf document r → (list : DocList) (o : Operation) →
-      IsIn o (live_units document list) → (is_in_delete_set r o.id ≡ false) × (level_of o.content ≡ 2)
+  pub live : (r : Received) → IsReceived r → (document : Document) → IsReplicaDocument document r → (list : DocList) (o : Operation) →
+      IsIn o (live_units document list) → (is_named r.deletes o.id ≡ false) × (level_of o.content ≡ 2)
+  pub honest : (r : Received) → AreHonest (held_set r.operations) → (document : Document) → IsReplicaDocument document r → (list : DocList) (o : Operation) →
+      IsIn o (live_units document list) → is_in_delete_set r o.id ≡ false
 
 -- ---- deltas and lists
 

@@ -1,5 +1,5 @@
 -- Which list a unit is in: that of its entry, by its number; and where no entry of a list has the id, it is in none.
-use Rattle.std.proofs.Common.{◌≡◌, ◌≢◌, ℕ, true, false, List, Some, None, inl, inr, refl, sym, ap, ◌∙◌, subst, true≢false}
+use Rattle.std.proofs.Common.{◌≡◌, ◌≢◌, ◌<◌, ◌^◌, ℕ, true, false, List, Some, None, inl, inr, refl, sym, ap, ◌∙◌, subst, true≢false}
 use Rattle.std.specs.Prelude.{slice_get, IfSome}
 use Rattle.std.proofs.lemmas.Bool.{cases_Bool}
 use Rattle.yd_words.proofs.MemberLemmas.{each_in}
@@ -17,10 +17,11 @@ use Rattle.yd_received.specs.Received.{taken_of, listed_of}
 use Rattle.yd_entries.specs.Taking.{is_covered}
 use Rattle.yd_entries.proofs.TakenLemmas.{in_written}
 use Rattle.yd_held.specs.Numbered.{list_at_place}
-use Rattle.yd_held.proofs.HeldUnitLemmas.{covers_unit}
+use Rattle.yd_held.proofs.HeldUnitLemmas.{covers_less}
 use Rattle.yd_held.proofs.HeldEntryLemmas.{is_taken, id_chosen, chosen_id, chosen_covered, covers_chosen}
+use Rattle.yd_held.proofs.KeptLemmas.{holds_holding}
+use Rattle.yd_held.proofs.ListedLemmas.{units_list}
 use Rattle.yd_state.specs.State.{StateValue, received_in, IsSound}
-use Rattle.yd_state.proofs.NumberLemmas.{id_listed, number_listed, unit_list}
 use Rattle.yd_standing.specs.Standing.{stands_in, list_where, IsPlaceOf, IsReached}
 
 -- what is in a list is held
@@ -57,8 +58,8 @@ module _ (s : StateValue) (sound : IsSound s) (x : Id) where
     | inl has ↦
         let (t, i, passes, c) = id_chosen is_listed s.held.received sound.holds.in_order x has in
         let held = chosen_id is_held s.held.received sound.holds.in_order t x i (listed_held t.place passes t refl) c in
-        let (n, name, span) = id_listed s.held sound.holds x has in
-        absurd (not_reached (span.client, (held_below (taken_of s.held.received) written x.client x.clock).0 (subst (λ os. has_operation os x ≡ true) sound.holds.held held)))
+        let client = subst (λ n. n < 2 ^ 53) (covers_less t x c).0 (is_taken s.held.received sound.holds.in_order t i).id.client in
+        absurd (not_reached (client, (held_below (taken_of s.held.received) written x.client x.clock).0 (subst (λ os. has_operation os x ≡ true) sound.holds.held held)))
     | inr none ↦ none_of none
   ]
 
@@ -74,12 +75,11 @@ module _ (s : StateValue) (sound : IsSound s) (x : Id) where
   pub numbered_list : (n : ℕ) → IsPlaceOf s.held.received x (In n) → list_where (stands_in (received_in s)) x ≡ slice_get s.held.names n
   numbered_list n at =
       let (t, i, c, e) = at in
-      let (o, j, f) = covers_unit s.held.received.runs t (is_taken s.held.received sound.holds.in_order t i) x c in
       let number : list_at_place t.place ≡ Some n = ap list_at_place e in
-      let is : is_listed t ≡ true = number_listed t.place n number in
+      let is : is_listed t ≡ true = ap is_listed_at e in
       let named = subst (λ z. IfSome z (λ m. slice_get s.held.names m ≡ Some (list_of listed t.id))) number
       (each_in (λ (t : Entry). IfSome (list_at_place t.place) (λ n. slice_get s.held.names n ≡ Some (list_of listed t.id))) s.held.received.entries sound.holds.numbered.named t i) in
-      let same : list_of listed x ≡ list_of listed t.id = sym (ap (list_of listed) f) ∙ unit_list s.held sound.holds t i is o j in
+      let same : list_of listed x ≡ list_of listed t.id = units_list s.held (holds_holding s.held sound.holds) t i is x c in
       has_list (chosen_id is_listed s.held.received sound.holds.in_order t x i is c) ∙ ap Some same ∙ sym named
 
 -- a place that is in no list

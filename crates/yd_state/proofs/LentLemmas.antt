@@ -1,5 +1,5 @@
 -- The document that a state has: each list has the order of its name, whose ids are held, and it is the one that is defined.
-use Rattle.std.proofs.Common.{◌≡◌, ℕ, suc, ◌-◌, Bool, true, List, [], ◌∷◌, length, map, refl, sym, ap, ◌∙◌, subst, arith}
+use Rattle.std.proofs.Common.{◌≡◌, ℕ, suc, ◌-◌, Bool, true, false, List, [], ◌∷◌, length, map, refl, sym, ap, ◌∙◌, subst, arith}
 use Rattle.std.proofs.Math.Path.{fun_ext}
 use Rattle.std.specs.Prelude.{slice_get}
 use Rattle.yd_words.specs.Member.{IsIn, AreDistinct}
@@ -19,12 +19,15 @@ use Rattle.yd_meaning.specs.Deleted.{is_in_delete_set}
 use Rattle.yd_meaning.specs.Document.{Document, operations_at, keys_among, document_of, IsDocumentOf}
 use Rattle.yd_meaning.proofs.RowLemmas.{written_distinct}
 use Rattle.yd_meaning.proofs.DocumentLemmas.{operations_held}
+use Rattle.yd_growing.specs.Replica.{IsReplicaDocument}
+use Rattle.yd_growing.proofs.ReplicaLemmas.{defined_is}
 use Rattle.yd_received.specs.Received.{ReceivedValue}
+use Rattle.yd_entries.specs.declared.entry.Entry.{Entry}
 use Rattle.yd_entries.specs.Entries.{is_listed}
 use Rattle.yd_held.proofs.HeldEntryLemmas.{chosen_received}
 use Rattle.yd_state.specs.State.{StateValue, received_in, listed_of, document_in, IsSound}
 use Rattle.yd_state.proofs.ListedLemmas.{in_list, order_found}
-use Rattle.yd_state.proofs.NumberLemmas.{stands_written, all_told}
+use Rattle.yd_stretches.proofs.NumberLemmas.{stands_written, entry_told}
 use Rattle.yd_state.proofs.NamedLemmas.{named_decides}
 use Rattle.yd_state.specs.Lending.{Lending, IsLending}
 use Rattle.yd_state.specs.Lent.{lent, lent_units, units_left}
@@ -69,7 +72,7 @@ module _ (s : StateValue) (sound : IsSound s) (name : DocList) where
     pub order_lending : IsLending (record { runs = r.runs; taken = r.entries; deletes = deletes; order = order })
     order_lending = subst IsLending (sym (lending_same r deletes order e f g)) (record {
       taken = sound.holds.in_order;
-      told = all_told s.held sound.holds;
+      told = in_each (λ (t : Entry). is_listed t ≡ true → t.is_gone ≡ false) s.held.received.entries (entry_told s.held sound.holds);
       stands = in_each (λ id. has_operation stands id ≡ true) (order_of stands name) (in_list s sound name);
     })
 
@@ -105,3 +108,7 @@ pub document_defined : (s : StateValue) → IsSound s → IsDocumentOf (document
 document_defined s sound = same_parts (document_in s) (document_of (received_in s)) (fun_ext (units_defined s sound))
     (fun_ext (λ x. one_answer (is_named s.deletes x) (is_in_delete_set (received_in s) x) (named_decides s.deletes x) ((sound.deletes x).1, (sound.deletes x).0)))
     (ap keys_among (listed_is s sound))
+
+-- so a replica that received it may have the document
+pub document_replica : (s : StateValue) → IsSound s → IsReplicaDocument (document_in s) (received_in s)
+document_replica s sound = subst (λ d. IsReplicaDocument d (received_in s)) (sym (document_defined s sound)) (defined_is (received_in s) sound.received.written)

@@ -12,7 +12,7 @@ use Rattle.yd_meaning.specs.Order.{order_of}
 use Rattle.yd_meaning.proofs.HeldListLemmas.{in_order_of}
 use Rattle.yd_state.specs.Ordered.{AreOrders, order_named}
 use Rattle.yd_state.specs.State.{StateValue, listed_of, IsSound}
-use Rattle.yd_state.proofs.NumberLemmas.{stands_table, id_listed}
+use Rattle.yd_stretches.proofs.NumberLemmas.{stands_table, id_listed}
 
 -- ---- orders by names
 

@@ -1,5 +1,5 @@
 -- Orders of lists, made one after another; and that orders are those of the names, where each is.
-use Rattle.std.proofs.Common.{◌≡◌, ℕ, ◌<◌, Bool, true, false, List, [], ◌∷◌, ◌++◌, ◌⊎◌, Some, None, zero, suc, inl, inr, length, get_or, map, refl, sym, ap, ◌∙◌, subst, arith}
+use Rattle.std.proofs.Common.{◌≡◌, ℕ, ◌<◌, Bool, true, false, List, [], ◌∷◌, ◌++◌, ◌⊎◌, Some, None, zero, suc, inl, inr, length, get_or, refl, sym, ap, ◌∙◌, subst, arith}
 use Rattle.std.specs.Prelude.{slice_get}
 use Rattle.std.specs.Global.{Vec}
 use Rattle.std.proofs.lemmas.List.{length-map}
@@ -13,7 +13,8 @@ use Rattle.yd_meaning.specs.Order.{order_of}
 use Rattle.yd_order.specs.declared.stretch.Stretch.{Stretch}
 use Rattle.yd_order.specs.Stretch.{rows_of_stretches, among_rows}
 use Rattle.yd_state.specs.Ordered.{AreOrders}
-use Rattle.yd_state.specs.Stretches.{stretch_lists, AreTables, IsMadeOf, AreMadeOf}
+use Rattle.yd_stretches.specs.Stretches.{stretch_lists}
+use Rattle.yd_state.specs.Stretches.{AreTables, IsMadeOf, AreMadeOf}
 
 -- what stands in a list with one more
 at_more : {X : Type 0} (xs : List X) (x : X) (n : ℕ) (y : X) → slice_get (xs ++ x ∷ []) n ≡ Some y → (slice_get xs n ≡ Some y) ⊎ ((n ≡ length xs) × (x ≡ y))
@@ -23,12 +24,6 @@ at_more (z ∷ zs) x zero y e = inl e
 at_more (z ∷ zs) x (suc n) y e = elim (at_more zs x n y e) [ inl f ↦ inl f | inr f ↦ inr (ap suc f.0, f.1) ]
 
 -- ---- lemmas for callers
-
--- what is read at a place, as a function of it stands in the mapped list
-pub map_at : {X Y : Type 0} (f : X → Y) (xs : List X) (n : ℕ) (x : X) (y : Y) → n < length xs → x ≡ get_or xs n x → y ≡ f x → slice_get (map f xs) n ≡ Some y
-map_at f [] n x y lt e g = absurd (omega arith)
-map_at f (z ∷ zs) zero x y lt e g = ap Some (sym (g ∙ ap f e))
-map_at f (z ∷ zs) (suc n) x y lt e g = map_at f zs n x y (omega arith) e g
 
 -- a mark that is read stands at its place
 pub mark_at : (stale : List Bool) (n : ℕ) (mark : Bool) → n < length stale → get_or stale n false ≡ mark → slice_get stale n ≡ Some mark

@@ -16,7 +16,7 @@ use Rattle.std.proofs.lemmas.List.{length-map}
 use Rattle.yd_state.specs.Ordered.{order_lists}
 use Rattle.yd_state.proofs.ListedLemmas.{no_id, each_ordered, in_list, order_found}
 use Rattle.yd_state.proofs.MadeOrderLemmas.{ordered_at}
-use Rattle.yd_state.proofs.NumberLemmas.{stands_table, stands_written, id_listed}
+use Rattle.yd_stretches.proofs.NumberLemmas.{stands_table, stands_written, id_listed}
 
 id_in : (os : List Operation) (o : Operation) → IsIn o os → IsIn o.id (map (λ (p : Operation). p.id) os)
 id_in [] o i = absurd i

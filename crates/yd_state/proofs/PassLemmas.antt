@@ -27,7 +27,7 @@ use Rattle.yd_state.specs.Deleting.{span_of_id, lost_spans, HasHeld, AddsIds, dr
 use Rattle.yd_entries.proofs.WrittenLemmas.{taken_written}
 use Rattle.yd_state.proofs.FateLemmas.{AreDecided, AreListed, HasItemBefore, decided_first, decided_more, decided_all}
 use Rattle.yd_state.proofs.LostSpanLemmas.{lost_has, has_lost}
-use Rattle.yd_state.proofs.NumberLemmas.{stands_table, id_listed, item_before}
+use Rattle.yd_stretches.proofs.NumberLemmas.{stands_table, id_listed, item_before}
 
 -- ---- what stands at a number
 

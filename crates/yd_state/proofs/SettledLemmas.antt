@@ -15,8 +15,9 @@ use Rattle.yd_state.specs.Ordered.{AreOrders}
 use Rattle.yd_received.specs.Received.{listed_of}
 use Rattle.yd_held.specs.Held.{HeldValue, HoldsAll}
 use Rattle.yd_held.specs.Changing.{TellsChanges}
-use Rattle.yd_state.specs.Stretches.{stretch_of, stretches_in, order_by_stretches, AreUnmarked, AreSettled, AreGathered, IsTableOfStretches, AreTables, AreMadeOf, AreMade, with_unmarked}
-use Rattle.yd_state.proofs.ListOrderLemmas.{order_of-stretches, stretches_are_table, list_stretches_end}
+use Rattle.yd_stretches.specs.Stretches.{stretch_of, stretches_in, AreGathered}
+use Rattle.yd_stretches.proofs.ListStretchLemmas.{list_table, stretches_are_table, list_stretches_end}
+use Rattle.yd_state.specs.Stretches.{order_by_stretches, AreUnmarked, AreSettled, IsTableOfStretches, AreTables, AreMadeOf, AreMade, with_unmarked}
 use Rattle.yd_state.proofs.MadeOrderLemmas.{ordered_at, at_ordered}
 use Rattle.yd_state.proofs.SwappingLemmas.{length-with_unmarked, marked_at, unmarked_at}
 
@@ -25,6 +26,11 @@ at_place : {X : Type 0} (xs : List X) (n : ℕ) → n < length xs → (x : X) ×
 at_place [] n lt = absurd (omega arith)
 at_place (x ∷ xs) zero lt = (x, refl)
 at_place (x ∷ xs) (suc n) lt = at_place xs n (omega arith)
+
+-- the order of a list is that of the stretches with its number
+order_of-stretches : (k : HeldValue) → HoldsAll k → (n : ℕ) (name : DocList) → slice_get k.names n ≡ Some name →
+    order_of (listed_of k.received) name ≡ order_by_stretches n k.received.entries
+order_of-stretches k holds n name there = ap origin_order (list_table k holds n name there)
 
 -- ---- lemmas for callers
 

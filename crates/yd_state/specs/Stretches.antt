@@ -1,6 +1,5 @@
--- The units of a list as the order sees them: stretches of one client, in the order of writing (own).
-use Rattle.std.specs.Prelude.{◌≡◌, ℕ, zero, suc, false, true, Bool, List, [], ◌∷◌, ◌++◌, Some, filter, map, slice_get, length, if◌then◌else◌}
-use Rattle.std.specs.Global.{Vec}
+-- The orders of lists, as they are made of the stretches of their units (own).
+use Rattle.std.specs.Prelude.{◌≡◌, ℕ, false, true, Bool, List, [], ◌∷◌, Some, slice_get, length, if◌then◌else◌}
 use Rattle.yd_words.specs.Each.{Each}
 use Rattle.yd_ids.specs.declared.id.Id.{Id}
 use Rattle.yd_ops.specs.declared.lists.List.{List as DocList}
@@ -9,17 +8,9 @@ use Rattle.yd_origins.specs.Table.{IsTable}
 use Rattle.yd_order.specs.declared.stretch.Stretch.{Stretch}
 use Rattle.yd_order.specs.Stretch.{EndsAtClock, rows_of_stretches, among_rows}
 use Rattle.yd_entries.specs.declared.entry.Entry.{Entry}
-use Rattle.yd_held.specs.Numbered.{is_in_list}
+use Rattle.yd_stretches.specs.Stretches.{stretches_in}
 
--- units that were taken, as a stretch
-abbrev pub stretch_of : Entry → Stretch
-stretch_of t = record { id = t.id; len = t.len; left = t.left; right = t.right }
-
--- the stretches in the list with a number
-abbrev pub stretches_in : ℕ → List Entry → List Stretch
-stretches_in n taken = map stretch_of (filter (is_in_list n) taken)
-
--- the ids of that list, in the order that the origins of its stretches give
+-- the ids of the list with a number, in the order that the origins of its stretches give
 abbrev pub order_by_stretches : ℕ → List Entry → List Id
 order_by_stretches n taken = origin_order (among_rows (rows_of_stretches (stretches_in n taken)))
 
@@ -31,27 +22,6 @@ AreUnmarked = Each (λ mark. mark ≡ false)
 pub record AreSettled (stale : List Bool) (names : List DocList) (orders : List (List Id)) (taken : List Entry) : Type 0 where
   pub each : length stale ≡ length names
   pub settled : (n : ℕ) → slice_get stale n ≡ Some false → slice_get orders n ≡ Some (order_by_stretches n taken)
-
--- ---- stretches, as they are gathered
-
--- vectors of stretches as lists
-abbrev pub stretch_lists : List (Vec Stretch) → List (List Stretch)
-stretch_lists buckets = map (λ (bucket : Vec Stretch). bucket.items) buckets
-
--- lists where the one with a number has one more behind
-abbrev pub with_last : {X : Type 0} → ℕ → X → List (List X) → List (List X)
-with_last n x [] = []
-with_last zero x (list ∷ lists) = (list ++ x ∷ []) ∷ lists
-with_last (suc n) x (list ∷ lists) = list ∷ with_last n x lists
-
--- there are stretches for each mark, and where it is set they are those in the list
-pub record AreGathered (stale : List Bool) (taken : List Entry) (buckets : List (List Stretch)) : Type 0 where
-  pub each : length buckets ≡ length stale
-  pub gathered : (n : ℕ) → slice_get stale n ≡ Some true → slice_get buckets n ≡ Some (stretches_in n taken)
-
--- whatever entries were gathered before, the entry is gathered behind them
-abbrev pub Gathers : List Bool → Entry → List (List Stretch) → List (List Stretch) → Type 0
-Gathers stale entry old new = (seen : List Entry) → AreGathered stale seen old → AreGathered stale (seen ++ entry ∷ []) new
 
 -- ---- orders, as they are made
 

@@ -46,3 +46,13 @@ impl From<yd_ids::NoMemory> for NoMemory {
         NoMemory
     }
 }
+
+impl From<yd_stretches::NoMemory> for NoMemory {
+    ghost use Rattle.std.specs.Prelude.{◌≡◌};
+
+    ghost from_gives = { λ _ e. e ≡ record {} };
+
+    fn from(_error: yd_stretches::NoMemory) -> NoMemory {
+        NoMemory
+    }
+}

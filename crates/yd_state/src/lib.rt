@@ -27,5 +27,4 @@ mod waiting;
 
 pub use fault::NoMemory;
 pub use listing::{ListView, RunView};
-pub use ordering::gathered;
 pub use state::State;

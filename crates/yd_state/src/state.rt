@@ -12,7 +12,7 @@ ghost use Rattle.yd_meaning.specs.Order.{order_of};
 ghost use Rattle.yd_meaning.specs.Document.{AreDeletedIn};
 ghost use Rattle.yd_updates.specs.Law.{ArePaired};
 ghost use Rattle.yd_state.specs.State.{received_in, listed_of, document_in, IsSound};
-ghost use Rattle.yd_state.specs.Brings.{BringsSomething};
+ghost use Rattle.yd_state.specs.Brings.{BringsSomething, BringsUnknown};
 ghost use Rattle.yd_state.specs.Lent.{lent_units, units_left, last_unit};
 
 use crate::fault::NoMemory;
@@ -86,6 +86,8 @@ impl State {
             ≡ received_after (received_in self.old) (update_value update.now)) }
         ensures brings { IfOk result (λ brings. IsTrue brings
             ↔ BringsSomething (update_value update.now) (received_in self.old)) }
+        ensures unknown { IfOk result (λ brings. IsTrue brings
+            ↔ BringsUnknown (update_value update.now) (received_in self.old) self.old.deletes) }
         ensures sound { IsSound self.new }
         ensures unchanged { OnErr result (self.new ≡ self.old) }
     {
@@ -113,6 +115,14 @@ impl State {
         ensures sound { IsSound self.now }
     {
         self.held.received()
+    }
+
+    /// What is held of it, and the names of its lists.
+    pub fn held(&self) -> &Held
+        ensures held { result.now ≡ self.now.held }
+        ensures sound { IsSound self.now }
+    {
+        &self.held
     }
 
     /// The state vector: the clock up to which each client's units are held.

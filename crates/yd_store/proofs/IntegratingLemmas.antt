@@ -1,20 +1,22 @@
 -- Where runs are cut at its origins, a run can be added; and what the cuts and the addition do together.
-use Rattle.std.proofs.Common.{◌≡◌, ◌≢◌, Bool, false, ℕ, suc, ◌+◌, ◌-◌, ◌<◌, ◌≤◌, inl, inr, List, [], ◌∷◌, Option, Some, None, refl, sym, ap, ap₂, ◌∙◌, subst, arith, true≢false}
-use Rattle.std.specs.Prelude.{IfSome, Result, Ok, Err, OnOk, OnErr, is_err}
+use Rattle.std.proofs.Common.{◌≡◌, ◌≢◌, Bool, false, ℕ, suc, ◌+◌, ◌-◌, ◌<◌, ◌≤◌, inl, inr, List, [], ◌∷◌, ◌++◌, Option, Some, None, length, refl, sym, ap, ap₂, ◌∙◌, subst, arith, true≢false}
+use Rattle.std.proofs.lemmas.List.{length-append, get_or_at}
+use Rattle.std.specs.Prelude.{IfSome, IfOk, Result, Ok, Err, OnOk, OnErr, is_err}
 use Rattle.yd_ids.specs.declared.id.Id.{Id}
 use Rattle.yd_ids.specs.declared.id.Client.{Client}
 use Rattle.yd_words.specs.Member.{IsIn}
 use Rattle.yd_words.proofs.OptionLemmas.{some_is}
 use Rattle.yd_origins.specs.Growing.{IsNotAmong}
-use Rattle.yd_ops.specs.Value.{RunValue}
-use Rattle.yd_scan.specs.Stretches.{stretch_at, later_units, IsNoLater, EndsLeft}
+use Rattle.yd_ops.specs.Value.{RunValue, len_of}
+use Rattle.yd_scan.specs.declared.stretch.Stretch.{Stretch}
+use Rattle.yd_scan.specs.Stretches.{stretch_at, no_stretch, later_units, IsNoLater, EndsLeft}
 use Rattle.yd_scan.proofs.UnitLemmas.{in_units, units_in}
 use Rattle.yd_index.proofs.RowLemmas.{from_says, from_in}
 use Rattle.yd_arena.specs.Lists.{AreLists}
 use Rattle.yd_arena.specs.Arena.{Placed, IsArena, HasUnit, runs_of, count_of, places_in, next_clock}
 use Rattle.yd_marks.specs.Marks.{IsBorder}
 use Rattle.yd_marks.proofs.BorderLemmas.{begins_border, next_border_of}
-use Rattle.yd_store.specs.Store.{Stored, StandsIn}
+use Rattle.yd_store.specs.Store.{Stored, StandsIn, AddsRun, stretch_of}
 use Rattle.yd_store.specs.Units.{KeepsUnits, AddsUnits}
 use Rattle.yd_store.specs.Integrating.{IsBorderAt, IsPlaceOf}
 use Rattle.yd_store.proofs.StoreLemmas.{stands_only, stands_below}
@@ -163,3 +165,21 @@ ok_with (Err x) P Q f p = tt
 pub err_with : {T E : Type 0} (r : Result T E) (P Q : Type 0) → (P → Q) → OnErr r P → OnErr r Q
 err_with (Ok x) P Q f p = tt
 err_with (Err x) P Q f p = f p
+
+-- a call that answers Ok answers what else is known of it there
+pub ok_says : {T E : Type 0} (r : Result T E) (P : T → Type 0) (Q : Type 0) (R : T → Type 0) → ((x : T) → P x → Q → R x) → IfOk r P → OnOk r Q → IfOk r R
+ok_says (Ok x) P Q R f p q = f x p q
+ok_says (Err x) P Q R f p q = tt
+
+-- a run that was added is the last one, and its first unit begins it
+pub begins_last : (old new : Stored) (list : ℕ) (run : RunValue) (place : ℕ) → AddsRun old new list run → 0 < len_of run.content → place ≡ length (runs_of old.placed) → HasUnit (runs_of new.placed) place 0 run.id
+begins_last old new list run place adds filled is =
+    let stretch : Stretch = stretch_of run adds.right in
+    let here : stretch_at (runs_of new.placed) place ≡ stretch
+    = ap₂ stretch_at adds.grows.runs is ∙ get_or_at (runs_of old.placed) stretch [] no_stretch (length (runs_of old.placed)) refl in
+    record {
+      within = omega (arith, is, ap length adds.grows.runs ∙ length-append (runs_of old.placed) (stretch ∷ []));
+      inside = subst (λ (s : Stretch). 0 < s.len) (sym here) filled;
+      client = ap (λ (s : Stretch). s.id.client) here;
+      clock = ap (λ (s : Stretch). s.id.clock + 0) here ∙ omega (arith);
+    }

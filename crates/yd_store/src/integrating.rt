@@ -2,7 +2,7 @@
 
 ghost use Rattle.std.specs.Prelude.{◌≡◌, ◌<◌, true, false, IfSome, IfOk, IfErr, OnOk, OnErr};
 ghost use Rattle.yd_ops.specs.View.{run_value};
-ghost use Rattle.yd_arena.specs.Arena.{count_of, next_clock};
+ghost use Rattle.yd_arena.specs.Arena.{runs_of, count_of, next_clock, HasUnit};
 ghost use Rattle.yd_store.specs.Units.{KeepsUnits, AddsUnits};
 ghost use Rattle.yd_store.specs.Integrating.{IsBorderAt, IsBorderBehind, IsPlaceOf, IsReady, Integrates};
 
@@ -22,6 +22,7 @@ impl Store {
     pub fn integrate(&mut self, run: Run, list: usize) -> Result<usize, Unplaced>
         requires list { list < count_of self.old.placed }
         requires ready { IsReady self.old list (run_value run) }
+        ensures begins { IfOk result (λ place. HasUnit (runs_of self.new.placed) place 0 run.id) }
         ensures done { OnOk result (Integrates self.old self.new list (run_value run)) }
         ensures units { OnOk result (AddsUnits self.old self.new list (run_value run)) }
         ensures value_returned { IfErr result (λ fault. run_value fault.0 ≡ run_value run) }

@@ -8,7 +8,7 @@
 ghost use Rattle.yd_text.specs.Law.{InsertionsShow, DeletionsShow, FormatsShow};
 
 use yd_doc::Replica;
-use yd_doc::law::own_document_is_defined;
+use yd_doc::law::own_document_is_replicas;
 use yd_editing::law::{deletes_stand, formats_stand, inserts_stand};
 
 /// After an insertion or an embed the live counted units are the old ones with the new ones at the
@@ -16,8 +16,8 @@ use yd_editing::law::{deletes_stand, formats_stand, inserts_stand};
 pub fn insertions_show(before: &Replica, after: &Replica)
     ensures { InsertionsShow before.now after.now }
 {
-    own_document_is_defined(before);
-    own_document_is_defined(after);
+    own_document_is_replicas(before);
+    own_document_is_replicas(after);
     inserts_stand();
 }
 
@@ -25,8 +25,8 @@ pub fn insertions_show(before: &Replica, after: &Replica)
 pub fn deletions_show(before: &Replica, after: &Replica)
     ensures { DeletionsShow before.now after.now }
 {
-    own_document_is_defined(before);
-    own_document_is_defined(after);
+    own_document_is_replicas(before);
+    own_document_is_replicas(after);
     deletes_stand();
 }
 
@@ -35,7 +35,7 @@ pub fn deletions_show(before: &Replica, after: &Replica)
 pub fn formats_show(before: &Replica, after: &Replica)
     ensures { FormatsShow before.now after.now }
 {
-    own_document_is_defined(before);
-    own_document_is_defined(after);
+    own_document_is_replicas(before);
+    own_document_is_replicas(after);
     formats_stand();
 }

@@ -8,15 +8,15 @@
 ghost use Rattle.yd_tree.specs.Law.{SettingsShow, RemovalsShow};
 
 use yd_doc::Replica;
-use yd_doc::law::own_document_is_defined;
+use yd_doc::law::own_document_is_replicas;
 use yd_editing::law::{sets_stand, unsets_stand};
 
 /// After a value or a type is set under a key it stands there, and all else is as before.
 pub fn settings_show(before: &Replica, after: &Replica)
     ensures { SettingsShow before.now after.now }
 {
-    own_document_is_defined(before);
-    own_document_is_defined(after);
+    own_document_is_replicas(before);
+    own_document_is_replicas(after);
     sets_stand();
 }
 
@@ -24,7 +24,7 @@ pub fn settings_show(before: &Replica, after: &Replica)
 pub fn removals_show(before: &Replica, after: &Replica)
     ensures { RemovalsShow before.now after.now }
 {
-    own_document_is_defined(before);
-    own_document_is_defined(after);
+    own_document_is_replicas(before);
+    own_document_is_replicas(after);
     unsets_stand();
 }

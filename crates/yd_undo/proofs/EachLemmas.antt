@@ -10,8 +10,7 @@ use Rattle.yd_editing.specs.Step.{Step}
 use Rattle.yd_subsets.specs.Below.{span_below}
 use Rattle.yd_undo.specs.Remade.{Seen, group_in, step_of_group, steps_from, steps_of_groups, step_of_key, key_steps_from, steps_of_keys, remade_steps}
 
-module _ (P : Step → Type 0) (seen : Seen) (of_group : (name : DocList) (x : Id) (most : ℕ) → Each P (step_of_group seen (Some name) x (group_in seen (Some name) x most)))
-    (of_key : (deleted : List Span) (name : DocList) (x : Id) → Each P (step_of_key seen deleted (Some name) x)) where
+module _ (P : Step → Type 0) (seen : Seen) (of_group : (name : DocList) (x : Id) (most : ℕ) → Each P (step_of_group seen (Some name) x (group_in seen (Some name) x most))) where
   of_groups : (name : Option DocList) (x : Id) (most : ℕ) → Each P (step_of_group seen name x (group_in seen name x most))
   of_groups None x most = tt
   of_groups (Some name) x most = of_group name x most
@@ -23,11 +22,13 @@ module _ (P : Step → Type 0) (seen : Seen) (of_group : (name : DocList) (x : I
       (steps_from seen (later_id x 1) (length (group_in seen (seen.list_of x) x (suc len)) - 1) len)
       (of_groups (seen.list_of x) x (suc len)) (from (later_id x 1) (length (group_in seen (seen.list_of x) x (suc len)) - 1) len)
 
-  groups : (spans : List Span) → Each P (steps_of_groups seen spans)
-  groups [] = tt
-  groups (span ∷ spans) = each_append P (steps_from seen (record { client = span.client; clock = span.clock }) 0 (span_below seen.basis.vector span).len) (steps_of_groups seen spans)
-      (from (record { client = span.client; clock = span.clock }) 0 (span_below seen.basis.vector span).len) (groups spans)
+  -- so it holds of all that is made in lists without a key
+  pub groups_each : (spans : List Span) → Each P (steps_of_groups seen spans)
+  groups_each [] = tt
+  groups_each (span ∷ spans) = each_append P (steps_from seen (record { client = span.client; clock = span.clock }) 0 (span_below seen.basis.vector span).len) (steps_of_groups seen spans)
+      (from (record { client = span.client; clock = span.clock }) 0 (span_below seen.basis.vector span).len) (groups_each spans)
 
+module _ (P : Step → Type 0) (seen : Seen) (of_key : (deleted : List Span) (name : DocList) (x : Id) → Each P (step_of_key seen deleted (Some name) x)) where
   of_keys : (deleted : List Span) (name : Option DocList) (x : Id) → Each P (step_of_key seen deleted name x)
   of_keys deleted None x = tt
   of_keys deleted (Some name) x = of_key deleted name x
@@ -37,12 +38,15 @@ module _ (P : Step → Type 0) (seen : Seen) (of_group : (name : DocList) (x : I
   keys_from deleted x (suc len) = each_append P (step_of_key seen deleted (seen.list_of x) x) (key_steps_from seen deleted (later_id x 1) len)
       (of_keys deleted (seen.list_of x) x) (keys_from deleted (later_id x 1) len)
 
-  keys : (deleted spans : List Span) → Each P (steps_of_keys seen deleted spans)
-  keys deleted [] = tt
-  keys deleted (span ∷ spans) =
+  -- so it holds of all that is made in lists with a key
+  pub keys_each : (deleted spans : List Span) → Each P (steps_of_keys seen deleted spans)
+  keys_each deleted [] = tt
+  keys_each deleted (span ∷ spans) =
       each_append P (key_steps_from seen deleted (record { client = span.client; clock = span.clock }) (span_below seen.basis.vector span).len) (steps_of_keys seen deleted spans)
-      (keys_from deleted (record { client = span.client; clock = span.clock }) (span_below seen.basis.vector span).len) (keys deleted spans)
+      (keys_from deleted (record { client = span.client; clock = span.clock }) (span_below seen.basis.vector span).len) (keys_each deleted spans)
 
-  -- so it holds of all of them
-  pub remade_each : (deleted : List Span) → Each P (remade_steps seen deleted)
-  remade_each deleted = each_append P (steps_of_groups seen deleted) (steps_of_keys seen deleted deleted) (groups deleted) (keys deleted deleted)
+-- so it holds of all of them
+pub remade_each : (P : Step → Type 0) (seen : Seen) → ((name : DocList) (x : Id) (most : ℕ) → Each P (step_of_group seen (Some name) x (group_in seen (Some name) x most))) →
+    ((deleted : List Span) (name : DocList) (x : Id) → Each P (step_of_key seen deleted (Some name) x)) → (deleted : List Span) → Each P (remade_steps seen deleted)
+remade_each P seen of_group of_key deleted = each_append P (steps_of_groups seen deleted) (steps_of_keys seen deleted deleted) (groups_each P seen of_group deleted)
+    (keys_each P seen of_key deleted deleted)

@@ -1,6 +1,7 @@
 pub mod ContentLemmas
 pub mod EachLemmas
 pub mod EntryLemmas
+pub mod InsertedLemmas
 pub mod KeyLemmas
 pub mod LawLemmas
 pub mod ProperLemmas

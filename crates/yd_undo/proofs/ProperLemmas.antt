@@ -1,5 +1,5 @@
 -- The steps that undo an entry are proper: their contents are valid, and their places are in range.
-use Rattle.std.proofs.Common.{◌≡◌, ℕ, zero, suc, ◌-◌, ◌&&◌, not, Bool, true, false, List, [], ◌∷◌, ◌⊎◌, map, Option, None, Some, inl, inr, refl, sym, subst, arith, true≢false}
+use Rattle.std.proofs.Common.{◌≡◌, ℕ, zero, suc, ◌-◌, ◌&&◌, not, Bool, true, false, List, [], ◌∷◌, map, Option, None, Some, inl, inr, refl, sym, subst, arith, true≢false}
 use Rattle.std.specs.Prelude.{if◌then◌else◌, IfSome}
 use Rattle.yd_words.specs.Each.{Each}
 use Rattle.yd_words.specs.Member.{IsIn}
@@ -15,13 +15,12 @@ use Rattle.yd_ops.specs.declared.lists.Parent.TheVariants.{Root, Item}
 use Rattle.yd_ops.specs.Operation.{Operation, UnitContent, later_id}
 use Rattle.yd_ops.specs.Valid.{IsParent}
 use Rattle.yd_origins.specs.Deleted.{last_of}
-use Rattle.yd_meaning.specs.Document.{Document, operation_before, operations_at, IsDocumentOf}
 use Rattle.yd_meaning.specs.Held.{held_set, standing}
 use Rattle.yd_meaning.specs.Names.{item_of_parent, has_key}
-use Rattle.yd_meaning.specs.Order.{order_of}
 use Rattle.yd_meaning.proofs.HeldLemmas.{held_in}
 use Rattle.yd_meaning.proofs.StandingLemmas.{standing_in}
 use Rattle.yd_meaning.proofs.VectorLemmas.{held_written}
+use Rattle.yd_growing.specs.Replica.{IsReplicaDocument}
 use Rattle.yd_grouping.specs.Groupable.{IsValidUnitContent, IsValidOperation, AreGroupable}
 use Rattle.yd_state.specs.Lent.{Lent, lent, last_unit}
 use Rattle.yd_editing.specs.Basis.{is_type, has_type_item}
@@ -49,19 +48,6 @@ record IsSeen (seen : Seen) : Type 0 where
   types : (y : Id) → seen.basis.has_type y ≡ true → IsId y
   last : (name : DocList) → IfSome (last_unit seen.basis.document name) IsId
 
-one_found : (os : List Operation) (x : Id) (rest : List Operation) (o : Operation) → IsIn o (operation_before os x rest) → IsIn o os ⊎ IsIn o rest
-one_found [] x rest o i = inr i
-one_found (p ∷ os) x rest o i = go (is_same p.id x) i (λ j. one_found os x rest o j)
-  where
-    go : (t : Bool) → IsIn o (if t then p ∷ rest else operation_before os x rest) → (IsIn o (operation_before os x rest) → IsIn o os ⊎ IsIn o rest) → IsIn o (p ∷ os) ⊎ IsIn o rest
-    go true (inl e) more = inl (inl e)
-    go true (inr j) more = inr j
-    go false j more = elim (more j) [ inl a ↦ inl (inr a) | inr b ↦ inr b ]
-
-all_found : (held : List Operation) (xs : List Id) (o : Operation) → IsIn o (operations_at held xs) → IsIn o held
-all_found held [] o i = absurd i
-all_found held (x ∷ xs) o i = elim (one_found held x (operations_at held xs) o i) [ inl a ↦ a | inr b ↦ all_found held xs o b ]
-
 type_in_range : (os : List Operation) → ((o : Operation) → IsIn o os → IsId o.id) → (y : Id) → has_type_item os y ≡ true → IsId y
 type_in_range [] all y e = absurd (true≢false (sym e))
 type_in_range (o ∷ os) all y e = go (is_same o.id y) refl e (λ f. type_in_range os (λ p i. all p (inr i)) y f)
@@ -79,8 +65,8 @@ lent_in_range : (deleted : Id → Bool) (os : List Operation) → ((o : Operatio
 lent_in_range deleted [] all = tt
 lent_in_range deleted (o ∷ os) all = (all o (inl refl), lent_in_range deleted os (λ q i. all q (inr i)))
 
-is_seen : (r : Kept) → IsDocumentOf (own_document r) (received_of r) → AreGroupable (received_of r).operations → IsSeen (seen_of r)
-is_seen r defined groupable = record {
+is_seen : (r : Kept) → IsReplicaDocument (own_document r) (received_of r) → AreGroupable (received_of r).operations → IsSeen (seen_of r)
+is_seen r is groupable = record {
   valid = λ name. hold_valid (own_document r) name os groupable.valid (among name);
   ids = λ name. lent_in_range (own_document r).deleted ((own_document r).units name) (λ o i. in_range o (among name o i));
   types = λ y e. type_in_range (standing (held_set os)) (λ o i. in_range o (stands o i)) y e;
@@ -94,7 +80,7 @@ is_seen r defined groupable = record {
     stands o i = held_in os o (standing_in (held_set os) (held_written os groupable.written) o i).0
 
     among : (name : DocList) (o : Operation) → IsIn o ((own_document r).units name) → IsIn o os
-    among name o i = stands o (all_found (standing (held_set os)) (order_of (standing (held_set os)) name) o (subst (λ (d : Document). IsIn o (d.units name)) defined i))
+    among name o i = stands o (is.as_held name o i)
 
     in_range : (o : Operation) → IsIn o os → IsId o.id
     in_range o i = let v = each_in IsValidOperation os groupable.valid o i in record { client = v.client; clock = let e = v.end in omega (arith, e) }
@@ -197,6 +183,6 @@ key_proper seen is deleted name x = go (has_key name) (is_place seen name) refl 
 
 -- ---- lemmas for callers
 
-pub undo_proper : (r : Kept) → IsDocumentOf (own_document r) (received_of r) → AreGroupable (received_of r).operations → (e : Entry) → Each IsProper (undo_steps (seen_of r) e)
-undo_proper r defined groupable e = let is = is_seen r defined groupable in
+pub undo_proper : (r : Kept) → IsReplicaDocument (own_document r) (received_of r) → AreGroupable (received_of r).operations → (e : Entry) → Each IsProper (undo_steps (seen_of r) e)
+undo_proper r replicas groupable e = let is = is_seen r replicas groupable in
     (tt, remade_each IsProper (seen_of r) (group_proper (seen_of r) is) (key_proper (seen_of r) is) e.deleted)

@@ -15,7 +15,7 @@ use crate::entry::{Entry, entry_of};
 use crate::steps::undo_steps;
 use std::alloc::Global;
 use yd_doc::Replica;
-use yd_doc::law::{own_document_is_defined, received_can_be_grouped};
+use yd_doc::law::{own_document_is_replicas, received_can_be_grouped};
 use yd_ids::IdSet;
 use yd_making::{EditFault, NoMemory};
 use yd_ops::Update;
@@ -82,7 +82,7 @@ fn update_of(alloc: Global, replica: &Replica, entry: &Entry) -> Result<Update, 
 {
     // What is received is looked at, since its values are valid.
     received_can_be_grouped(replica);
-    own_document_is_defined(replica);
+    own_document_is_replicas(replica);
     let steps = undo_steps(alloc, replica, entry)?;
     replica.prepare(steps)
 }

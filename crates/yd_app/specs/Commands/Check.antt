@@ -1,6 +1,6 @@
 -- What `check` writes of updates: seven lines, of what was found of them (own).
-use Rattle.std.specs.Prelude.{ℕ, List, ◌++◌, codes, decimal, Option, Some, None}
-use Rattle.yd_checking.specs.Findings.{findings_of}
+use Rattle.std.specs.Prelude.{◌≡◌, ℕ, List, ◌++◌, codes, decimal, Option, Some, None}
+use Rattle.yd_checking.specs.Findings.{IsFound}
 use Rattle.yd_checking.specs.declared.checking.Findings.{Findings}
 use Rattle.yd_ids.specs.declared.id.Id.{Id}
 use Rattle.yd_ops.specs.Value.{UpdateValue}
@@ -26,6 +26,8 @@ findings_text found =
     ++ verdict_line (codes "agree") found.disagreement
     ++ verdict_line (codes "honest") found.dishonest
 
--- so of what is found of the updates
-abbrev pub check_output : List UpdateValue → List ℕ
-check_output us = findings_text (findings_of us)
+-- the bytes are so of what a replica may find that received the updates
+pub record IsChecked (updates : List UpdateValue) (bytes : List ℕ) : Type 0 where
+  pub found : Findings
+  pub is_found : IsFound found updates
+  pub bytes_are : bytes ≡ findings_text found

@@ -4,12 +4,12 @@ use Rattle.yd_ids.specs.declared.id.Client.{Client}
 use Rattle.yd_ops.specs.Value.{UpdateValue}
 use Rattle.yd_playing.specs.Played.{ArePlayed}
 use Rattle.yd_playing.specs.Stopped.{StopsAt}
-use Rattle.yd_playing.specs.declared.fault.LineCause.{LineCause}
+use Rattle.yd_causes.specs.declared.cause.LineCause.{LineCause}
 use Rattle.yd_ending.specs.Script.{refused_script_line}
 use Rattle.yd_script.specs.Lines.{Numbered, script_lines}
 use Rattle.yd_updates.specs.Received.{received_set}
 use Rattle.yd_files.specs.Verdict.{Inputs}
-use Rattle.yd_app.specs.Commands.Merge.{MergedStandsAgain}
+use Rattle.yd_app.specs.Commands.Merge.{MergedStandsAgain, merged_output}
 use Rattle.yd_asking.specs.declared.format.Format.TheVariants.{V1}
 
 -- the lines of the first script; without one there is none
@@ -21,9 +21,18 @@ lines_of_first (text ∷ texts) = script_lines text
 abbrev pub MakesUpdates : Client → Inputs → List UpdateValue → Type 0
 MakesUpdates client inputs us = ArePlayed client (received_set inputs.updates) (lines_of_first inputs.scripts) us
 
--- what is written stands for the merge of what they made
-abbrev pub EditStandsAgain : Client → Inputs → Type 0
-EditStandsAgain client inputs = (us : List UpdateValue) → MakesUpdates client inputs us → MergedStandsAgain V1 us
+-- the bytes are what is written of such updates: they as one
+pub record IsEdited (client : Client) (inputs : Inputs) (bytes : List ℕ) : Type 0 where
+  pub made : List UpdateValue
+  pub are_made : MakesUpdates client inputs made
+  pub bytes_are : bytes ≡ merged_output V1 made
+
+-- they are so of such updates, and stand for the merge of these again
+pub record EditStandsAgain (client : Client) (inputs : Inputs) (bytes : List ℕ) : Type 0 where
+  pub made : List UpdateValue
+  pub are_made : MakesUpdates client inputs made
+  pub bytes_are : bytes ≡ merged_output V1 made
+  pub again : MergedStandsAgain V1 made
 
 -- this is the line of the first line of the script that is refused
 abbrev pub IsRefusedLine : Client → List ℕ → Inputs → List ℕ → Type 0

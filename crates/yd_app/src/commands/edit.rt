@@ -25,7 +25,6 @@ use yd_files::Inputs;
 use yd_ids::Client;
 use yd_merge::merge;
 use yd_ops::Update;
-use yd_playing::law::lines_end_one_way;
 use yd_playing::{PlayFault, play};
 use yd_v1::UpdateList;
 
@@ -44,8 +43,6 @@ pub fn edit<'a>(
     ensures stops { IfErr result
         (StopsMaking (edits client name.now) (inputs_of inputs.now)) }
 {
-    // What lines make is one row of updates.
-    lines_end_one_way();
     let updates = updates_of(alloc, client, name, inputs)?;
     let bytes = merged(alloc, &updates)?;
     Ok(bytes)

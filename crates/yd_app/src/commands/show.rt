@@ -19,7 +19,7 @@ use crate::fault::NoMemory;
 use std::alloc::Global;
 use yd_any::Text;
 use yd_doc::Replica;
-use yd_doc::law::own_document_is_defined;
+use yd_doc::law::own_document_is_replicas;
 use yd_files::Inputs;
 use yd_ids::Client;
 use yd_modes::Mode;
@@ -27,7 +27,7 @@ use yd_ops::{List, Parent};
 use yd_value::print;
 use yd_view::text;
 
-/// What the root shows in the mode in the document of all updates, and a line feed.
+/// What the root shows in the mode in a replica's document of all updates, and a line feed.
 pub fn show(alloc: Global, mode: Mode, root: &str, inputs: &Inputs) -> Result<Vec<u8>, NoMemory>
     requires { Each IsValidUpdate (inputs_of inputs.now).updates }
     ensures { IfOk result (λ line.
@@ -35,7 +35,7 @@ pub fn show(alloc: Global, mode: Mode, root: &str, inputs: &Inputs) -> Result<Ve
 {
     // It makes no edits, so any client serves.
     let replica = Replica::of_updates(alloc, Client(0), inputs.updates.as_slice())?;
-    own_document_is_defined(&replica);
+    own_document_is_replicas(&replica);
     let mut line = print_root(alloc, &replica, mode, root)?;
     line.push(b'\n')?;
     Ok(line)

@@ -1,6 +1,6 @@
 use Rattle.std.proofs.Common.{◌∙◌, ◌+◌, ◌++◌, List, [], ◌∷◌, append_assoc, sym, ap, arith}
 use Rattle.yd_ids.specs.declared.id.Span.{Span}
-use Rattle.yd_checking.proofs.DeletedCountLemmas.{few_deleted, ids_more}
+use Rattle.yd_checking.proofs.SpanCountLemmas.{few_deleted, ids_more}
 use Rattle.yd_checking.proofs.counts.count_ids.Goals as goal
 
 pub overflow_add-count : goal.overflow_add-count

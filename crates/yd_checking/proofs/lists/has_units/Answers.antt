@@ -2,8 +2,7 @@ use Rattle.std.proofs.Common.{get_or}
 use Rattle.std.proofs.lemmas.Option.{slice_get-get_or}
 use Rattle.yd_state.specs.State.{document_in}
 use Rattle.yd_state.specs.Lent.{units_left}
-use Rattle.yd_state.proofs.NamesLemmas.{no_name}
-use Rattle.yd_checking.proofs.ListCountLemmas.{units_used}
+use Rattle.yd_checking.proofs.ListCountLemmas.{no_name, units_used}
 use Rattle.yd_checking.proofs.lists.has_units.Goals as goal
 
 pub returns : goal.returns

@@ -4,14 +4,10 @@ use Rattle.std.proofs.Math.Seq.{take-length}
 use Rattle.std.proofs.lemmas.Option.{slice_get-get_or}
 use Rattle.yd_words.specs.Test.{one_if}
 use Rattle.yd_ops.specs.declared.lists.List.{List as DocList}
-use Rattle.yd_meaning.specs.Document.{Document}
-use Rattle.yd_meaning.specs.Held.{held_set, is_named}
-use Rattle.yd_entries.proofs.WrittenLemmas.{taken_written}
 use Rattle.yd_state.specs.State.{received_in, document_in}
-use Rattle.yd_state.proofs.LentLemmas.{document_defined}
-use Rattle.yd_state.proofs.NamesLemmas.{no_name}
+use Rattle.yd_state.proofs.LentLemmas.{document_replica}
 use Rattle.yd_checking.specs.Counts.{is_used}
-use Rattle.yd_checking.proofs.ListCountLemmas.{names_count, used_more}
+use Rattle.yd_checking.proofs.ListCountLemmas.{no_name, names_count, used_more}
 use Rattle.yd_checking.proofs.lists.used_lists.Goals.{then-has_units, else-has_units}
 use Rattle.yd_checking.proofs.lists.used_lists.Goals as goal
 
@@ -40,10 +36,8 @@ returns c =
     let r = received_in s in
     let sound = c.received-received.ensures.sound in
     let names = s.held.names in
-    let written = taken_written s.held.received.runs s.held.received.entries sound.holds.in_order in
     let all : c.loop-n.n ≡ length names = omega (arith, c.loop-n-test.false, c.loop-n.auto.n-end, ap (λ (ns : List DocList). length ns) c.names-names.ensures.names) in
     c.loop-n.invariant.counted
     ∙ ap (λ n. length (filter (is_used (document_in s)) (take n names))) all
     ∙ ap (λ (ns : List DocList). length (filter (is_used (document_in s)) ns)) (take-length names)
-    ∙ names_count (held_set r.operations) (c.lists_are_whole.ensures r.operations written) (document_in s) (is_named r.deletes)
-    (λ list. ap (λ (d : Document). d.units list) (document_defined s sound)) names sound.holds.numbered.distinct c.names-names.ensures.all
+    ∙ names_count r (document_in s) (document_replica s sound) names sound.holds.numbered.distinct c.names-names.ensures.all

@@ -2,4 +2,4 @@ use Rattle.yd_honesty.specs.Judging.{IsBestOfAll}
 use Rattle.yd_honesty.proofs.smallest.dishonest.Given as goal
 
 abbrev pub invariant-loop-n : goal.invariant-loop-n
-invariant-loop-n l = IsBestOfAll l.state.held.received l.state.held.names l.n l.smallest
+invariant-loop-n l = IsBestOfAll l.held.received l.held.names l.n l.smallest

@@ -1,7 +1,7 @@
 use Rattle.std.proofs.Common.{refl, sym, subst}
 use Rattle.std.specs.Global.{Vec}
 use Rattle.yd_order.specs.declared.stretch.Stretch.{Stretch}
-use Rattle.yd_state.proofs.MadeOrderLemmas.{map_at}
+use Rattle.yd_stretches.proofs.GatheringLemmas.{map_at}
 use Rattle.yd_honesty.specs.Judging.{AreOfList}
 use Rattle.yd_honesty.proofs.smallest.judge_at.Goals as goal
 

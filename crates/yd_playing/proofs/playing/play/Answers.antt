@@ -6,14 +6,14 @@ use Rattle.yd_ops.specs.Valid.{IsValidUpdate}
 use Rattle.yd_ops.specs.Value.{UpdateValue}
 use Rattle.yd_ops.specs.View.{update_value}
 use Rattle.yd_script.specs.Lines.{numbered_of, script_lines}
-use Rattle.yd_doc.specs.Kept.{received_of}
+use Rattle.yd_doc.specs.Kept.{own_document, received_of}
 use Rattle.yd_playing.specs.Answer.{updates_in}
 use Rattle.yd_playing.specs.Desk.{desk_of, first_desk}
 use Rattle.yd_playing.specs.Ended.{text_ends}
 use Rattle.yd_playing.specs.Played.{SoFar, HasPlayed}
 use Rattle.yd_playing.specs.Stopped.{StopsFor, IsLeft, IsStop}
 use Rattle.yd_playing.proofs.PlayedLemmas.{at_end, one_more, on_error, passed_on, played_here, stops_here}
-use Rattle.yd_playing.proofs.ReceivedLemmas.{script_received}
+use Rattle.yd_playing.proofs.ReceivedLemmas.{lines_received}
 use Rattle.yd_playing.proofs.playing.play.Goals as goal
 
 pub loop-line-preserved : goal.loop-line-preserved
@@ -32,7 +32,7 @@ loop-line-preserved c =
       client = c.play_line.ensures.client ∙ loop.invariant.client;
       so_far = subst (λ (ws : List UpdateValue). SoFar client r next lines c.next.new.self ws) (sym more)
           (one_more client r desk next lines c.next.new.self loop.lines text us vs loop.invariant.so_far c.in-Some.ensures
-          (subst (λ (k : Client). text_ends k desk text.text ≡ Ok (record { updates = vs; desk = next })) loop.invariant.client c.in_ok-made.ensures.plays));
+          (own_document loop.replica, c.in_ok-made.ensures.own, subst (λ (k : Client). text_ends k (own_document loop.replica) desk text.text ≡ Ok (record { updates = vs; desk = next })) loop.invariant.client c.in_ok-made.ensures.plays));
       valid = subst (Each IsValidUpdate) (sym more) (each_append IsValidUpdate us vs loop.invariant.valid c.in_ok-made.ensures.valid);
     }
 
@@ -52,7 +52,7 @@ returns-in_err-push_made-clause-front c =
       c.next.new.self,
       us ++ vs,
       one_more client r desk next lines c.next.new.self loop.lines text us vs loop.invariant.so_far c.in-Some.ensures
-          (subst (λ (k : Client). text_ends k desk text.text ≡ Ok (record { updates = vs; desk = next })) loop.invariant.client c.in_ok-made.ensures.plays),
+          (own_document loop.replica, c.in_ok-made.ensures.own, subst (λ (k : Client). text_ends k (own_document loop.replica) desk text.text ≡ Ok (record { updates = vs; desk = next })) loop.invariant.client c.in_ok-made.ensures.plays),
       refl,
     )
 
@@ -65,8 +65,8 @@ returns-in_err-made-clause-front c =
     let text = numbered_of c.in-Some.line in
     let desk = desk_of loop.replica loop.desk in
     on_error (HasPlayed client r (received_of c.play_line.new.replica) lines) c.from_residual.result
-    (played_here client r desk lines c.next.new.self loop.lines text (map update_value loop.updates) (received_of c.play_line.new.replica) loop.invariant.so_far c.in-Some.ensures
-    (subst (λ (k : Client). IsLeft desk.received (received_of c.play_line.new.replica) (text_ends k desk text.text)) loop.invariant.client c.in_err-made.ensures.plays.1))
+    (played_here client r desk lines c.next.new.self loop.lines text (map update_value loop.updates) (received_of c.play_line.new.replica) (own_document loop.replica) loop.invariant.so_far c.in-Some.ensures
+    c.in_err-made.ensures.own (subst (λ (k : Client). IsLeft desk.received (received_of c.play_line.new.replica) (text_ends k (own_document loop.replica) desk text.text)) loop.invariant.client c.in_err-made.ensures.plays.1))
 
 pub returns-in_err-made-clause-stops : goal.returns-in_err-made-clause-stops
 returns-in_err-made-clause-stops c =
@@ -77,8 +77,8 @@ returns-in_err-made-clause-stops c =
     let text = numbered_of c.in-Some.line in
     let desk = desk_of loop.replica loop.desk in
     passed_on (StopsFor client r lines) c.from_residual.result c.in_err-made.field-0.0 c.from_residual.ensures.1
-    (stops_here client r desk lines c.next.new.self loop.lines text (map update_value loop.updates) c.in_err-made.field-0.0 loop.invariant.so_far c.in-Some.ensures
-    (subst (λ (k : Client). IsStop text.number (text_ends k desk text.text) c.in_err-made.field-0.0) loop.invariant.client c.in_err-made.ensures.plays.0))
+    (stops_here client r desk lines c.next.new.self loop.lines text (map update_value loop.updates) (own_document loop.replica) c.in_err-made.field-0.0 loop.invariant.so_far c.in-Some.ensures
+    c.in_err-made.ensures.own (subst (λ (k : Client). IsStop text.number (text_ends k (own_document loop.replica) desk text.text) c.in_err-made.field-0.0) loop.invariant.client c.in_err-made.ensures.plays.0))
 
 pub returns-clause-played : goal.returns-clause-played
 returns-clause-played c =
@@ -91,7 +91,7 @@ returns-clause-played c =
 pub returns-clause-received : goal.returns-clause-received
 returns-clause-received c =
     let loop = c.loop-line in
-    script_received c.args.replica.now.client (script_lines c.args.script.now) (first_desk (received_of c.args.replica.now))
+    lines_received c.args.replica.now.client (script_lines c.args.script.now) (first_desk (received_of c.args.replica.now))
     (record { updates = map update_value loop.updates; desk = desk_of loop.replica loop.desk })
     (at_end c.args.replica.now.client (received_of c.args.replica.now) (desk_of loop.replica loop.desk) (script_lines c.args.script.now) loop.lines (map update_value loop.updates)
     loop.invariant.so_far c.in_default.ensures)

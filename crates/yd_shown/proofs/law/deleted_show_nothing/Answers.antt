@@ -1,12 +1,10 @@
-use Rattle.std.proofs.Common.{◌≡◌, ℕ, Bool, true, false, ◌&&◌, not, List, Some, None, refl, sym, ap, ◌∙◌, subst, true≢false}
+use Rattle.std.proofs.Common.{◌≡◌, ℕ, Bool, true, false, ◌&&◌, not, List, Some, None, refl, sym, ap, ◌∙◌, true≢false}
 use Rattle.std.specs.Prelude.{if◌then◌else◌}
-use Rattle.yd_words.specs.Member.{IsIn}
 use Rattle.yd_ops.specs.declared.lists.Parent.{Parent}
 use Rattle.yd_ops.specs.Operation.{Operation}
 use Rattle.yd_meaning.specs.Document.{Document}
-use Rattle.yd_meaning.specs.Text.{live_units}
 use Rattle.yd_shown.specs.Shown.{key_list, last_unit, if_shown, unit_under, is_counted, most_types}
-use Rattle.yd_shown.proofs.LiveLemmas.{live_is_full}
+use Rattle.yd_shown.proofs.LiveLemmas.{live_is_full, live_in_none}
 use Rattle.yd_shown.proofs.AlikeLemmas.{shown_alike}
 use Rattle.yd_shown.proofs.law.deleted_show_nothing.Goals as goal
 
@@ -23,5 +21,6 @@ pub returns : goal.returns
 returns c = record {
   alike = λ one other alike parent mode. shown_alike one other alike most_types parent mode;
   under_key = no_unit;
-  live = λ r received document of_r list o i. live_is_full r received list o (subst (λ d. IsIn o (live_units d list)) of_r i);
+  live = λ r received document of_r list o i. live_is_full r document of_r received list o i;
+  honest = λ r honest document of_r list o i. live_in_none r document of_r honest list o i;
 }

@@ -5,7 +5,8 @@ use Rattle.yd_ids.specs.declared.id.Id.{Id}
 use Rattle.yd_order.specs.declared.stretch.Stretch.{Stretch}
 use Rattle.yd_received.specs.Received.{ReceivedValue}
 use Rattle.yd_state.specs.Ordered.{order_lists}
-use Rattle.yd_state.specs.Stretches.{AreTables, AreMadeOf, AreGathered, stretch_lists}
+use Rattle.yd_stretches.specs.Stretches.{AreGathered, stretch_lists}
+use Rattle.yd_state.specs.Stretches.{AreTables, AreMadeOf}
 use Rattle.yd_state.proofs.SettledLemmas.{gathered_tables, gathered_made}
 use Rattle.yd_state.proofs.ordering.arranged.Goals as goal
 

@@ -1,8 +1,9 @@
 use Rattle.std.proofs.Common.{false, true}
 use Rattle.std.specs.Global.{Vec}
 use Rattle.yd_order.specs.declared.stretch.Stretch.{Stretch}
-use Rattle.yd_state.specs.Stretches.{stretch_lists}
-use Rattle.yd_state.proofs.MadeOrderLemmas.{map_at, mark_at, bucket_there, order_made, none_made}
+use Rattle.yd_stretches.specs.Stretches.{stretch_lists}
+use Rattle.yd_stretches.proofs.GatheringLemmas.{map_at}
+use Rattle.yd_state.proofs.MadeOrderLemmas.{mark_at, bucket_there, order_made, none_made}
 use Rattle.yd_state.proofs.ordering.order_of_list.Goals as goal
 
 pub returns-then-not-stale-n : goal.returns-then-not-stale-n

@@ -3,7 +3,8 @@ use Rattle.std.specs.Global.{Vec}
 use Rattle.std.proofs.lemmas.List.{map_push, length-map, length_push}
 use Rattle.yd_ids.specs.declared.id.Id.{Id}
 use Rattle.yd_state.specs.Ordered.{order_lists}
-use Rattle.yd_state.specs.Stretches.{AreMadeOf, stretch_lists}
+use Rattle.yd_stretches.specs.Stretches.{stretch_lists}
+use Rattle.yd_state.specs.Stretches.{AreMadeOf}
 use Rattle.yd_state.proofs.MadeOrderLemmas.{made-more}
 use Rattle.yd_state.proofs.ordering.orders_of_lists.Goals as goal
 

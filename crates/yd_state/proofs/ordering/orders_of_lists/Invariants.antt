@@ -1,6 +1,7 @@
 use Rattle.std.proofs.Common.{◌≡◌, length}
 use Rattle.yd_state.specs.Ordered.{order_lists}
-use Rattle.yd_state.specs.Stretches.{AreMadeOf, stretch_lists}
+use Rattle.yd_stretches.specs.Stretches.{stretch_lists}
+use Rattle.yd_state.specs.Stretches.{AreMadeOf}
 use Rattle.yd_state.proofs.ordering.orders_of_lists.Given as goal
 
 -- the orders so far are those of the first lists

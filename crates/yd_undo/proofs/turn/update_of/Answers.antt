@@ -11,7 +11,7 @@ use Rattle.yd_undo.proofs.turn.update_of.Goals as goal
 
 pub prepare-requires : goal.prepare-requires
 prepare-requires c = subst (Each IsProper) (sym c.in_ok-steps.ensures)
-    (undo_proper c.args.replica.now c.own_document_is_defined.ensures c.received_can_be_grouped.ensures c.args.entry.now)
+    (undo_proper c.args.replica.now c.own_document_is_replicas.ensures c.received_can_be_grouped.ensures c.args.entry.now)
 
 pub returns-clause-refused : goal.returns-clause-refused
 returns-clause-refused c =

@@ -1,15 +1,14 @@
-use Rattle.std.proofs.Common.{◌∙◌, [], ◌∷◌, ◌++◌, map, ap, refl}
+use Rattle.std.proofs.Common.{◌∙◌, [], ◌∷◌, ◌++◌, map, ap}
 use Rattle.yd_doc.specs.Kept.{own_document, received_of}
 use Rattle.yd_ops.specs.View.{update_value}
 use Rattle.yd_updates.specs.Received.{received_set}
 use Rattle.yd_files.specs.Seen.{inputs_of}
-use Rattle.yd_asking.specs.Command.{show}
 use Rattle.yd_app.proofs.MakingLemmas.{made_of_document}
 use Rattle.yd_app.proofs.commands.show.show.Goals as goal
 
 pub returns : goal.returns
 returns c =
     let replica = c.in_ok-replica.replica in
-    made_of_document (show c.args.mode c.args.root.now) (inputs_of c.args.inputs.now) (received_of replica) (own_document replica) [] c.push.new.self.items
-    (c.in_ok-replica.ensures.received ∙ ap (λ us. received_set (map update_value us)) c.as_slice.ensures) c.own_document_is_defined.ensures refl tt
+    made_of_document c.args.mode c.args.root.now (inputs_of c.args.inputs.now) (received_of replica) (own_document replica) c.push.new.self.items
+    (c.in_ok-replica.ensures.received ∙ ap (λ us. received_set (map update_value us)) c.as_slice.ensures) c.own_document_is_replicas.ensures
     (c.in_ok-push.ensures.items ∙ ap (λ bytes. bytes ++ 10 ∷ []) c.in_ok-line.ensures)

@@ -4,12 +4,12 @@ use Rattle.yd_ids.specs.declared.id.Id.{Id}
 use Rattle.yd_ids.specs.Set.{HasId}
 use Rattle.yd_ops.specs.View.{update_value}
 use Rattle.yd_state.specs.Ordered.{order_lists}
-use Rattle.yd_state.specs.State.{received_in}
-use Rattle.yd_state.specs.Brings.{BringsSomething}
+use Rattle.yd_state.specs.State.{StateValue, received_in}
+use Rattle.yd_state.specs.Brings.{BringsSomething, BringsUnknown}
 use Rattle.yd_state.specs.Stretches.{AreSettled}
 use Rattle.yd_ids.specs.Set.{union_of}
 use Rattle.yd_received.specs.Received.{taken_of}
-use Rattle.yd_state.proofs.BringsLemmas.{brings_either}
+use Rattle.yd_state.proofs.BringsLemmas.{unknown_either, brings_either}
 use Rattle.yd_state.proofs.SoundLemmas.{still_received}
 use Rattle.yd_state.proofs.SettledLemmas.{settled_after}
 use Rattle.yd_state.proofs.state.State.take.Goals.{then-taken, else-taken}
@@ -32,11 +32,29 @@ returns-after-taken-clause-brings c =
       | then-taken w ↦ w.result-is ∙ w.if-taken.true ∙ sym (ap (λ b. b || more) w.if-taken.true)
       | else-taken w ↦ w.result-is ∙ sym (ap (λ b. b || more) w.if-taken.false)
     ] in
+    let state : StateValue =
+    record { held = c.self.inside.held; named = c.self.inside.named; orders = order_lists c.self.inside.orders.items; deletes = c.self.inside.deletes } in
     subst (λ result. IsTrue result ↔ BringsSomething update (received_in c.args.self.now)) (sym either)
     (subst (λ s. IsTrue (one || more) ↔ BringsSomething update (received_in s)) c.self.view_is
-    (brings_either update
-    (record { held = c.self.inside.held; named = c.self.inside.named; orders = order_lists c.self.inside.orders.items; deletes = c.self.inside.deletes })
-    c.self.invariant one more c.in_ok-taken.ensures.brings
+    (brings_either update state c.self.invariant (one || more)
+    (unknown_either update state one more c.in_ok-taken.ensures.brings
+    (subst (λ named. IsTrue more ↔ (((x : Id) → HasId named x → HasId c.self.inside.named x ⊎ HasId c.self.inside.deletes x) → ⊥)) c.in_ok-more.ensures
+    c.brings_deletion-deletes.ensures))))
+
+pub returns-after-taken-clause-unknown : goal.returns-after-taken-clause-unknown
+returns-after-taken-clause-unknown c =
+    let update = update_value c.args.update.now in
+    let one = c.in_ok-taken.taken.brings in
+    let more = c.brings_deletion-deletes.result in
+    let either : c.if-taken.result ≡ one || more = elim c.if-taken.branch [
+      | then-taken w ↦ w.result-is ∙ w.if-taken.true ∙ sym (ap (λ b. b || more) w.if-taken.true)
+      | else-taken w ↦ w.result-is ∙ sym (ap (λ b. b || more) w.if-taken.false)
+    ] in
+    let state : StateValue =
+    record { held = c.self.inside.held; named = c.self.inside.named; orders = order_lists c.self.inside.orders.items; deletes = c.self.inside.deletes } in
+    subst (λ result. IsTrue result ↔ BringsUnknown update (received_in c.args.self.now) c.args.self.now.deletes) (sym either)
+    (subst (λ (s : StateValue). IsTrue (one || more) ↔ BringsUnknown update (received_in s) s.deletes) c.self.view_is
+    (unknown_either update state one more c.in_ok-taken.ensures.brings
     (subst (λ named. IsTrue more ↔ (((x : Id) → HasId named x → HasId c.self.inside.named x ⊎ HasId c.self.inside.deletes x) → ⊥)) c.in_ok-more.ensures
     c.brings_deletion-deletes.ensures)))
 

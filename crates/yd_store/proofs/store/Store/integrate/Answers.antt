@@ -1,7 +1,7 @@
 use Rattle.std.proofs.Common.{arith}
 use Rattle.yd_ops.specs.View.{run_value}
 use Rattle.yd_store.proofs.KeepingLemmas.{kept_keeps}
-use Rattle.yd_store.proofs.IntegratingLemmas.{keeps_both, adds_from, ends_left, no_later, left_below, left_kept, ok_gives, ok_with, err_with}
+use Rattle.yd_store.proofs.IntegratingLemmas.{keeps_both, adds_from, ends_left, no_later, left_below, left_kept, ok_gives, ok_with, err_with, ok_says, begins_last}
 use Rattle.yd_store.proofs.store.Store.integrate.Goals as goal
 
 pub part_origins-parted-requires : goal.part_origins-parted-requires
@@ -27,6 +27,10 @@ add_run-requires-clause-right c =
     no_later mid.placed c.args.list c.args.run.right
     (ok_gives c.part_origins-parted.result c.is_err.result _ c.is_err.ensures.value c.if-is_err.false c.part_origins-parted.ensures.right)
     c.is_sound-2.ensures.lists (omega (arith, c.requires.list, c.part_origins-parted.ensures.units.count))
+
+pub returns-clause-begins : goal.returns-clause-begins
+returns-clause-begins c =
+    ok_says c.add_run.result _ _ _ (λ place at adds. begins_last c.part_origins-parted.new.self c.add_run.new.self c.args.list (run_value c.args.run) place adds c.requires.ready.filled at) c.add_run.ensures.place c.add_run.ensures.done
 
 pub returns-clause-units : goal.returns-clause-units
 returns-clause-units c =

@@ -1,0 +1,216 @@
+//! The state of a replica, as one value.
+
+ghost use Rattle.std.specs.Prelude.{◌≡◌, ◌↔◌, ℕ, IsTrue, IfOk, OnOk, OnErr};
+ghost use Rattle.yd_words.specs.Member.{IsIn};
+ghost use Rattle.yd_ids.specs.Vector.{clock_of};
+ghost use Rattle.yd_ops.specs.Valid.{IsValidUpdate};
+ghost use Rattle.yd_ops.specs.Operation.{Operation};
+ghost use Rattle.yd_ops.specs.View.{update_value};
+ghost use Rattle.yd_updates.specs.Received.{nothing_received, received_after};
+ghost use Rattle.yd_updates.specs.Law.{ArePaired};
+ghost use Rattle.yd_meaning.specs.Held.{held_set, held_clock, waiting_counts};
+ghost use Rattle.yd_meaning.specs.Document.{AreDeletedIn};
+ghost use Rattle.yd_deleting.specs.Falling.{IsTold};
+ghost use Rattle.yd_listing.specs.Listing.{Tells};
+ghost use Rattle.yd_grown.specs.State.{received_in, document_in, IsSound};
+ghost use Rattle.yd_grown.specs.Brings.{BringsUnknown};
+ghost use Rattle.yd_grown.specs.Lent.{lent_units, units_left, last_unit};
+
+use crate::counting::{count_ids, count_units};
+use crate::fault::NoMemory;
+use crate::listing::ListView;
+use crate::naming::named_by;
+use crate::novelty::brings_deletion;
+use crate::sets::Sets;
+use crate::settling::{Settled, settle};
+use crate::uniting::{grown_by, put};
+use std::alloc::Global;
+use std::marker::Model;
+use yd_held::Held;
+use yd_ids::{Id, IdSet, Vector};
+use yd_kept::Kept;
+use yd_listing::{last_of, list as units_of};
+use yd_ops::{List, Update};
+use yd_received::Received;
+
+/// What was received and is held, a store with just what is held, and what is named, waits and is
+/// deleted. Contracts see the ids of each list in place of the store.
+#[derive(Drop)]
+pub struct State {
+    pub(crate) held: Held,
+    pub(crate) kept: Kept,
+    pub(crate) sets: Sets,
+}
+
+impl Model for State {
+    ghost use Rattle.yd_grown.specs.State.{StateValue};
+    ghost use Rattle.yd_grown.specs.Grown.{seen_of, IsWhole};
+    ghost use Rattle.yd_any.specs.contracts.any_value.AnyList as any_list;
+    ghost use Rattle.yd_any.specs.contracts.json_value.Json as json;
+    ghost use Rattle.std.specs.Coded.{codes};
+
+    ghost Value = { StateValue };
+
+    ghost coded = { Prim.hlevel (codes, json.the_row.coded, any_list.the_row.coded) };
+
+    ghost view = { λ it. seen_of (record {
+      held = it.held;
+      named = it.sets.named;
+      waiting = it.sets.waiting;
+      kept = it.kept;
+      deletes = it.sets.deletes;
+    }) };
+
+    ghost invariant = { λ it. IsWhole (record {
+      held = it.held;
+      named = it.sets.named;
+      waiting = it.sets.waiting;
+      kept = it.kept;
+      deletes = it.sets.deletes;
+    }) };
+}
+
+impl State {
+    /// Nothing, received so far.
+    pub fn new(alloc: Global) -> State
+        ensures received { received_in result ≡ nothing_received }
+        ensures sound { IsSound result }
+    {
+        let held = Held::new(alloc);
+        let kept = Kept::new(alloc);
+        // That both are sound says that nothing is held.
+        let _ = held.received();
+        let _ = kept.store();
+        State {
+            held,
+            kept,
+            sets: Sets {
+                named: IdSet::new(alloc),
+                waiting: IdSet::new(alloc),
+                deletes: IdSet::new(alloc),
+            },
+        }
+    }
+
+    /// Receives an update, holds what can be held then, and puts it into its lists, where the
+    /// integration scan puts it. It answers whether the update brought something. It looks at what
+    /// came, at what waits, and at what is deleted besides, and at what is known by look-ups alone;
+    /// a set that grows is copied. Where the update says less of something that was received, all
+    /// lists grow anew. Where memory ends, nothing has changed that is told.
+    pub fn take(&mut self, update: &Update) -> Result<bool, NoMemory>
+        requires { IsValidUpdate (update_value update.now) }
+        ensures received { OnOk result (received_in self.new
+            ≡ received_after (received_in self.old) (update_value update.now)) }
+        ensures unknown { IfOk result (λ brings. IsTrue brings
+            ↔ BringsUnknown (update_value update.now) (received_in self.old) self.old.deletes) }
+        ensures sound { IsSound self.new }
+        ensures unchanged { OnErr result (self.new ≡ self.old) }
+    {
+        // What is held says what holds before the first growth.
+        let _ = self.held.received();
+        let more = named_by(update)?;
+        let deletes = brings_deletion(&self.sets.named, &self.sets.deletes, &more);
+        let named = grown_by(&self.sets.named, &more)?;
+        let taken = self.held.take(update)?;
+        match settle(
+            &mut self.kept,
+            &self.held,
+            taken.anew,
+            &taken.order,
+            &self.sets,
+            &more,
+        ) {
+            Ok(
+                Settled {
+                    waiting,
+                    deletes: grown,
+                },
+            ) => {
+                put(&mut self.sets.named, named);
+                put(&mut self.sets.deletes, grown);
+                self.sets.waiting = waiting;
+                Ok(taken.brings || deletes)
+            }
+            Err(NoMemory) => {
+                // That the store is sound says that its lists tell units still.
+                let _ = self.kept.store();
+                self.held.put_back(taken.before);
+                Err(NoMemory)
+            }
+        }
+    }
+
+    /// What was received, as it is kept.
+    pub fn received(&self) -> &Received
+        ensures received { result.now ≡ self.now.held.received }
+        ensures sound { IsSound self.now }
+    {
+        self.held.received()
+    }
+
+    /// The state vector: the clock up to which each client's units are held.
+    pub fn vector(&self) -> &Vector
+        ensures { (client : ℕ) → clock_of result.now client
+            ≡ held_clock (held_set (received_in self.now).operations) client }
+    {
+        self.held.vector()
+    }
+
+    /// The delete set: the held ids that are deleted.
+    pub fn deletes(&self) -> &IdSet
+        ensures deleted { AreDeletedIn result.now (document_in self.now) }
+        ensures own { result.now ≡ self.now.deletes }
+    {
+        &self.sets.deletes
+    }
+
+    /// The ids that received updates delete by name, held or not.
+    pub fn named(&self) -> &IdSet
+        ensures { result.now ≡ self.now.named }
+    {
+        &self.sets.named
+    }
+
+    /// The units of a list in order, deleted ones too; lost ones are in no list. It takes time with the
+    /// logarithm of how many lists there are, and copies no unit.
+    pub fn list(&self, list: &List) -> ListView<'_>
+        ensures units { units_left result ≡ lent_units (document_in self.now) list.now }
+        ensures received { (o : Operation) → IsIn o ((document_in self.now).units list.now)
+            → IsIn o (received_in self.now).operations }
+        ensures whole { ArePaired (received_in self.now).operations }
+    {
+        ListView {
+            units: units_of(&self.kept, list),
+        }
+    }
+
+    /// The id of the unit that stands last in a list, deleted or not, and none where the list has no
+    /// unit. It takes time with the logarithm of how many lists there are.
+    pub fn last_of(&self, list: &List) -> Option<Id>
+        ensures { result ≡ last_unit (document_in self.now) list.now }
+    {
+        last_of(&self.kept, list)
+    }
+
+    /// How many units were received that are not held. It takes time with the number of entries.
+    pub fn waiting_units(&self) -> u128
+        ensures { result ≡ (waiting_counts (received_in self.now)).structs }
+    {
+        count_units(self.held.received().entries())
+    }
+
+    /// How many ids are deleted by name and not held. It takes a look-up for each span.
+    pub fn waiting_ids(&self) -> u128
+        ensures { result ≡ (waiting_counts (received_in self.now)).deletes }
+    {
+        count_ids(self.held.vector(), &self.sets.named)
+    }
+
+    /// The store with just what is held, and the names of its lists; a list may have no unit there.
+    pub fn kept(&self) -> &Kept
+        ensures tells { Tells result.now (document_in self.now) }
+        ensures told { IsTold result.now }
+    {
+        &self.kept
+    }
+}

@@ -1,0 +1,7 @@
+use Rattle.yd_undo.proofs.ProperLemmas.{undo_proper}
+use Rattle.yd_restoring.proofs.EachReplicaLemmas.{each_undo_shown}
+use Rattle.yd_restoring.proofs.law.each_undo_shows.Goals as goal
+
+pub returns : goal.returns
+returns c = each_undo_shown c.args.before.now c.args.after.now c.own_document_is_replicas.ensures c.own_document_is_replicas-2.ensures
+    (undo_proper c.args.before.now c.own_document_is_replicas.ensures c.received_can_be_grouped.ensures)

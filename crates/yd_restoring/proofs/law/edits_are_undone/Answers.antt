@@ -1,0 +1,7 @@
+use Rattle.yd_undo.proofs.ProperLemmas.{undo_proper}
+use Rattle.yd_restoring.proofs.EachReplicaLemmas.{edit_undone}
+use Rattle.yd_restoring.proofs.law.edits_are_undone.Goals as goal
+
+pub returns : goal.returns
+returns c = edit_undone c.args.before.now c.args.between.now c.args.after.now c.own_document_is_replicas.ensures c.own_document_is_replicas-2.ensures
+    c.own_document_is_replicas-3.ensures (undo_proper c.args.between.now c.own_document_is_replicas-2.ensures c.received_can_be_grouped.ensures)

@@ -1,7 +1,0 @@
-use Rattle.std.proofs.Common.{◌≡◌, [], replicate}
-use Rattle.yd_state.specs.Stretches.{stretch_lists}
-use Rattle.yd_state.proofs.ordering.empty_buckets.Given as goal
-
--- there are so many lists without a stretch
-abbrev pub invariant-loop : goal.invariant-loop
-invariant-loop l = stretch_lists l.buckets.items ≡ replicate l.counter []

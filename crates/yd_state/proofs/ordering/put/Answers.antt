@@ -1,6 +1,0 @@
-use Rattle.yd_state.proofs.GatheringLemmas.{stretch_lists-put}
-use Rattle.yd_state.proofs.ordering.put.Goals as goal
-
-pub returns : goal.returns
-returns c = stretch_lists-put c.args.buckets.now.items c.args.n c.index_mut.result.now c.push.new.self c.args.stretch c.requires c.index_mut.ensures.value
-    c.in_ok-push.ensures.items
