@@ -4,7 +4,8 @@
 # the gate does not run it. `YDOC=PATH` names a program that is built; GROWTHS is another number of
 # growths.
 set -u
-cd "$(dirname "$0")/../crates/ydoc" || exit 1
+checks=$(cd "$(dirname "$0")" && pwd)
+cd "$checks/../crates/ydoc" || exit 1
 work=$(mktemp -d)
 trap 'kill $(jobs -p) 2>/dev/null; rm -rf "$work"' EXIT
 failed=0
@@ -23,26 +24,7 @@ at=127.0.0.1:$port
 printf '\1\1\1\0\4\1\1t\3abc\0' >1
 printf '\1\1\2\0\4\1\1t\1b\0' >2
 
-cat >refuse.c <<'C'
-#include <stdlib.h>
-extern void *__libc_malloc(size_t);
-extern void *__libc_realloc(void *, size_t);
-extern void *__libc_memalign(size_t, size_t);
-static long growths;
-static int refused(void) {
-    const char *at = getenv("REFUSE");
-    return ++growths == (at ? atol(at) : 0);
-}
-void *malloc(size_t n) { return refused() ? 0 : __libc_malloc(n); }
-void *realloc(void *old, size_t n) { return refused() ? 0 : __libc_realloc(old, n); }
-void *aligned_alloc(size_t a, size_t n) { return refused() ? 0 : __libc_memalign(a, n); }
-int posix_memalign(void **out, size_t a, size_t n) {
-    if (refused()) return 12;
-    *out = __libc_memalign(a, n);
-    return 0;
-}
-C
-cc -shared -fPIC -o refuse.so refuse.c || exit 1
+cc -shared -fPIC -o refuse.so "$checks/refuse.c" || exit 1
 
 # judged NAME STATUS: it wrote what it writes with memory, or it had none and wrote nothing
 judged() {

@@ -1,12 +1,11 @@
 'use strict';
 
-// Compares ydoc with the real Yjs: `node interop.js [--builds N] [WORD]`. A WORD leaves only the
-// cases whose names have it, and N builds of the program share the cases.
+// Compares ydoc with the real Yjs: `YDOC=PATH node interop.js [WORD]`, where PATH is a program that is
+// built. A WORD leaves only the cases whose names have it.
 
 const fs = require('node:fs');
 const os = require('node:os');
 const path = require('node:path');
-const { parseArgs } = require('node:util');
 const { checkCases } = require('./check.js');
 const { convertCases } = require('./convert.js');
 const { editCases } = require('./edit.js');
@@ -36,8 +35,8 @@ function tell({ name, words, files }, { lines }, { expected, came }) {
 }
 
 /** Runs the cases, tells each that failed, and gives how many these are, and those that follow. */
-async function played(cases, folder, builds) {
-  const answers = await answersOf(cases, folder, builds);
+async function played(cases, folder) {
+  const answers = await answersOf(cases, folder);
   const follow = [];
   let failed = 0;
   for (const asked of cases) {
@@ -54,20 +53,17 @@ async function played(cases, folder, builds) {
 }
 
 /** Runs the cases, then those that follow from what came, and gives how many these were and failed. */
-async function allPlayed(cases, folder, builds) {
-  const first = await played(cases, path.join(folder, 'first'), builds);
+async function allPlayed(cases, folder) {
+  const first = await played(cases, path.join(folder, 'first'));
   const { follow } = first;
-  const then = follow.length > 0 ? await played(follow, path.join(folder, 'then'), builds) : null;
+  const then = follow.length > 0 ? await played(follow, path.join(folder, 'then')) : null;
   return [cases.length + follow.length, first.failed + (then?.failed ?? 0)];
 }
 
 async function main() {
-  // Half of the processors, since rt uses a second one for each build.
-  const builds = { type: 'string', default: `${Math.max(1, os.cpus().length >> 1)}` };
-  const { values, positionals } = parseArgs({ options: { builds }, allowPositionals: true });
-  const cases = casesWith(positionals[0] ?? '');
+  const cases = casesWith(process.argv[2] ?? '');
   const folder = fs.mkdtempSync(path.join(os.tmpdir(), 'interop-'));
-  const [count, failed] = await allPlayed(cases, folder, Number(values.builds));
+  const [count, failed] = await allPlayed(cases, folder);
   if (failed === 0) {
     fs.rmSync(folder, { recursive: true });
     console.log(`interop: ok, ${count} cases`);

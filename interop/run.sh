@@ -27,19 +27,24 @@ install() {
     { "${get[@]}" update && "${get[@]}" install -y --no-install-recommends "${missing[@]}"; }
 }
 
+# build: proves and builds the program, unless `YDOC=PATH` names one
+build() {
+  if [ -z "${YDOC:-}" ]; then
+    (cd ../crates/ydoc && rt run -- merge v1 v1:data/abc.bin >/dev/null) || exit 1
+    export YDOC=$PWD/../crates/ydoc/out/ydoc
+  fi
+}
+
 if ! has_yjs && ! { install node-yjs >/dev/null 2>&1 && has_yjs; }; then
   echo 'interop: not run, since the packages nodejs and node-yjs cannot be had here'
   exit 0
 fi
 # `run.sh sockets`: server and client over real sockets, with the provider and the server of y-websocket,
-# and hostile peers. `YDOC=PATH` names a program that is built; else one is proved and built.
+# and hostile peers.
 if [ "${1:-}" = sockets ]; then
   has_provider || { install node-ws node-y-websocket >/dev/null 2>&1 && has_provider; } ||
     { echo 'interop: no sockets, since the packages node-ws and node-y-websocket cannot be had here'; exit 0; }
-  if [ -z "${YDOC:-}" ]; then
-    (cd ../crates/ydoc && rt run -- merge v1 v1:data/abc.bin >/dev/null) || exit 1
-    export YDOC=$PWD/../crates/ydoc/out/ydoc
-  fi
+  build
   # Each session is a file, of the server and of the peer.
   ulimit -n 4096 2>/dev/null || ulimit -n "$(ulimit -Hn)"
   timeout 100 node sockets.js || exit 1
@@ -54,4 +59,5 @@ if [ $# -eq 0 ]; then
     echo 'interop: no editors, since the package node-y-protocols cannot be had here'
   fi
 fi
+build
 exec node interop.js "$@"
