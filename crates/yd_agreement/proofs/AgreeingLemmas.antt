@@ -8,9 +8,9 @@ use Rattle.yd_ids.specs.declared.id.Id.{Id}
 use Rattle.yd_ops.specs.Operation.{ArePartners, IsHighUnit, Operation, UnitContent, any_unit, bytes, deleted_unit, embedded, gone_unit, json_unit, later_id, level_of, mark, nested_type, operations_of, operations_of_run, text_unit}
 use Rattle.yd_ops.specs.Valid.{IsValidContent, IsValidUpdate}
 use Rattle.yd_ops.specs.Value.{RunValue, UpdateValue}
-use Rattle.yd_updates.specs.Agreement.{operations_of_all}
-use Rattle.yd_updates.specs.Deletes.{SpellLess}
-use Rattle.yd_updates.proofs.PartnerLemmas.{partners_decide}
+use Rattle.yd_ops.specs.Agreement.{operations_of_all}
+use Rattle.yd_ops.specs.Deletes.{SpellLess}
+use Rattle.yd_ops.proofs.PartnerLemmas.{partners_decide}
 use Rattle.yd_grouping.specs.Disagreement.{BreaksAgreement, IsHalfCollected, IsUnlike, disagreement_of}
 use Rattle.yd_agreement.specs.Differing.{DifferAmong, HasRange, Place, content_of, place_of}
 use Rattle.yd_agreement.specs.First.{IsFirst, IsFirstBut, first_of}

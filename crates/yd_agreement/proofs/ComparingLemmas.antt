@@ -8,7 +8,7 @@ use Rattle.yd_ops.specs.Operation.{Operation}
 use Rattle.yd_ops.specs.Value.{RunValue}
 use Rattle.yd_ops.specs.View.{run_value}
 use Rattle.yd_ops.specs.declared.runs.Run.{Run}
-use Rattle.yd_updates.proofs.RunLemmas.{run_written}
+use Rattle.yd_ops.proofs.RunLemmas.{run_written}
 use Rattle.yd_agreement.specs.Differing.{Differ, DifferAmong, HasRange}
 use Rattle.yd_agreement.specs.First.{IsFirst, first_of}
 use Rattle.yd_agreement.specs.Runs.{AreAscending, ComesBy, IsCover, lent_runs}

@@ -10,7 +10,7 @@ use Rattle.yd_ids.specs.declared.id.Id.{Id}
 use Rattle.yd_ids.specs.declared.id.Span.{Span}
 use Rattle.yd_ops.specs.Operation.{later_id, operations_of}
 use Rattle.yd_ops.specs.Value.{RunValue, UpdateValue}
-use Rattle.yd_updates.specs.Deletes.{SpellLess}
+use Rattle.yd_ops.specs.Deletes.{SpellLess}
 use Rattle.yd_agreement.specs.Differing.{DifferAmong, content_of}
 use Rattle.yd_ops.specs.View.{update_value}
 use Rattle.yd_ops.specs.declared.updates.Update.{Update}

@@ -13,8 +13,8 @@ use Rattle.yd_ops.specs.Valid.{AreStructsFrom, IsStructAt, IsValidBlock, IsValid
 use Rattle.yd_ops.specs.Value.{BlockValue, ContentValue, StructValue, UpdateValue, any, binary, clocks_of, deleted, embed, format, gone, item, json, len_of, nested, skip, string}
 use Rattle.yd_ops.specs.View.{block_value}
 use Rattle.yd_ops.specs.declared.updates.Block.{Block}
-use Rattle.yd_updates.specs.Deletes.{SpellLess, blocks_spans, content_spans, struct_spans, structs_spans}
-use Rattle.yd_updates.proofs.GroupLemmas.{deletes_of-ids, deletes_of-spans}
+use Rattle.yd_ops.specs.Deletes.{SpellLess, blocks_spans, content_spans, struct_spans, structs_spans}
+use Rattle.yd_ops.proofs.GroupLemmas.{deletes_of-ids, deletes_of-spans}
 
 -- ---- they are spans
 

@@ -7,7 +7,7 @@ use Rattle.yd_ops.specs.Cutting.{PartsPair}
 use Rattle.yd_ops.specs.Operation.{ArePartners, IsHighUnit, IsLowUnit, Operation, UnitContent, any_unit, bytes, deleted_unit, embedded, gone_unit, json_unit, later_id, mark, nested_type, operations_of_run, text_unit}
 use Rattle.yd_ops.specs.Value.{ContentValue, RunValue, any, binary, deleted, embed, format, json, len_of, nested, string}
 use Rattle.yd_entries.specs.Taking.{left_at}
-use Rattle.yd_updates.proofs.PartnerLemmas.{partners_decide}
+use Rattle.yd_ops.proofs.PartnerLemmas.{partners_decide}
 use Rattle.yd_agreement.specs.Differing.{Place}
 use Rattle.yd_agreement.specs.Parting.{HasPair}
 use Rattle.yd_agreement.specs.Units.{kind_of_content, kind_of_unit, unit_of}

@@ -8,8 +8,8 @@ use Rattle.yd_ids.proofs.IdLemmas.{same_numbers}
 use Rattle.yd_ops.specs.Operation.{IsHighUnit, Operation, later_id, operations_of_run}
 use Rattle.yd_ops.specs.Valid.{IsValidContent}
 use Rattle.yd_ops.specs.Value.{RunValue}
-use Rattle.yd_updates.proofs.PartnerLemmas.{high_partner, partners_decide}
-use Rattle.yd_updates.proofs.RunLemmas.{run_partners}
+use Rattle.yd_ops.proofs.PartnerLemmas.{high_partner, partners_decide}
+use Rattle.yd_ops.proofs.RunLemmas.{run_partners}
 use Rattle.yd_agreement.specs.Differing.{DifferAmong, content_of}
 use Rattle.yd_agreement.specs.First.{IsFirstBut}
 use Rattle.yd_agreement.specs.Parting.{AreWhole, HasPair, HavePair, IsPartedAt}

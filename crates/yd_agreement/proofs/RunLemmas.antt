@@ -5,7 +5,7 @@ use Rattle.yd_words.proofs.MemberLemmas.{in_left_part, in_parts, in_right_part}
 use Rattle.yd_ids.specs.declared.id.Client.{Client}
 use Rattle.yd_ops.specs.Operation.{Operation, gone_from, level_of, operations_of, operations_of_blocks, operations_of_run, operations_of_structs}
 use Rattle.yd_ops.specs.Value.{BlockValue, RunValue, StructValue, UpdateValue, gone, item, len_of, skip}
-use Rattle.yd_updates.specs.Agreement.{operations_of_all}
+use Rattle.yd_ops.specs.Agreement.{operations_of_all}
 use Rattle.yd_entries.proofs.UnitLemmas.{from_gone}
 use Rattle.yd_agreement.specs.Runs.{runs_of_blocks, runs_of_structs, runs_of_updates}
 

@@ -8,9 +8,9 @@ use Rattle.yd_ids.specs.declared.id.Id.{Id}
 use Rattle.yd_ops.specs.Operation.{Operation, operations_of_run, units_of_content}
 use Rattle.yd_ops.specs.Value.{RunValue, len_of}
 use Rattle.yd_ops.proofs.OperationLemmas.{length-units_of_content}
-use Rattle.yd_updates.proofs.OneOfLemmas.{operation_with}
-use Rattle.yd_updates.proofs.WritingLemmas.{written_agrees}
-use Rattle.yd_updates.specs.Received.{IsWritten}
+use Rattle.yd_ops.proofs.OneOfLemmas.{operation_with}
+use Rattle.yd_ops.proofs.WritingLemmas.{written_agrees}
+use Rattle.yd_ops.specs.Received.{IsWritten}
 use Rattle.yd_entries.proofs.UnitLemmas.{from_unit, has_from}
 use Rattle.yd_agreement.specs.Differing.{Differ, DifferAmong}
 use Rattle.yd_agreement.specs.First.{IsFirst, first_of}

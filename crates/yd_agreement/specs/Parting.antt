@@ -8,8 +8,8 @@ use Rattle.yd_ids.specs.declared.id.Span.{Span}
 use Rattle.yd_ops.specs.Operation.{Operation, later_id, operations_of, operations_of_run}
 use Rattle.yd_ops.specs.Valid.{IsValidContent}
 use Rattle.yd_ops.specs.Value.{RunValue, UpdateValue}
-use Rattle.yd_updates.specs.Deletes.{SpellLess}
-use Rattle.yd_updates.specs.Pairs.{are_partners}
+use Rattle.yd_ops.specs.Deletes.{SpellLess}
+use Rattle.yd_ops.specs.Pairs.{are_partners}
 
 -- each run has a valid content, so its texts are whole
 abbrev pub AreWhole : List RunValue → Type 0

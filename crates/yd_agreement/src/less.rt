@@ -6,7 +6,7 @@ ghost use Rattle.yd_ids.specs.declared.id.Id.{Id};
 ghost use Rattle.yd_ops.specs.Operation.{operations_of};
 ghost use Rattle.yd_ops.specs.Valid.{IsValidBlock, IsValidUpdate};
 ghost use Rattle.yd_ops.specs.View.{block_value, content_value, struct_value, update_value};
-ghost use Rattle.yd_updates.specs.Deletes.{SpellLess, content_spans, struct_spans, structs_spans};
+ghost use Rattle.yd_ops.specs.Deletes.{SpellLess, content_spans, struct_spans, structs_spans};
 
 use crate::fault::NoMemory;
 use std::alloc::Global;

@@ -3,13 +3,13 @@ use Rattle.std.proofs.Common.{◌≡◌, ◌⊎◌, ◌∙◌, ℕ, List, ap, su
 use Rattle.yd_checking.proofs.ConvergeLemmas.{findings_alike, found_alike}
 use Rattle.yd_checking.specs.Findings.{IsFound, findings_in, findings_of}
 use Rattle.yd_checking.specs.declared.checking.Findings.{Findings}
-use Rattle.yd_growing.proofs.ReplicaLemmas.{documents_are_one}
+use Rattle.yd_meaning.proofs.ReplicaLemmas.{documents_are_one}
 use Rattle.yd_meaning.specs.Document.{Document}
 use Rattle.yd_meaning.specs.Held.{held_set}
 use Rattle.yd_meaning.specs.Order.{AreHonest}
 use Rattle.yd_ops.specs.Value.{UpdateValue}
-use Rattle.yd_updates.specs.Agreement.{HaveSameContents, SayTheSame}
-use Rattle.yd_updates.specs.Received.{Received, received_set}
+use Rattle.yd_ops.specs.Agreement.{HaveSameContents, SayTheSame}
+use Rattle.yd_ops.specs.Received.{Received, received_set}
 use Rattle.yd_files.proofs.VerdictLemmas.{stand_valid}
 use Rattle.yd_app.proofs.LawLemmas.{received_same}
 use Rattle.yd_app.proofs.MergeLemmas.{written_of}

@@ -3,12 +3,12 @@ use Rattle.std.proofs.Common.{◌≡◌, ◌⊎◌, ◌∙◌, ℕ, List, Option
 use Rattle.yd_checking.proofs.ConvergeLemmas.{defined_found}
 use Rattle.yd_checking.specs.Findings.{findings_of}
 use Rattle.yd_checking.specs.declared.checking.Findings.{Findings}
-use Rattle.yd_growing.proofs.ReplicaLemmas.{defined_is, documents_are_one}
+use Rattle.yd_meaning.proofs.ReplicaLemmas.{defined_is, documents_are_one}
 use Rattle.yd_meaning.specs.Document.{document_of}
 use Rattle.yd_playing.proofs.EndLemmas.{lines_end}
 use Rattle.yd_causes.specs.declared.cause.LineCause.{LineCause}
-use Rattle.yd_updates.proofs.AgreementLemmas.{received_written}
-use Rattle.yd_updates.specs.Received.{received_set}
+use Rattle.yd_ops.proofs.AgreementLemmas.{received_written}
+use Rattle.yd_ops.specs.Received.{received_set}
 use Rattle.yd_world.specs.Shelf.{Shelf}
 use Rattle.yd_ending.specs.Lines.{refused_line}
 use Rattle.yd_ending.specs.Script.{refused_script_line}

@@ -3,10 +3,10 @@ use Rattle.std.proofs.Common.{◌≡◌, ◌∙◌, ℕ, List, Option, Some, ap,
 use Rattle.yd_words.specs.Each.{Each}
 use Rattle.yd_ops.specs.Value.{UpdateValue}
 use Rattle.yd_ops.specs.Valid.{IsValidUpdate}
-use Rattle.yd_updates.specs.Received.{received_set}
-use Rattle.yd_updates.proofs.AgreementLemmas.{received_one, received_merged}
-use Rattle.yd_growing.specs.Replica.{IsReplicaDocument}
-use Rattle.yd_growing.proofs.ReplicaLemmas.{documents_are_one}
+use Rattle.yd_ops.specs.Received.{received_set}
+use Rattle.yd_ops.proofs.AgreementLemmas.{received_one, received_merged}
+use Rattle.yd_meaning.specs.Replica.{IsReplicaDocument}
+use Rattle.yd_meaning.proofs.ReplicaLemmas.{documents_are_one}
 use Rattle.yd_world.specs.Shelf.{Shelf}
 use Rattle.yd_files.proofs.VerdictLemmas.{stand_one, stand_valid}
 use Rattle.yd_files.specs.Files.{File}

@@ -2,11 +2,11 @@
 use Rattle.std.proofs.Common.{◌≡◌, ◌≢◌, ◌⊎◌, ◌∙◌, ℕ, List, Option, Result, Ok, Err, IsErr, IsErrAnd, IsOk, refl, inl, inr, subst, sym, ap, arith}
 use Rattle.std.specs.Global.{Vec}
 use Rattle.yd_meaning.specs.Document.{Document}
-use Rattle.yd_growing.specs.Replica.{IsReplicaDocument}
+use Rattle.yd_meaning.specs.Replica.{IsReplicaDocument}
 use Rattle.yd_modes.specs.declared.mode.Mode.{Mode}
 use Rattle.yd_v1.specs.Log.{StandsForLog}
 use Rattle.yd_v1.specs.LogWriting.{log_bytes}
-use Rattle.yd_updates.specs.Received.{Received, received_set}
+use Rattle.yd_ops.specs.Received.{Received, received_set}
 use Rattle.yd_world.specs.Shelf.{Shelf}
 use Rattle.yd_ending.specs.Ending.{Delivers, status_of, stop_of_fault}
 use Rattle.yd_ending.specs.Writing.{TakesAll}

@@ -4,7 +4,7 @@ use Rattle.yd_checking.specs.Law.{AreToldAlike}
 use Rattle.yd_fields.specs.UpdatePlan.{structs_in}
 use Rattle.yd_grouping.specs.Merged.{merge_of}
 use Rattle.yd_ops.specs.Value.{UpdateValue}
-use Rattle.yd_updates.specs.Agreement.{AreAlike, Agree, HaveSameContents, SayTheSame, operations_of_all}
+use Rattle.yd_ops.specs.Agreement.{AreAlike, Agree, HaveSameContents, SayTheSame, operations_of_all}
 use Rattle.yd_v2.specs.Reading.{most_structs}
 use Rattle.yd_world.specs.Shelf.{Shelf}
 use Rattle.yd_ending.specs.Writing.{TakesAll}

@@ -5,7 +5,7 @@ use Rattle.yd_meaning.specs.Order.{AreHonest}
 use Rattle.yd_ops.specs.Value.{UpdateValue}
 use Rattle.yd_playing.specs.Desk.{first_desk}
 use Rattle.yd_playing.specs.Played.{RulesAreKept}
-use Rattle.yd_updates.specs.Received.{received_set}
+use Rattle.yd_ops.specs.Received.{received_set}
 use Rattle.yd_files.specs.Verdict.{Inputs}
 use Rattle.yd_v1.specs.Log.{StandsForLog}
 use Rattle.yd_v1.specs.LogWriting.{log_bytes}

@@ -1,8 +1,12 @@
-pub mod ListsLemmas
-pub mod UnitsLemmas
 pub mod ArenaLemmas
-pub mod GrowthLemmas
 pub mod BesideLemmas
-pub mod TakingLemmas
+pub mod BorderLemmas
+pub mod CountLemmas
 pub mod CutLemmas
+pub mod GrowthLemmas
+pub mod ListsLemmas
+pub mod MarkLemmas
 pub mod RowLemmas
+pub mod TakingLemmas
+pub mod TotalLemmas
+pub mod UnitsLemmas

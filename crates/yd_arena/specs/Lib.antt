@@ -1,4 +1,6 @@
-pub mod Lists
 pub mod Arena
 pub mod Law
+pub mod Lists
+pub mod Marks
+pub mod MarksLaw
 pub mod Rows

@@ -6,6 +6,11 @@
 //! its runs; it need not keep the edit rules. A cut changes no unit and no order ([`law`]). A call
 //! that finds no memory leaves all units as they were.
 //!
+//! Beside the runs each place has a [`Mark`]: whether the run's units are deleted, and whether they
+//! count in lengths; and each list has the number of its live units ([`Marks`]). A deletion goes from
+//! run to run, takes no memory and touches no link. What is marked is told by ids, so a cut changes
+//! nothing.
+//!
 //! ```rust
 //! let mut arena = Arena::new(alloc);
 //! let list = arena.add_list()?;
@@ -17,10 +22,15 @@
 
 mod arena;
 mod beside;
+mod counting;
 mod growing;
 pub mod law;
 mod lists;
+mod mark;
+mod marks;
 
 pub use arena::{Arena, Found};
 pub use beside::Beside;
 pub use lists::Lists;
+pub use mark::Mark;
+pub use marks::Marks;

@@ -3,9 +3,9 @@ use Rattle.std.proofs.Common.{◌≡◌, ◌⊎◌, ◌∙◌, List, None, inl, 
 use Rattle.yd_words.specs.Each.{Each}
 use Rattle.yd_ops.specs.Valid.{IsValidUpdate}
 use Rattle.yd_ops.specs.Value.{UpdateValue}
-use Rattle.yd_updates.specs.Agreement.{Agree, HaveSameContents, SayTheSame}
-use Rattle.yd_updates.specs.Received.{Received, received_set}
-use Rattle.yd_updates.proofs.AgreementLemmas.{received_one, received_merged, received_written}
+use Rattle.yd_ops.specs.Agreement.{Agree, HaveSameContents, SayTheSame}
+use Rattle.yd_ops.specs.Received.{Received, received_set}
+use Rattle.yd_ops.proofs.AgreementLemmas.{received_one, received_merged, received_written}
 use Rattle.yd_grouping.specs.Disagreement.{disagreement_of}
 use Rattle.yd_grouping.proofs.DisagreementLemmas.{disagreement_none}
 use Rattle.yd_honesty.specs.Dishonest.{dishonest_of}
@@ -13,7 +13,7 @@ use Rattle.yd_honesty.proofs.DishonestLemmas.{dishonest_none}
 use Rattle.yd_meaning.specs.Collected.{held_count}
 use Rattle.yd_meaning.specs.Document.{Document, document_of}
 use Rattle.yd_meaning.specs.Held.{held_set, waiting_counts}
-use Rattle.yd_growing.proofs.ReplicaLemmas.{defined_is}
+use Rattle.yd_meaning.proofs.ReplicaLemmas.{defined_is}
 use Rattle.yd_checking.specs.declared.checking.Findings.{Findings}
 use Rattle.yd_checking.specs.Counts.{counts_of, list_count}
 use Rattle.yd_checking.specs.Findings.{findings_in, findings_of, IsFound}

@@ -1,11 +1,11 @@
 -- What is found of updates is found with the document of the state that received them.
 use Rattle.std.proofs.Common.{◌≡◌, ◌∙◌, List, ap, subst}
 use Rattle.yd_ops.specs.Value.{UpdateValue}
-use Rattle.yd_updates.specs.Received.{Received, received_set}
+use Rattle.yd_ops.specs.Received.{Received, received_set}
 use Rattle.yd_grouping.specs.Disagreement.{disagreement_of}
 use Rattle.yd_honesty.specs.Dishonest.{dishonest_of}
 use Rattle.yd_meaning.specs.Held.{held_set}
-use Rattle.yd_growing.specs.Replica.{IsReplicaDocument}
+use Rattle.yd_meaning.specs.Replica.{IsReplicaDocument}
 use Rattle.yd_state.specs.State.{StateValue, received_in, document_in, IsSound}
 use Rattle.yd_state.proofs.LentLemmas.{document_replica}
 use Rattle.yd_checking.specs.declared.checking.Findings.{Findings}

@@ -1,5 +1,5 @@
 -- How many lists have a held unit: as many as have a name and a unit in the document.
-use Rattle.std.proofs.Common.{◌≡◌, ℕ, ◌<◌, ◌⊎◌, ◌||◌, Bool, true, false, List, [], ◌∷◌, Some, None, inl, inr, map, length, nat_lt, get_or, take, ◌+◌, refl, sym, ap, ◌∙◌, subst, arith, tests, true≢false}
+use Rattle.std.proofs.Common.{◌≡◌, ℕ, suc, ◌<◌, ◌⊎◌, ◌||◌, Bool, true, false, List, [], ◌∷◌, Some, None, is_some, inl, inr, map, length, nat_lt, get_or, take, ◌+◌, refl, sym, ap, ◌∙◌, subst, arith, tests, true≢false}
 use Rattle.std.specs.Prelude.{slice_get, filter, cond, if◌then◌else◌}
 use Rattle.std.proofs.lemmas.List.{length-map}
 use Rattle.std.proofs.lemmas.List.Filters.{length-filter_more}
@@ -7,18 +7,19 @@ use Rattle.yd_words.specs.Test.{one_if}
 use Rattle.yd_words.specs.Member.{IsIn, AreDistinct}
 use Rattle.yd_words.proofs.FilterLemmas.{kept_one, one_kept}
 use Rattle.yd_ids.specs.declared.id.Id.{Id}
+use Rattle.yd_origins.specs.Deleted.{last_of}
 use Rattle.yd_ops.specs.declared.lists.List.{List as DocList}
 use Rattle.yd_ops.specs.Operation.{Operation}
-use Rattle.yd_updates.specs.Received.{Received}
-use Rattle.yd_updates.proofs.OneOfLemmas.{id_is_there}
+use Rattle.yd_ops.specs.Received.{Received}
+use Rattle.yd_ops.proofs.OneOfLemmas.{id_is_there}
 use Rattle.yd_grouping.specs.Disagreement.{some_passes}
-use Rattle.yd_growing.specs.Replica.{IsReplicaDocument}
+use Rattle.yd_meaning.specs.Replica.{IsReplicaDocument}
 use Rattle.yd_meaning.specs.Document.{Document}
 use Rattle.yd_meaning.specs.Held.{held_set, standing}
 use Rattle.yd_meaning.specs.ListNames.{same_list_decides}
 use Rattle.yd_meaning.specs.Names.{same_list}
 use Rattle.yd_meaning.specs.Order.{list_of, list_or_root}
-use Rattle.yd_state.specs.Lent.{Lent, lent}
+use Rattle.yd_state.specs.Lent.{last_unit}
 use Rattle.yd_checking.specs.Counts.{with_list, lists_among, is_used}
 use Rattle.yd_checking.proofs.DistinctLemmas.{one_length, distinct_pass, distinct_places, in_place}
 
@@ -152,7 +153,15 @@ used_more document names n e used less same = length-filter_more (is_used docume
     go true = refl
     go false = refl
 
--- a list has a unit where its units are so many
-pub units_used : (document : Document) (list : DocList) (deleted : Id → Bool) (units : List Lent) (len : ℕ) → len ≡ length units → units ≡ map (lent deleted) (document.units list) →
-    nat_lt 0 len ≡ is_used document list
-units_used document list deleted units len many lends = ap (nat_lt 0) (many ∙ ap length lends ∙ length-map (document.units list) (lent deleted))
+-- an id stands last where some stand
+last_there : (xs : List Id) → is_some (last_of xs) ≡ nat_lt 0 (length xs)
+last_there [] = refl
+last_there (x ∷ []) = refl
+last_there (x ∷ y ∷ xs) = last_there (y ∷ xs) ∙ some (length xs) ∙ sym (some (suc (length xs)))
+  where
+    some : (n : ℕ) → nat_lt 0 (suc n) ≡ true
+    some n = grind (arith, tests)
+
+-- a list has a unit where one stands last
+pub last_used : (document : Document) (list : DocList) → is_some (last_unit document list) ≡ is_used document list
+last_used document list = last_there (map (λ (o : Operation). o.id) (document.units list)) ∙ ap (nat_lt 0) (length-map (document.units list) (λ (o : Operation). o.id))

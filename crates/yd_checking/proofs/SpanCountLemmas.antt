@@ -15,8 +15,8 @@ use Rattle.yd_ids.proofs.IdLemmas.{same_numbers}
 use Rattle.yd_ids.proofs.SetLemmas.{once}
 use Rattle.yd_ops.specs.Operation.{Operation, later_id}
 use Rattle.yd_origins.specs.Table.{ids_of}
-use Rattle.yd_updates.specs.Received.{has_operation, IsWritten}
-use Rattle.yd_updates.proofs.OneOfLemmas.{operation_with}
+use Rattle.yd_ops.specs.Received.{has_operation, IsWritten}
+use Rattle.yd_ops.proofs.OneOfLemmas.{operation_with}
 use Rattle.yd_meaning.specs.Held.{count_of_ids}
 use Rattle.yd_meaning.specs.Order.{rows_of}
 use Rattle.yd_meaning.proofs.RowLemmas.{one_row, row_one, written_distinct, distinct_kept}

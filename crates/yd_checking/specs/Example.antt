@@ -1,6 +1,6 @@
 -- What is counted of small documents, as the checker computes it.
 use Rattle.std.specs.Prelude.{◌≡◌, ℕ, [], ◌∷◌}
-use Rattle.yd_updates.specs.Received.{received_set}
+use Rattle.yd_ops.specs.Received.{received_set}
 use Rattle.yd_meaning.specs.Collected.{abc_put, abc_deleted, array_made, five_put, five_gone, list_gone, origin_gone}
 use Rattle.yd_checking.specs.Counts.{counts_of}
 use Rattle.yd_checking.specs.declared.counts.Counts.{Counts}

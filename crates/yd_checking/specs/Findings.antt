@@ -1,12 +1,12 @@
 -- What is told of updates: the numbers of what they bring, and the smallest ids that break agreement and the edit rules (own).
 use Rattle.std.specs.Prelude.{◌≡◌, List}
 use Rattle.yd_ops.specs.Value.{UpdateValue}
-use Rattle.yd_updates.specs.Received.{received_set}
+use Rattle.yd_ops.specs.Received.{received_set}
 use Rattle.yd_grouping.specs.Disagreement.{disagreement_of}
 use Rattle.yd_honesty.specs.Dishonest.{dishonest_of}
 use Rattle.yd_meaning.specs.Document.{Document, document_of}
 use Rattle.yd_meaning.specs.Held.{held_set}
-use Rattle.yd_growing.specs.Replica.{IsReplicaDocument}
+use Rattle.yd_meaning.specs.Replica.{IsReplicaDocument}
 use Rattle.yd_checking.specs.Counts.{counts_in}
 use Rattle.yd_checking.specs.declared.checking.Findings.{Findings}
 

@@ -3,7 +3,7 @@ use Rattle.std.specs.Prelude.{◌≡◌, ◌⊎◌, List, None}
 use Rattle.yd_words.specs.Each.{Each}
 use Rattle.yd_ops.specs.Valid.{IsValidUpdate}
 use Rattle.yd_ops.specs.Value.{UpdateValue}
-use Rattle.yd_updates.specs.Agreement.{operations_of_all, AreAlike, Agree, HaveSameContents, SayTheSame}
+use Rattle.yd_ops.specs.Agreement.{operations_of_all, AreAlike, Agree, HaveSameContents, SayTheSame}
 use Rattle.yd_checking.specs.declared.checking.Findings.{Findings}
 use Rattle.yd_checking.specs.Findings.{findings_of, IsFound}
 

@@ -1,9 +1,10 @@
 //! How many lists have a held unit.
 
-ghost use Rattle.std.specs.Prelude.{◌≡◌, ◌<◌, length, slice_get, IfSome};
+ghost use Rattle.std.specs.Prelude.{◌≡◌, ◌<◌, Some, None, length, slice_get, IfSome, IfNone};
 ghost use Rattle.yd_state.specs.State.{received_in, document_in};
 ghost use Rattle.yd_checking.specs.Counts.{list_count, is_used};
 
+use yd_ops::List;
 use yd_state::State;
 
 /// How many lists have a held unit. It takes a step for each list that has a name.
@@ -28,5 +29,16 @@ fn has_units(state: &State, n: usize) -> bool
     ensures { IfSome (slice_get state.now.held.names n)
         (λ name. result ≡ is_used (document_in state.now) name) }
 {
-    state.list_at(n).len() > 0
+    match name_at(state.names(), n) {
+        Some(name) => state.last_of(name).is_some(),
+        None => false,
+    }
+}
+
+/// The name with a number, where there is one.
+fn name_at(names: &[List], n: usize) -> Option<&List>
+    ensures found { IfSome result (λ name. slice_get names.now n ≡ Some name.now) }
+    ensures none { IfNone result (slice_get names.now n ≡ None) }
+{
+    names.get(n)
 }

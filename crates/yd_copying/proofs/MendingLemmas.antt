@@ -1,7 +1,7 @@
 -- Halves that are alone become U+FFFD, from the front on.
 use Rattle.std.proofs.Common.{◌≡◌, ℕ, zero, suc, ◌+◌, ◌<◌, ◌≤◌, ◌&&◌, true, false, List, [], ◌∷◌, ◌++◌, length, drop, get_or, refl, sym, ap, ◌∙◌, arith, true≢false, append_assoc, append-nil}
 use Rattle.std.proofs.lemmas.List.{drop_all, get_or_default}
-use Rattle.yd_updates.specs.Pairs.{is_high, is_low}
+use Rattle.yd_ops.specs.Pairs.{is_high, is_low}
 use Rattle.yd_copying.specs.Content.{alone, whole_units}
 use Rattle.yd_copying.specs.Mending.{is_pair_at}
 

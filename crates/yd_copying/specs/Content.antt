@@ -3,7 +3,7 @@ use Rattle.std.specs.Prelude.{ℕ, Bool, true, false, ◌&&◌, ◌||◌, List, 
 use Rattle.yd_any.specs.Tree.{AnyTree, AnyTrees, no_trees, tree}
 use Rattle.yd_ops.specs.Operation.{UnitContent, text_unit, any_unit, json_unit, bytes, embedded, mark, nested_type, deleted_unit, gone_unit}
 use Rattle.yd_ops.specs.Value.{ContentValue, json, binary, string, embed, format, nested, any, deleted}
-use Rattle.yd_updates.specs.Pairs.{is_high, is_low}
+use Rattle.yd_ops.specs.Pairs.{is_high, is_low}
 
 -- ---- units
 

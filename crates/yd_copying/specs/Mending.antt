@@ -1,6 +1,6 @@
 -- A pair at a place of a text.
 use Rattle.std.specs.Prelude.{ℕ, zero, suc, Bool, false, ◌&&◌, List, [], ◌∷◌}
-use Rattle.yd_updates.specs.Pairs.{is_high, is_low}
+use Rattle.yd_ops.specs.Pairs.{is_high, is_low}
 
 -- whether the unit at a place is a first half, and the next one a second half
 abbrev pub is_pair_at : List ℕ → ℕ → Bool

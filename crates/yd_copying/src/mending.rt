@@ -1,7 +1,7 @@
 //! Halves of pairs that are alone.
 
 ghost use Rattle.std.specs.Prelude.{◌≡◌, ◌<◌, ◌+◌, ◌&&◌, length, slice_index, IfOk, nat_lt};
-ghost use Rattle.yd_updates.specs.Pairs.{is_high as is_high_half, is_low as is_low_half};
+ghost use Rattle.yd_ops.specs.Pairs.{is_high as is_high_half, is_low as is_low_half};
 ghost use Rattle.yd_copying.specs.Content.{alone, whole_units};
 ghost use Rattle.yd_copying.specs.Mending.{is_pair_at};
 

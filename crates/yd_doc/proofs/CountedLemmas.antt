@@ -35,6 +35,26 @@ counted_lent is_deleted (o ∷ os) = go (is_deleted o.id) (is_counted o.content)
     go false true f e = ap (λ ids. o.id ∷ ids) e ∙ sym (ap (λ u. map (λ (p : Operation). p.id) (if u then o ∷ filter (λ (p : Operation). is_counted p.content) live else filter (λ (p : Operation). is_counted p.content) live)) f)
     go false false f e = e ∙ sym (ap (λ u. map (λ (p : Operation). p.id) (if u then o ∷ filter (λ (p : Operation). is_counted p.content) live else filter (λ (p : Operation). is_counted p.content) live)) f)
 
+-- those that are live and counted are the counted ones among the live ones
+pub counted_live : (is_deleted : Id → Bool) (os : List Operation) →
+    filter (λ (o : Operation). not (is_deleted o.id) && is_counted o.content) os ≡ filter (λ (o : Operation). is_counted o.content) (filter (λ (o : Operation). not (is_deleted o.id)) os)
+counted_live is_deleted [] = refl
+counted_live is_deleted (o ∷ os) = go (is_deleted o.id) (is_counted o.content) refl (counted_live is_deleted os)
+  where
+    live : List Operation
+    live = filter (λ (p : Operation). not (is_deleted p.id)) os
+
+    counted : List Operation
+    counted = filter (λ (p : Operation). is_counted p.content) live
+
+    both : List Operation
+    both = filter (λ (p : Operation). not (is_deleted p.id) && is_counted p.content) os
+
+    go : (d t : Bool) → is_counted o.content ≡ t → both ≡ counted → (if not d && t then o ∷ both else both) ≡ filter (λ (p : Operation). is_counted p.content) (if not d then o ∷ live else live)
+    go true t f e = e
+    go false true f e = ap (λ us. o ∷ us) e ∙ sym (ap (λ u. if u then o ∷ counted else counted) f)
+    go false false f e = e ∙ sym (ap (λ u. if u then o ∷ counted else counted) f)
+
 -- the unit with an index is the one with this place
 unit_placed : (os : List Operation) (index : ℕ) → slice_get (map (λ (o : Operation). o.id) os) index ≡ unit_at os index
 unit_placed [] index = refl

@@ -12,7 +12,7 @@ use Rattle.yd_ops.specs.declared.lists.List.{List as DocList}
 use Rattle.yd_ops.specs.Joining.{stands_behind, are_of_one_kind, run_joins}
 use Rattle.yd_ops.specs.Operation.{Operation, later_id, operations_of_run}
 use Rattle.yd_ops.specs.Value.{len_of, RunValue, StructValue, item}
-use Rattle.yd_updates.specs.Received.{Received, has_operation}
+use Rattle.yd_ops.specs.Received.{Received, has_operation}
 use Rattle.yd_grouping.specs.Groups.{Group, of_run, operations_of_groups, AreApart}
 use Rattle.yd_grouping.specs.Grouped.{blocks_of, front_block, grouping_of, with_gap, IsGrouped}
 use Rattle.yd_grouping.specs.Law.{HaveUnits, Ascend}

@@ -2,7 +2,7 @@
 use Rattle.std.specs.Prelude.{◌≡◌, List, None}
 use Rattle.yd_ops.specs.Valid.{IsValidUpdate}
 use Rattle.yd_ops.specs.Value.{UpdateValue}
-use Rattle.yd_updates.specs.Received.{received_after}
+use Rattle.yd_ops.specs.Received.{received_after}
 use Rattle.yd_editing.specs.Basis.{Basis}
 use Rattle.yd_editing.specs.Made.{update_of_edit}
 use Rattle.yd_editing.specs.Refused.{refusal_of}

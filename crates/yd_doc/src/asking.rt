@@ -2,15 +2,14 @@
 
 ghost use Rattle.std.specs.Prelude.{◌≡◌, None, Some, IfSome, IfNone};
 ghost use Rattle.yd_editing.specs.Refused.{has_high};
-ghost use Rattle.yd_standing.specs.Standing.{kind_where, list_where, stands_in};
+ghost use Rattle.yd_making.specs.Standing.{kind_where, list_where, stands_in};
 ghost use Rattle.yd_doc.specs.Editing.{own_basis};
 ghost use Rattle.yd_doc.specs.Kept.{own_document, received_of};
 
 use crate::replica::Replica;
 use yd_ids::Id;
-use yd_making::Basis;
+use yd_making::{Basis, kind_of, list_of};
 use yd_ops::{Kind, List};
-use yd_standing::{kind_of, list_of};
 
 impl Replica {
     /// The list that the unit with the id is in, deleted or not: that of its left origin, else of its

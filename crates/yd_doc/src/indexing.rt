@@ -15,19 +15,12 @@ use yd_state::RunView;
 
 impl Replica {
     /// How many live counted units a list has: UTF-16 units, values, embeds, byte strings and types.
-    /// Marks are not counted (Yjs 13, the length of a type). It takes time as reading the list by
-    /// pieces does, and copies nothing.
+    /// Marks are not counted (Yjs 13, the length of a type). It takes time with the logarithm of how
+    /// many lists there are, and walks through no list.
     pub fn length(&self, list: &List) -> u64
         ensures { result ≡ length (counted_units (own_document self.now) list.now) }
     {
-        let mut view = self.list(list);
-        // How many units there are is in range, and so is how many of them are counted.
-        let _units = view.len();
-        let mut count = 0;
-        while let Some(piece) = view.next() {
-            count += counted_len(&piece);
-        }
-        count
+        self.state.length(list)
     }
 
     /// The id of the live counted unit with an index, from 0, and none where the index is not below

@@ -2,26 +2,17 @@
 
 ghost use Rattle.std.specs.Prelude.{◌≤◌, ℕ};
 ghost use Rattle.yd_ids.specs.Vector.{clock_of};
-ghost use Rattle.yd_updates.specs.Law.{IsReceived};
-ghost use Rattle.yd_updates.specs.Received.{received_after};
-ghost use Rattle.yd_meaning.specs.Document.{IsDocumentOf};
+ghost use Rattle.yd_ops.specs.ReceivedLaw.{IsReceived};
+ghost use Rattle.yd_ops.specs.Received.{received_after};
 ghost use Rattle.yd_meaning.specs.Held.{held_clock, held_set};
 ghost use Rattle.yd_meaning.specs.Law.{IsCompleted};
-ghost use Rattle.yd_growing.specs.Replica.{IsReplicaDocument};
+ghost use Rattle.yd_meaning.specs.Replica.{IsReplicaDocument};
 ghost use Rattle.yd_grouping.specs.Groupable.{AreGroupable};
 ghost use Rattle.yd_grouping.specs.Merged.{reply_of};
 ghost use Rattle.yd_doc.specs.Kept.{received_of, own_deletes, own_document};
 
 use crate::replica::Replica;
 use yd_ids::Vector;
-
-/// The document of a replica is the one that what it received defines.
-pub fn own_document_is_defined(replica: &Replica)
-    ensures { IsDocumentOf (own_document replica.now) (received_of replica.now) }
-{
-    // What is kept is looked at, since its invariant says this.
-    let _state = &replica.state;
-}
 
 /// The document of a replica is one that a replica may have that received this: its lists have what
 /// stands, as it is held, and where the edit rules are kept it is the one that is defined.

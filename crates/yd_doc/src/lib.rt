@@ -1,8 +1,8 @@
-//! A replica: what one client received, and the document that this defines.
+//! A replica: what one client received, and the document that it has of that.
 //!
-//! What it tells is read of its own document ([`Replica`]). This is the document that the operations
-//! and deletions that it received define (`yd_meaning`), in whatever order and however often they
-//! came ([`law`], [`edit_law`]). An `apply` that finds no memory has
+//! What it tells is read of its own document ([`Replica`]). Where the edit rules are kept, this is the
+//! document that the operations and deletions that it received define (`yd_meaning`), in whatever
+//! order and however often they came ([`law`], [`edit_law`]). An `apply` that finds no memory has
 //! received nothing: the replica tells what it told before, and that it is behind.
 //!
 //! ```rust

@@ -3,7 +3,7 @@
 ghost use Rattle.std.specs.Prelude.{◌≡◌};
 ghost use Rattle.yd_words.specs.Member.{IsIn};
 ghost use Rattle.yd_ops.specs.Operation.{Operation};
-ghost use Rattle.yd_updates.specs.Law.{ArePaired};
+ghost use Rattle.yd_ops.specs.ReceivedLaw.{ArePaired};
 ghost use Rattle.yd_state.specs.Lent.{lent_units, units_left, last_unit};
 ghost use Rattle.yd_doc.specs.Kept.{received_of, own_document};
 

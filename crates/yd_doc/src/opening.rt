@@ -5,7 +5,7 @@ ghost use Rattle.yd_words.specs.Each.{Each};
 ghost use Rattle.yd_ids.specs.Id.{IsClient};
 ghost use Rattle.yd_ops.specs.Valid.{IsValidUpdate};
 ghost use Rattle.yd_ops.specs.View.{update_value};
-ghost use Rattle.yd_updates.specs.Received.{received_set};
+ghost use Rattle.yd_ops.specs.Received.{received_set};
 ghost use Rattle.yd_doc.specs.Kept.{received_of};
 
 use crate::fault::NoMemory;
@@ -17,9 +17,8 @@ use yd_state::State;
 
 impl Replica {
     /// A replica of this client that has received these updates, one after another: the way to open
-    /// a document that lies in many updates. All lists are put in order once, when all is received,
-    /// and what is deleted is found once; but for that it takes time as `apply` of each does. Where
-    /// memory ends there is no replica.
+    /// a document that lies in many updates. They are merged first, and the merge is received at once.
+    /// Where memory ends there is no replica.
     pub fn of_updates(
         alloc: Global,
         client: Client,

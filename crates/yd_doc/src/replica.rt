@@ -5,11 +5,11 @@ ghost use Rattle.yd_ids.specs.Id.{IsClient};
 ghost use Rattle.yd_ids.specs.Vector.{clock_of};
 ghost use Rattle.yd_ops.specs.Valid.{IsValidUpdate};
 ghost use Rattle.yd_ops.specs.View.{update_value};
-ghost use Rattle.yd_updates.specs.Received.{nothing_received, received_after};
+ghost use Rattle.yd_ops.specs.Received.{nothing_received, received_after};
 ghost use Rattle.yd_meaning.specs.Held.{held_set, held_clock, waiting_counts};
 ghost use Rattle.yd_meaning.specs.Document.{AreDeletedIn};
 ghost use Rattle.yd_grouping.specs.Merged.{reply_of};
-ghost use Rattle.yd_state.specs.Brings.{BringsSomething, BringsUnknown};
+ghost use Rattle.yd_state.specs.Brings.{BringsUnknown};
 ghost use Rattle.yd_doc.specs.Kept.{received_of, own_deletes, own_document};
 ghost use Rattle.yd_doc.specs.Waiting.{counts_of};
 
@@ -24,8 +24,8 @@ use yd_state::State;
 
 /// What one client received, and what it holds of it. Contracts see what it received
 /// (`received_of`) and the document that it has (`own_document`), which is one that a replica may
-/// have that received this (`law::own_document_is_replicas`). Today it is the one that the received
-/// operations and deletions define, with no history of arrivals (`law::own_document_is_defined`).
+/// have that received this (`law::own_document_is_replicas`). Where the edit rules are kept, it is the
+/// one that the received operations and deletions define, with no history of arrivals.
 #[derive(Drop)]
 pub struct Replica {
     pub(crate) alloc: Global,
@@ -86,24 +86,17 @@ impl Replica {
     /// deletes what it spells deleted or gone. Where memory ends it has received nothing of the
     /// update, tells what it told before, and is behind.
     ///
-    /// What waits is not looked at again until what it lacks is held. The call takes time with the
-    /// update, with the clients, the lists, the parts of runs and the spans of deletions that are
-    /// known, with the ids in lists of deleted items and under overwritten keys, and an insertion for
-    /// each part of a run that is new. Where something is held, it also puts each list that got units
-    /// in order as a whole. Where the update says less of something that was received, all that is
-    /// received is held anew and all lists are put in order; what units held that are lowered stays in
-    /// memory.
-    ///
-    /// Gone units are not walked, and deleted ones only where their list is put in order. A few bytes
-    /// may spell a deleted run of as many units as there are clocks: such a list takes that much time
-    /// and memory, and where memory ends the update is not received.
+    /// What waits is not looked at again until what it lacks is held. Each new run goes into its list by
+    /// the integration scan, whose steps are runs. The call takes time with the update and with what is
+    /// deleted besides; of what is known, it copies the clocks of the clients and the spans of deletions,
+    /// and moves the entries behind a new one. No list is walked as a whole, and no deleted run unit by
+    /// unit. Where the update says less of something that was received, all that is received is held anew
+    /// and all lists grow anew; what units held that are lowered stays in memory.
     pub fn apply(&mut self, update: &Update) -> Result<bool, NoMemory>
         requires { IsValidUpdate (update_value update.now) }
         ensures received { OnOk result (received_of self.new
             ≡ received_after (received_of self.old) (update_value update.now)) }
-        ensures brings { IfOk result (λ brings. IsTrue brings
-            ↔ BringsSomething (update_value update.now) (received_of self.old)) }
-        ensures unknown { IfOk result (λ brings. IsTrue brings ↔ BringsUnknown
+        ensures brings { IfOk result (λ brings. IsTrue brings ↔ BringsUnknown
             (update_value update.now) (received_of self.old) (own_deletes self.old)) }
         ensures caught_up { OnOk result (self.new.is_behind ≡ false) }
         ensures client { self.new.client ≡ self.old.client }

@@ -10,9 +10,9 @@ use Rattle.yd_ids.specs.Ids.{is_same_neighbour}
 use Rattle.yd_ops.specs.declared.lists.List.{List as DocList}
 use Rattle.yd_ops.specs.Operation.{Operation}
 use Rattle.yd_origins.specs.Deleted.{last_of}
-use Rattle.yd_updates.specs.Received.{has_operation, Received}
-use Rattle.yd_updates.specs.Law.{IsReceived}
-use Rattle.yd_updates.proofs.OneOfLemmas.{ids_stay}
+use Rattle.yd_ops.specs.Received.{has_operation, Received}
+use Rattle.yd_ops.specs.ReceivedLaw.{IsReceived}
+use Rattle.yd_ops.proofs.OneOfLemmas.{ids_stay}
 use Rattle.yd_meaning.specs.Names.{has_key, item_of_list}
 use Rattle.yd_meaning.specs.Held.{held_set, standing, is_named}
 use Rattle.yd_meaning.specs.Order.{list_of, AreHonest}

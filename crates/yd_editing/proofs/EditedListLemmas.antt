@@ -11,8 +11,8 @@ use Rattle.yd_ids.specs.Set.{HasId}
 use Rattle.yd_ops.specs.declared.lists.List.{List as DocList}
 use Rattle.yd_ops.specs.Value.{len_of}
 use Rattle.yd_ops.specs.Operation.{Operation, operations_of_run}
-use Rattle.yd_updates.specs.Received.{has_operation, all_taken, Received}
-use Rattle.yd_updates.specs.Law.{IsReceived}
+use Rattle.yd_ops.specs.Received.{has_operation, all_taken, Received}
+use Rattle.yd_ops.specs.ReceivedLaw.{IsReceived}
 use Rattle.yd_meaning.specs.ListNames.{same_list_decides}
 use Rattle.yd_meaning.specs.Names.{same_list, item_of_list}
 use Rattle.yd_meaning.specs.Held.{held_set, held_clock, standing, is_named}

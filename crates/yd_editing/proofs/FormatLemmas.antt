@@ -15,7 +15,7 @@ use Rattle.yd_any.specs.Tree.{AnyTree, null}
 use Rattle.yd_ops.specs.declared.lists.List.{List as DocList}
 use Rattle.yd_ops.specs.Value.{format, RunValue}
 use Rattle.yd_ops.specs.Operation.{mark, Operation}
-use Rattle.yd_updates.specs.Received.{has_operation, Received}
+use Rattle.yd_ops.specs.Received.{has_operation, Received}
 use Rattle.yd_meaning.specs.ListNames.{same_list_decides}
 use Rattle.yd_meaning.specs.Held.{held_set, held_clock, standing, is_named}
 use Rattle.yd_meaning.specs.Order.{order_of}

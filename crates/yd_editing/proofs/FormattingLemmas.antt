@@ -12,7 +12,7 @@ use Rattle.yd_ids.specs.Set.{HasId}
 use Rattle.yd_any.specs.Tree.{AnyTree, null}
 use Rattle.yd_ops.specs.declared.lists.List.{List as DocList}
 use Rattle.yd_ops.specs.Operation.{Operation}
-use Rattle.yd_updates.specs.Received.{Received}
+use Rattle.yd_ops.specs.Received.{Received}
 use Rattle.yd_meaning.specs.Held.{is_named}
 use Rattle.yd_meaning.specs.Document.{document_of}
 use Rattle.yd_meaning.specs.Text.{live_units}

@@ -6,11 +6,11 @@ use Rattle.yd_words.proofs.MemberLemmas.{in_left_part, in_right_part, in_parts}
 use Rattle.yd_ids.specs.Ids.{is_written_before}
 use Rattle.yd_ids.proofs.IdLemmas.{written_differs}
 use Rattle.yd_ops.specs.Operation.{Operation}
-use Rattle.yd_updates.specs.Received.{has_operation, IsWritten, taken_in, all_taken, with_groups}
-use Rattle.yd_updates.proofs.OneOfLemmas.{id_not_there, none_has}
-use Rattle.yd_updates.proofs.WritingLemmas.{taken_is, taken_new, taken_stays, taken_written}
-use Rattle.yd_updates.proofs.MendingLemmas.{HasPartners, mended_whole}
-use Rattle.yd_updates.proofs.GroupLemmas.{all_of}
+use Rattle.yd_ops.specs.Received.{has_operation, IsWritten, taken_in, all_taken, with_groups}
+use Rattle.yd_ops.proofs.OneOfLemmas.{id_not_there, none_has}
+use Rattle.yd_ops.proofs.WritingLemmas.{taken_is, taken_new, taken_stays, taken_written}
+use Rattle.yd_ops.proofs.MendingLemmas.{HasPartners, mended_whole}
+use Rattle.yd_ops.proofs.GroupLemmas.{all_of}
 use Rattle.yd_editing.proofs.StepLemmas.{taken_append}
 
 -- no operation has an id that is there

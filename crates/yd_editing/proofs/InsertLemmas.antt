@@ -14,7 +14,7 @@ use Rattle.yd_ops.specs.declared.lists.List.{List as DocList}
 use Rattle.yd_ops.specs.Value.{ContentValue, len_of}
 use Rattle.yd_ops.specs.Operation.{UnitContent, Operation, units_of_content, later_id, operations_from}
 use Rattle.yd_ops.proofs.OperationLemmas.{length-units_of_content}
-use Rattle.yd_updates.specs.Received.{Received}
+use Rattle.yd_ops.specs.Received.{Received}
 use Rattle.yd_meaning.specs.Held.{is_named}
 use Rattle.yd_meaning.specs.Document.{document_of}
 use Rattle.yd_shown.specs.Shown.{is_counted}

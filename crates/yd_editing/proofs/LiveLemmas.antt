@@ -10,8 +10,8 @@ use Rattle.yd_ops.specs.declared.lists.List.{List as DocList}
 use Rattle.yd_ops.specs.Operation.{Operation}
 use Rattle.yd_origins.specs.Deleted.{last_of}
 use Rattle.yd_origins.specs.Table.{ids_of}
-use Rattle.yd_updates.specs.Received.{has_operation, all_taken}
-use Rattle.yd_updates.proofs.OneOfLemmas.{ids_stay}
+use Rattle.yd_ops.specs.Received.{has_operation, all_taken}
+use Rattle.yd_ops.proofs.OneOfLemmas.{ids_stay}
 use Rattle.yd_meaning.specs.Held.{standing, is_lost}
 use Rattle.yd_meaning.specs.Names.{has_key, item_of_list}
 use Rattle.yd_meaning.specs.Order.{rows_of, list_of, order_of}

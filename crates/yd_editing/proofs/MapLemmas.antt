@@ -14,7 +14,7 @@ use Rattle.yd_ops.specs.declared.lists.Parent.{Parent}
 use Rattle.yd_ops.specs.Operation.{UnitContent, Operation, units_of_content}
 use Rattle.yd_ops.specs.Value.{ContentValue}
 use Rattle.yd_origins.specs.Deleted.{last_of}
-use Rattle.yd_updates.specs.Received.{has_operation, Received}
+use Rattle.yd_ops.specs.Received.{has_operation, Received}
 use Rattle.yd_meaning.specs.Names.{item_of_list}
 use Rattle.yd_meaning.specs.Held.{held_set, standing, is_named}
 use Rattle.yd_meaning.specs.Order.{order_of}

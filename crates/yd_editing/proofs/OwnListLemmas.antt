@@ -13,9 +13,9 @@ use Rattle.yd_ops.specs.declared.lists.List.{List as DocList}
 use Rattle.yd_ops.specs.Value.{ContentValue}
 use Rattle.yd_ops.specs.Operation.{Operation, operations_of_run}
 use Rattle.yd_ops.specs.Valid.{IsValidUpdate}
-use Rattle.yd_updates.specs.Received.{has_operation, all_taken, Received}
-use Rattle.yd_updates.proofs.ReceivedLemmas.{after_is_received}
-use Rattle.yd_updates.proofs.OneOfLemmas.{operation_with, id_there, ids_stay}
+use Rattle.yd_ops.specs.Received.{has_operation, all_taken, Received}
+use Rattle.yd_ops.proofs.ReceivedLemmas.{after_is_received}
+use Rattle.yd_ops.proofs.OneOfLemmas.{operation_with, id_there, ids_stay}
 use Rattle.yd_meaning.specs.ListNames.{same_list_decides}
 use Rattle.yd_meaning.specs.Names.{item_of_list}
 use Rattle.yd_meaning.specs.Held.{held_set, held_clock, standing, is_named}

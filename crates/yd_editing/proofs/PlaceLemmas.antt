@@ -19,9 +19,9 @@ use Rattle.yd_origins.specs.Operations.{table_of_list}
 use Rattle.yd_origins.proofs.NextLemmas.{next_there, next_is_table, next_fits, next_place}
 use Rattle.yd_origins.proofs.ListTableLemmas.{own_member, own_list, in_own}
 use Rattle.yd_origins.proofs.SortedLemmas.{origin_order_in}
-use Rattle.yd_updates.specs.Received.{has_operation, IsWritten, taken_in}
-use Rattle.yd_updates.proofs.OneOfLemmas.{operation_with, id_is_there, id_there, id_not_there, ids_stay}
-use Rattle.yd_updates.proofs.WritingLemmas.{taken_is, taken_new, taken_stays, taken_written}
+use Rattle.yd_ops.specs.Received.{has_operation, IsWritten, taken_in}
+use Rattle.yd_ops.proofs.OneOfLemmas.{operation_with, id_is_there, id_there, id_not_there, ids_stay}
+use Rattle.yd_ops.proofs.WritingLemmas.{taken_is, taken_new, taken_stays, taken_written}
 use Rattle.yd_meaning.specs.Held.{given, item_carried, sources, held_clock, is_gone, standing}
 use Rattle.yd_meaning.specs.Order.{row_of, rows_of, operation_set, list_of, order_of, AreHonest}
 use Rattle.yd_meaning.specs.Law.{StaysAsItIs, IsMade, StaysHonestWith, IsHonestList}

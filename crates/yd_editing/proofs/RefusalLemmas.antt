@@ -8,14 +8,14 @@ use Rattle.yd_ids.specs.declared.id.Id.{Id}
 use Rattle.yd_ids.specs.Ids.{is_same}
 use Rattle.yd_ops.specs.declared.lists.List.{List as DocList}
 use Rattle.yd_ops.specs.Operation.{Operation}
-use Rattle.yd_updates.specs.Received.{IsWritten, has_operation, Received}
-use Rattle.yd_updates.proofs.OneOfLemmas.{operation_with}
+use Rattle.yd_ops.specs.Received.{IsWritten, has_operation, Received}
+use Rattle.yd_ops.proofs.OneOfLemmas.{operation_with}
 use Rattle.yd_meaning.specs.Held.{held_set, standing}
 use Rattle.yd_meaning.specs.Names.{item_of_list}
 use Rattle.yd_meaning.specs.Order.{order_of}
 use Rattle.yd_meaning.specs.Document.{Document}
-use Rattle.yd_growing.specs.Own.{ids_in}
-use Rattle.yd_growing.specs.Replica.{IsReplicaDocument}
+use Rattle.yd_meaning.specs.Own.{ids_in}
+use Rattle.yd_meaning.specs.Replica.{IsReplicaDocument}
 use Rattle.yd_editing.specs.Step.{Step, make, remove, Refusal, no_place, own_waiting, first_or}
 use Rattle.yd_editing.specs.Basis.{Basis, basis_over, is_type, has_type_item, first_waiting}
 use Rattle.yd_editing.specs.Made.{runs_of}

@@ -10,7 +10,7 @@ use Rattle.yd_ids.specs.Span.{InSpan, EndsBefore}
 use Rattle.yd_ids.specs.Set.{HasId, AreMaximal}
 use Rattle.yd_ids.specs.Ids.{is_smaller}
 use Rattle.yd_ops.specs.Operation.{Operation}
-use Rattle.yd_updates.specs.Received.{has_operation, IsWritten, Received}
+use Rattle.yd_ops.specs.Received.{has_operation, IsWritten, Received}
 use Rattle.yd_meaning.specs.Held.{held_set, held_clock}
 use Rattle.yd_meaning.proofs.VectorLemmas.{held_below}
 use Rattle.yd_editing.specs.Step.{Refusal, not_held, first_or}

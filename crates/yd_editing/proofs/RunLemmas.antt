@@ -13,8 +13,8 @@ use Rattle.yd_ops.specs.declared.lists.List.{List as DocList}
 use Rattle.yd_ops.specs.Value.{ContentValue, json, binary, string, embed, format, nested, any, deleted}
 use Rattle.yd_ops.specs.Operation.{UnitContent, json_unit, text_unit, Operation, level_of, units_of_content, units_of_trees, deleted_units, later_id, operations_from, operations_of_run}
 use Rattle.yd_origins.proofs.MemberLemmas.{in_up_to, parts_of}
-use Rattle.yd_updates.specs.Received.{has_operation, taken_in, all_taken}
-use Rattle.yd_updates.proofs.OneOfLemmas.{operation_with, id_is_there, id_there, ids_stay}
+use Rattle.yd_ops.specs.Received.{has_operation, taken_in, all_taken}
+use Rattle.yd_ops.proofs.OneOfLemmas.{operation_with, id_is_there, id_there, ids_stay}
 use Rattle.yd_meaning.specs.Held.{item_carried, held_clock, standing}
 use Rattle.yd_meaning.specs.Names.{item_of_list}
 use Rattle.yd_meaning.specs.Order.{list_or_root, list_of, order_of}

@@ -12,8 +12,8 @@ use Rattle.yd_ops.specs.declared.lists.List.{List as DocList}
 use Rattle.yd_ops.specs.Value.{ContentValue, len_of, RunValue}
 use Rattle.yd_ops.specs.Operation.{UnitContent, Operation, units_of_content, later_id, operations_from, operations_of_run}
 use Rattle.yd_ops.proofs.OperationLemmas.{length-units_of_content}
-use Rattle.yd_updates.specs.Received.{has_operation, all_taken}
-use Rattle.yd_updates.proofs.OneOfLemmas.{operation_with, id_there, ids_stay}
+use Rattle.yd_ops.specs.Received.{has_operation, all_taken}
+use Rattle.yd_ops.proofs.OneOfLemmas.{operation_with, id_there, ids_stay}
 use Rattle.yd_meaning.specs.ListNames.{same_list_decides}
 use Rattle.yd_meaning.specs.Held.{held_clock, standing}
 use Rattle.yd_meaning.specs.Names.{same_list, item_of_list}

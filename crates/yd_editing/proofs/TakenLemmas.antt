@@ -14,22 +14,22 @@ use Rattle.yd_ops.specs.declared.lists.List.{List as DocList}
 use Rattle.yd_ops.specs.Value.{ContentValue, json, binary, string, embed, format, nested, any, deleted, len_of, RunValue, item, UpdateValue}
 use Rattle.yd_ops.specs.Operation.{UnitContent, json_unit, units_of_trees, Operation, later_id, units_of_content, operations_from, operations_of_run, operations_of}
 use Rattle.yd_ops.proofs.OperationLemmas.{length-units_of_content}
-use Rattle.yd_updates.proofs.PartnerLemmas.{IsHalf}
-use Rattle.yd_updates.specs.Received.{has_operation, IsWritten, all_taken, Received, received_after, groups_of_structs, groups_of, with_groups}
-use Rattle.yd_updates.specs.Deletes.{deletes_of, content_spans, SpellLess}
-use Rattle.yd_updates.specs.Law.{IsReceived}
-use Rattle.yd_updates.proofs.OneOfLemmas.{operation_with}
-use Rattle.yd_updates.proofs.MendingLemmas.{HasPartners, paired_has}
-use Rattle.yd_updates.proofs.GroupLemmas.{all_of, update_groups, deletes_of-ids}
-use Rattle.yd_updates.proofs.RunLemmas.{run_written, run_partners}
-use Rattle.yd_updates.proofs.SpellingLemmas.{content_less}
+use Rattle.yd_ops.proofs.PartnerLemmas.{IsHalf}
+use Rattle.yd_ops.specs.Received.{has_operation, IsWritten, all_taken, Received, received_after, groups_of_structs, groups_of, with_groups}
+use Rattle.yd_ops.specs.Deletes.{deletes_of, content_spans, SpellLess}
+use Rattle.yd_ops.specs.ReceivedLaw.{IsReceived}
+use Rattle.yd_ops.proofs.OneOfLemmas.{operation_with}
+use Rattle.yd_ops.proofs.MendingLemmas.{HasPartners, paired_has}
+use Rattle.yd_ops.proofs.GroupLemmas.{all_of, update_groups, deletes_of-ids}
+use Rattle.yd_ops.proofs.RunLemmas.{run_written, run_partners}
+use Rattle.yd_ops.proofs.SpellingLemmas.{content_less}
 use Rattle.yd_meaning.specs.Held.{held_set, held_clock}
 use Rattle.yd_meaning.specs.Order.{AreHonest}
 use Rattle.yd_meaning.specs.Document.{Document, document_of}
 use Rattle.yd_meaning.proofs.HeldLemmas.{held_needs, held_set-part}
 use Rattle.yd_meaning.proofs.VectorLemmas.{held_written, held_below}
-use Rattle.yd_growing.specs.Replica.{IsReplicaDocument}
-use Rattle.yd_growing.proofs.ReplicaLemmas.{defined_is}
+use Rattle.yd_meaning.specs.Replica.{IsReplicaDocument}
+use Rattle.yd_meaning.proofs.ReplicaLemmas.{defined_is}
 use Rattle.yd_editing.specs.Step.{Step, make, remove}
 use Rattle.yd_editing.specs.Basis.{basis_over, basis_of}
 use Rattle.yd_editing.specs.Made.{run_of_step, lists_with, runs_of, operations_of_runs, block_of_runs, runs_on, made_on, evolved_on, removed_by, update_of_edit}

@@ -6,8 +6,8 @@ use Rattle.yd_ids.specs.declared.id.Client.{Client}
 use Rattle.yd_ops.specs.declared.lists.List.{List as DocList}
 use Rattle.yd_ops.specs.Operation.{Operation}
 use Rattle.yd_origins.specs.Table.{IsTable}
-use Rattle.yd_updates.specs.Received.{has_operation, IsWritten}
-use Rattle.yd_updates.proofs.OneOfLemmas.{ids_stay}
+use Rattle.yd_ops.specs.Received.{has_operation, IsWritten}
+use Rattle.yd_ops.proofs.OneOfLemmas.{ids_stay}
 use Rattle.yd_meaning.specs.Held.{standing, needs, held_clock}
 use Rattle.yd_meaning.specs.Order.{rows_of, list_of, order_of, AreHonest}
 use Rattle.yd_meaning.proofs.HeldListLemmas.{in_order_of}

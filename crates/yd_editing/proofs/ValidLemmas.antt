@@ -14,9 +14,9 @@ use Rattle.yd_ops.specs.declared.lists.List.{List as DocList}
 use Rattle.yd_ops.specs.Value.{ContentValue, len_of, RunValue, item}
 use Rattle.yd_ops.specs.Valid.{IsParent, CarriesList, AreStructsFrom, IsValidBlock, IsValidContent}
 use Rattle.yd_ops.specs.Operation.{Operation, operations_of_run}
-use Rattle.yd_updates.specs.Received.{has_operation, Received, IsWritten}
-use Rattle.yd_updates.specs.Law.{IsReceived}
-use Rattle.yd_updates.proofs.OneOfLemmas.{operation_with, ids_stay}
+use Rattle.yd_ops.specs.Received.{has_operation, Received, IsWritten}
+use Rattle.yd_ops.specs.ReceivedLaw.{IsReceived}
+use Rattle.yd_ops.proofs.OneOfLemmas.{operation_with, ids_stay}
 use Rattle.yd_meaning.specs.Names.{same_list}
 use Rattle.yd_meaning.specs.Held.{held_set, held_clock, standing}
 use Rattle.yd_meaning.specs.Order.{order_of}
@@ -24,8 +24,8 @@ use Rattle.yd_meaning.specs.Document.{Document, document_of}
 use Rattle.yd_meaning.proofs.HeldLemmas.{held_in}
 use Rattle.yd_meaning.proofs.StandingLemmas.{standing_in}
 use Rattle.yd_meaning.proofs.VectorLemmas.{held_written}
-use Rattle.yd_growing.specs.Replica.{IsReplicaDocument}
-use Rattle.yd_growing.proofs.ReplicaLemmas.{defined_is}
+use Rattle.yd_meaning.specs.Replica.{IsReplicaDocument}
+use Rattle.yd_meaning.proofs.ReplicaLemmas.{defined_is}
 use Rattle.yd_editing.specs.Step.{Step, make, remove, clock_full}
 use Rattle.yd_editing.specs.Basis.{Basis, basis_over, basis_of}
 use Rattle.yd_editing.specs.Made.{units_up_to, units_behind, id_of_first, put_behind, list_where_alone, run_of_step, lists_with, runs_of, block_of_runs, runs_on, removed_by}

@@ -4,7 +4,7 @@ use Rattle.yd_ids.specs.declared.id.Client.{Client}
 use Rattle.yd_ids.specs.declared.id.Id.{Id}
 use Rattle.yd_ids.specs.Ids.{is_same}
 use Rattle.yd_ops.specs.Operation.{UnitContent, text_unit, any_unit, json_unit, bytes, embedded, mark, nested_type, deleted_unit, gone_unit, Operation}
-use Rattle.yd_updates.specs.Received.{Received, has_operation}
+use Rattle.yd_ops.specs.Received.{Received, has_operation}
 use Rattle.yd_meaning.specs.Held.{held_set, held_clock, standing}
 use Rattle.yd_meaning.specs.Document.{Document, document_of}
 

@@ -8,7 +8,7 @@ use Rattle.yd_ops.specs.declared.lists.List.{List as DocList}
 use Rattle.yd_ops.specs.declared.lists.Parent.TheVariants.{Root, Item}
 use Rattle.yd_ops.specs.Operation.{Operation}
 use Rattle.yd_ops.specs.Value.{ContentValue, string, format, StructValue, item, UpdateValue}
-use Rattle.yd_updates.specs.Received.{Received, received_set, received_after}
+use Rattle.yd_ops.specs.Received.{Received, received_set, received_after}
 use Rattle.yd_meaning.specs.Held.{held_set}
 use Rattle.yd_meaning.specs.Order.{order_of}
 use Rattle.yd_meaning.specs.Document.{document_of}

@@ -16,15 +16,15 @@ use Rattle.yd_ops.specs.Operation.{Operation, operations_of_run, operations_of}
 use Rattle.yd_ops.specs.Value.{ContentValue, json, binary, string, embed, format, nested, any, deleted, len_of}
 use Rattle.yd_ops.specs.Valid.{IsValidContent, IsParent, IsValidUpdate}
 use Rattle.yd_origins.specs.Deleted.{last_of}
-use Rattle.yd_updates.specs.Received.{has_operation, IsWritten, taken_in, all_taken, Received, received_after}
-use Rattle.yd_updates.specs.Law.{IsReceived}
+use Rattle.yd_ops.specs.Received.{has_operation, IsWritten, taken_in, all_taken, Received, received_after}
+use Rattle.yd_ops.specs.ReceivedLaw.{IsReceived}
 use Rattle.yd_meaning.specs.Deleted.{is_in_delete_set}
 use Rattle.yd_meaning.specs.Held.{held_set, held_clock, standing, is_named}
 use Rattle.yd_meaning.specs.Document.{Document, operations_at, document_of}
 use Rattle.yd_meaning.specs.Names.{item_of_list, has_key}
 use Rattle.yd_meaning.specs.Order.{list_of, order_of, AreHonest}
 use Rattle.yd_meaning.specs.Law.{IsMade}
-use Rattle.yd_growing.specs.Replica.{IsReplicaDocument}
+use Rattle.yd_meaning.specs.Replica.{IsReplicaDocument}
 use Rattle.yd_editing.specs.Basis.{Basis, basis_over, basis_of}
 use Rattle.yd_editing.specs.Refused.{spans_refusal, refusal_of}
 use Rattle.yd_editing.specs.Made.{runs_on, made_on, evolved_on, removed_by, update_of_edit, made_run, runs_of, lists_after, operations_of_runs}

@@ -5,7 +5,7 @@ use Rattle.yd_ops.specs.declared.lists.List.{List as DocList}
 use Rattle.yd_ops.specs.declared.lists.Parent.{Parent}
 use Rattle.yd_ops.specs.Operation.{UnitContent, Operation, units_of_content}
 use Rattle.yd_ops.specs.Value.{ContentValue}
-use Rattle.yd_updates.specs.Received.{Received}
+use Rattle.yd_ops.specs.Received.{Received}
 use Rattle.yd_meaning.specs.Document.{Document, document_of}
 use Rattle.yd_shown.specs.Shown.{is_counted, own_list, key_list, unit_under}
 use Rattle.yd_editing.specs.Basis.{basis_of}

@@ -8,8 +8,8 @@ use Rattle.yd_ids.specs.declared.id.Span.{Span}
 use Rattle.yd_ids.specs.Ids.{is_same}
 use Rattle.yd_ops.specs.Operation.{Operation}
 use Rattle.yd_ops.specs.Value.{len_of}
-use Rattle.yd_updates.specs.Pairs.{is_high, is_text_and}
-use Rattle.yd_updates.specs.Received.{has_operation}
+use Rattle.yd_ops.specs.Pairs.{is_high, is_text_and}
+use Rattle.yd_ops.specs.Received.{has_operation}
 use Rattle.yd_meaning.specs.Names.{item_of_list}
 use Rattle.yd_editing.specs.Step.{Step, make, remove, Refusal, no_place, not_held, clock_full, inside_pair, own_waiting, first_or}
 use Rattle.yd_editing.specs.Basis.{Basis}

@@ -10,8 +10,8 @@ use Rattle.yd_ops.specs.declared.lists.List.{List as DocList}
 use Rattle.yd_ops.specs.Operation.{Operation, units_of_content}
 use Rattle.yd_ops.specs.Value.{ContentValue}
 use Rattle.yd_ops.specs.Valid.{IsValidUpdate}
-use Rattle.yd_updates.specs.Received.{Received, has_operation}
-use Rattle.yd_updates.specs.Law.{IsReceived}
+use Rattle.yd_ops.specs.Received.{Received, has_operation}
+use Rattle.yd_ops.specs.ReceivedLaw.{IsReceived}
 use Rattle.yd_meaning.specs.Held.{held_set, standing, is_named}
 use Rattle.yd_meaning.specs.Names.{item_of_list, has_key}
 use Rattle.yd_meaning.specs.Order.{order_of, AreHonest}

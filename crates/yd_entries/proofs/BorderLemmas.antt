@@ -8,7 +8,7 @@ use Rattle.yd_ops.specs.declared.runs.Run.{Run}
 use Rattle.yd_ops.specs.Operation.{UnitContent, Operation, later_id, IsHighUnit, IsLowUnit}
 use Rattle.yd_ops.specs.Valid.{IsValidContent}
 use Rattle.yd_ops.specs.View.{content_value}
-use Rattle.yd_updates.proofs.PartnerLemmas.{IsHalf}
+use Rattle.yd_ops.proofs.PartnerLemmas.{IsHalf}
 use Rattle.yd_entries.specs.declared.entry.Entry.{Entry}
 use Rattle.yd_entries.specs.Entries.{units_of, list_at, PartsPair, operations_told, operations_of_taken, operations_in, TellsRight, IsTakenOf}
 use Rattle.yd_entries.specs.Lowering.{torn_at, IsBeside}

@@ -11,8 +11,8 @@ use Rattle.yd_ops.specs.Operation.{UnitContent, Operation, later_id, gone_operat
 use Rattle.yd_ops.specs.Value.{RunValue, len_of}
 use Rattle.yd_ops.specs.View.{run_value}
 use Rattle.yd_ops.proofs.OperationLemmas.{length-units_of_content, later_none, later_later}
-use Rattle.yd_updates.specs.Received.{has_operation}
-use Rattle.yd_updates.specs.Law.{ArePaired}
+use Rattle.yd_ops.specs.Received.{has_operation}
+use Rattle.yd_ops.specs.ReceivedLaw.{ArePaired}
 use Rattle.yd_entries.specs.declared.entry.Entry.{Entry}
 use Rattle.yd_entries.specs.Entries.{AreTaken, operations_in, GrowBy}
 use Rattle.yd_entries.specs.Taking.{is_covered, AreCovered, IsKept, operations_from_run, IsAdded, AddsGroup, AddsOne}

@@ -8,7 +8,7 @@ use Rattle.yd_units.specs.Half.{IsHigh}
 use Rattle.yd_ops.specs.Value.{ContentValue, json, binary, string, embed, nested, any, deleted, format}
 use Rattle.yd_ops.specs.Operation.{UnitContent, text_unit, json_unit, bytes, embedded, mark, nested_type, units_of_trees, deleted_unit, deleted_units, units_of_content, IsHighUnit, IsLowUnit}
 use Rattle.yd_ops.specs.Valid.{IsValidContent}
-use Rattle.yd_updates.proofs.PartnerLemmas.{IsHalf}
+use Rattle.yd_ops.proofs.PartnerLemmas.{IsHalf}
 use Rattle.yd_entries.specs.Entries.{PartsPair}
 
 -- ---- contents without halves

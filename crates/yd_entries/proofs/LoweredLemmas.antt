@@ -4,16 +4,16 @@ use Rattle.std.proofs.lemmas.Bool.{cases_Bool}
 use Rattle.yd_words.specs.Member.{IsIn}
 use Rattle.yd_ids.specs.declared.id.Id.{Id}
 use Rattle.yd_ops.specs.Operation.{Operation, level_of, as_level}
-use Rattle.yd_updates.specs.Pairs.{is_half, as_torn}
-use Rattle.yd_updates.specs.Received.{has_operation, IsWritten, lowered, all_taken, with_group}
-use Rattle.yd_updates.specs.Deletes.{SpellLess}
-use Rattle.yd_updates.specs.Law.{IsTakenWith, IsTornWith}
-use Rattle.yd_updates.proofs.OneOfLemmas.{operation_with, id_is_there, id_there}
-use Rattle.yd_updates.proofs.LevelLemmas.{half_full, lowered_either, lowered-level}
-use Rattle.yd_updates.proofs.PartnerLemmas.{AreOnePair, IsHalf, half_decides, pair_flip, pair_half, one_partner}
-use Rattle.yd_updates.proofs.WritingLemmas.{written_alone}
-use Rattle.yd_updates.proofs.MendingLemmas.{HasPartners, in_map, map_has, mended_written}
-use Rattle.yd_updates.proofs.TakingLemmas.{pair_is, is_pair, all_taken_written, with_group_is}
+use Rattle.yd_ops.specs.Pairs.{is_half, as_torn}
+use Rattle.yd_ops.specs.Received.{has_operation, IsWritten, lowered, all_taken, with_group}
+use Rattle.yd_ops.specs.Deletes.{SpellLess}
+use Rattle.yd_ops.specs.ReceivedLaw.{IsTakenWith, IsTornWith}
+use Rattle.yd_ops.proofs.OneOfLemmas.{operation_with, id_is_there, id_there}
+use Rattle.yd_ops.proofs.LevelLemmas.{half_full, lowered_either, lowered-level}
+use Rattle.yd_ops.proofs.PartnerLemmas.{AreOnePair, IsHalf, half_decides, pair_flip, pair_half, one_partner}
+use Rattle.yd_ops.proofs.WritingLemmas.{written_alone}
+use Rattle.yd_ops.proofs.MendingLemmas.{HasPartners, in_map, map_has, mended_written}
+use Rattle.yd_ops.proofs.TakingLemmas.{pair_is, is_pair, all_taken_written, with_group_is}
 use Rattle.yd_entries.specs.Lowering.{is_among, lowered_with}
 use Rattle.yd_entries.proofs.TornLemmas.{IsBordering, with_here, with_low, with_torn, with_other, partner_beside, partner_away}
 

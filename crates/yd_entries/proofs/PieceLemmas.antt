@@ -9,11 +9,11 @@ use Rattle.yd_ops.specs.Operation.{UnitContent, Operation, later_id, units_of_co
 use Rattle.yd_ops.specs.Value.{RunValue, len_of}
 use Rattle.yd_ops.specs.Valid.{IsValidContent}
 use Rattle.yd_ops.proofs.OperationLemmas.{length-units_of_content}
-use Rattle.yd_updates.specs.Pairs.{is_high, is_low, is_text_and, as_torn}
-use Rattle.yd_updates.specs.Received.{has_operation}
-use Rattle.yd_updates.proofs.PartnerLemmas.{high_unit, low_unit}
-use Rattle.yd_updates.proofs.AddingLemmas.{is_torn, high_torn, low_torn, other_torn}
-use Rattle.yd_updates.proofs.RunLemmas.{run_partners}
+use Rattle.yd_ops.specs.Pairs.{is_high, is_low, is_text_and, as_torn}
+use Rattle.yd_ops.specs.Received.{has_operation}
+use Rattle.yd_ops.proofs.PartnerLemmas.{high_unit, low_unit}
+use Rattle.yd_ops.proofs.AddingLemmas.{is_torn, high_torn, low_torn, other_torn}
+use Rattle.yd_ops.proofs.RunLemmas.{run_partners}
 use Rattle.yd_entries.specs.Entries.{PartsPair}
 use Rattle.yd_entries.specs.Taking.{left_at, list_from, IsPiece, operations_from_run, operations_of_piece}
 use Rattle.yd_entries.proofs.CutLemmas.{cut_inside, cut_low, cut_high, low_cut, high_cut}

@@ -7,8 +7,8 @@ use Rattle.yd_words.specs.Member.{IsIn}
 use Rattle.yd_ops.specs.Value.{ContentValue, json, binary, string, embed, nested, any, deleted, format, RunValue, len_of}
 use Rattle.yd_ops.specs.Operation.{UnitContent, text_unit, json_unit, bytes, embedded, mark, nested_type, deleted_unit, units_of_trees, deleted_units, units_of_content, Operation, level_of, operations_of_run}
 use Rattle.yd_ops.proofs.OperationLemmas.{length-units_of_content}
-use Rattle.yd_updates.proofs.RunLemmas.{run_written}
-use Rattle.yd_updates.proofs.SpellingLemmas.{gone_written}
+use Rattle.yd_ops.proofs.RunLemmas.{run_written}
+use Rattle.yd_ops.proofs.SpellingLemmas.{gone_written}
 use Rattle.yd_entries.specs.Lowering.{level_of_content, level_from}
 use Rattle.yd_entries.specs.Taking.{operations_from_run}
 use Rattle.yd_entries.proofs.LoweredLemmas.{IsLess}

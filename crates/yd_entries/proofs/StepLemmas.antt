@@ -11,11 +11,11 @@ use Rattle.yd_ops.specs.declared.runs.Run.{Run}
 use Rattle.yd_ops.specs.Operation.{Operation, later_id, gone_operation}
 use Rattle.yd_ops.specs.Value.{ContentValue, deleted, RunValue, len_of}
 use Rattle.yd_ops.proofs.OperationLemmas.{length-units_of_content, length-operations_of_run, later_none, later_later}
-use Rattle.yd_updates.specs.Pairs.{as_torn}
-use Rattle.yd_updates.specs.Received.{has_operation}
-use Rattle.yd_updates.proofs.PartnerLemmas.{IsHalf}
-use Rattle.yd_updates.proofs.TakingLemmas.{pair_is, is_pair}
-use Rattle.yd_updates.proofs.AddingLemmas.{is_torn, torn_decides, other_torn, IsAddedOf}
+use Rattle.yd_ops.specs.Pairs.{as_torn}
+use Rattle.yd_ops.specs.Received.{has_operation}
+use Rattle.yd_ops.proofs.PartnerLemmas.{IsHalf}
+use Rattle.yd_ops.proofs.TakingLemmas.{pair_is, is_pair}
+use Rattle.yd_ops.proofs.AddingLemmas.{is_torn, torn_decides, other_torn, IsAddedOf}
 use Rattle.yd_entries.specs.declared.entry.Entry.{Entry}
 use Rattle.yd_entries.specs.Entries.{IsTakenOf, AreInOrder, AreTaken, operations_in, PartsPair, GrowBy}
 use Rattle.yd_entries.specs.Taking.{is_covered, AreCovered, BeginsBehind, IsRoom, IsPiece, IsRun, IsKept, operations_from_run, operations_of_piece, IsPassed, IsTakenNext, IsAddedAs, IsAdded, AddsGroup}

@@ -12,11 +12,11 @@ use Rattle.yd_ops.specs.declared.runs.Run.{Run}
 use Rattle.yd_ops.specs.Valid.{CarriesList, IsValidContent}
 use Rattle.yd_ops.specs.View.{content_value}
 use Rattle.yd_ops.specs.Operation.{UnitContent, Operation, later_id, operations_from}
-use Rattle.yd_updates.specs.Received.{has_operation, IsWritten}
+use Rattle.yd_ops.specs.Received.{has_operation, IsWritten}
 use Rattle.yd_entries.specs.declared.entry.Entry.{Entry}
 use Rattle.yd_entries.specs.Entries.{units_of, list_at, PartsPair, operations_told, operations_of_taken, operations_in, IsTold, TellsRight, IsTakenOf, StandsBefore, AreInOrder, covers, GrowBy}
 use Rattle.yd_entries.specs.Taking.{is_covered, HasUnits}
-use Rattle.yd_updates.proofs.SpellingLemmas.{gone_written}
+use Rattle.yd_ops.proofs.SpellingLemmas.{gone_written}
 use Rattle.yd_entries.proofs.UnitLemmas.{from_unit, has_from, has_parts, from_gone, has_gone}
 
 -- ---- its ids

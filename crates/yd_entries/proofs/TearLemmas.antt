@@ -12,7 +12,7 @@ use Rattle.yd_ops.specs.Operation.{UnitContent, text_unit, units_of_content, Ope
 use Rattle.yd_ops.specs.Value.{RunValue}
 use Rattle.yd_ops.specs.Valid.{IsValidContent}
 use Rattle.yd_ops.specs.View.{run_value, content_value}
-use Rattle.yd_updates.proofs.PartnerLemmas.{IsHalf}
+use Rattle.yd_ops.proofs.PartnerLemmas.{IsHalf}
 use Rattle.yd_entries.specs.declared.entry.Entry.{Entry}
 use Rattle.yd_entries.specs.Entries.{units_of, list_at, PartsPair, operations_of_taken, operations_in, IsTakenOf, AreInOrder}
 use Rattle.yd_entries.specs.Lowering.{torn_at, IsBeside, with_run, own_run}

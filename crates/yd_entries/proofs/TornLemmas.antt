@@ -7,10 +7,10 @@ use Rattle.yd_ids.specs.declared.id.Id.{Id}
 use Rattle.yd_ids.specs.Ids.{is_same}
 use Rattle.yd_ids.proofs.IdLemmas.{same_numbers}
 use Rattle.yd_ops.specs.Operation.{Operation, later_id, level_of, as_level, IsHighUnit, IsLowUnit}
-use Rattle.yd_updates.specs.Pairs.{is_high, is_low, is_text_and, as_torn}
-use Rattle.yd_updates.proofs.LevelLemmas.{half_full, as_level-id, as_level-torn}
-use Rattle.yd_updates.proofs.PartnerLemmas.{AreOnePair, IsHalf, high_unit, low_unit, same_decides, one_half, high_partner, low_partner}
-use Rattle.yd_updates.proofs.MendingLemmas.{as_torn-id, torn_no_half}
+use Rattle.yd_ops.specs.Pairs.{is_high, is_low, is_text_and, as_torn}
+use Rattle.yd_ops.proofs.LevelLemmas.{half_full, as_level-id, as_level-torn}
+use Rattle.yd_ops.proofs.PartnerLemmas.{AreOnePair, IsHalf, high_unit, low_unit, same_decides, one_half, high_partner, low_partner}
+use Rattle.yd_ops.proofs.MendingLemmas.{as_torn-id, torn_no_half}
 use Rattle.yd_entries.specs.Lowering.{is_among, torn_at, lowered_at, lowered_with}
 
 -- ---- a cut before an id

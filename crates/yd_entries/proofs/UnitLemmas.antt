@@ -7,7 +7,7 @@ use Rattle.yd_ids.specs.Ids.{is_same}
 use Rattle.yd_ops.specs.declared.lists.List.{List as DocList}
 use Rattle.yd_ops.specs.Operation.{UnitContent, Operation, later_id, gone_operation, gone_from, operations_from}
 use Rattle.yd_ops.proofs.OperationLemmas.{later_none, later_later}
-use Rattle.yd_updates.specs.Received.{has_operation}
+use Rattle.yd_ops.specs.Received.{has_operation}
 use Rattle.yd_entries.specs.Taking.{left_at, list_from}
 
 -- ---- ids in a row

@@ -9,10 +9,10 @@ use Rattle.yd_ids.specs.declared.id.Id.{Id}
 use Rattle.yd_ops.specs.declared.runs.Run.{Run}
 use Rattle.yd_ops.specs.Operation.{Operation, later_id}
 use Rattle.yd_ops.specs.Value.{RunValue, len_of}
-use Rattle.yd_updates.specs.Received.{has_operation}
-use Rattle.yd_updates.proofs.OneOfLemmas.{operation_with, id_there, ids_stay}
-use Rattle.yd_updates.proofs.AddingLemmas.{is_torn, IsAddedOf}
-use Rattle.yd_updates.proofs.MendingLemmas.{as_torn-id}
+use Rattle.yd_ops.specs.Received.{has_operation}
+use Rattle.yd_ops.proofs.OneOfLemmas.{operation_with, id_there, ids_stay}
+use Rattle.yd_ops.proofs.AddingLemmas.{is_torn, IsAddedOf}
+use Rattle.yd_ops.proofs.MendingLemmas.{as_torn-id}
 use Rattle.yd_entries.specs.declared.entry.Entry.{Entry}
 use Rattle.yd_entries.specs.Entries.{IsTakenOf, AreInOrder, operations_in, PartsPair, GrowBy}
 use Rattle.yd_entries.specs.Taking.{is_covered, AreCovered, operations_from_run}

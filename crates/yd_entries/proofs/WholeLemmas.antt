@@ -10,7 +10,7 @@ use Rattle.yd_words.proofs.TestLemmas.{split}
 use Rattle.yd_ids.specs.declared.id.Id.{Id}
 use Rattle.yd_ops.specs.declared.runs.Run.{Run}
 use Rattle.yd_ops.specs.Operation.{Operation, later_id, level_of}
-use Rattle.yd_updates.proofs.LevelLemmas.{as_level-id, as_level-level}
+use Rattle.yd_ops.proofs.LevelLemmas.{as_level-id, as_level-level}
 use Rattle.yd_entries.specs.declared.entry.Entry.{Entry}
 use Rattle.yd_entries.specs.Entries.{operations_of_taken, operations_in, IsTakenOf, AreInOrder, GrowBy}
 use Rattle.yd_entries.specs.Lowering.{is_among, lowered_at, lowered_with, torn_at, IsBeside, begins_within, level_told, level_of_run, level_of_entry, down_to, LowersEntry, LowersWhole, Lowers, Begins}

@@ -7,7 +7,7 @@ use Rattle.yd_words.proofs.MemberLemmas.{in_parts}
 use Rattle.yd_ids.specs.declared.id.Id.{Id}
 use Rattle.yd_ops.specs.declared.runs.Run.{Run}
 use Rattle.yd_ops.specs.Operation.{Operation}
-use Rattle.yd_updates.specs.Received.{IsWritten}
+use Rattle.yd_ops.specs.Received.{IsWritten}
 use Rattle.yd_entries.specs.declared.entry.Entry.{Entry}
 use Rattle.yd_entries.specs.Entries.{operations_of_taken, operations_in, IsTakenOf, AreTaken, is_held, held_in}
 use Rattle.yd_entries.proofs.EntriesLemmas.{each_kept, order_kept}

@@ -10,7 +10,7 @@ use Rattle.yd_ops.specs.Operation.{UnitContent, Operation, units_of_content, ope
 use Rattle.yd_ops.specs.Value.{ContentValue, json, binary, string, embed, nested, any, deleted, format}
 use Rattle.yd_ops.specs.Valid.{CarriesList, IsValidContent}
 use Rattle.yd_ops.specs.View.{content_value}
-use Rattle.yd_updates.specs.Law.{ArePaired}
+use Rattle.yd_ops.specs.ReceivedLaw.{ArePaired}
 use Rattle.yd_entries.specs.declared.entry.Entry.{Entry}
 use Rattle.yd_entries.specs.declared.place.Place.{Place}
 use Rattle.yd_entries.specs.declared.place.Place.TheVariants.{Waits, Lost, In}

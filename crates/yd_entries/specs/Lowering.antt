@@ -9,7 +9,7 @@ use Rattle.yd_ops.specs.declared.runs.Run.{Run}
 use Rattle.yd_ops.specs.Operation.{Operation, later_id, level_of, as_level}
 use Rattle.yd_ops.specs.Value.{ContentValue, json, binary, string, embed, format, nested, any, deleted, RunValue}
 use Rattle.yd_ops.specs.View.{content_value}
-use Rattle.yd_updates.specs.Pairs.{is_high, is_low, is_text_and, as_torn}
+use Rattle.yd_ops.specs.Pairs.{is_high, is_low, is_text_and, as_torn}
 use Rattle.yd_entries.specs.declared.entry.Entry.{Entry}
 use Rattle.yd_entries.specs.declared.fault.NoMemory.{NoMemory}
 use Rattle.yd_entries.specs.Entries.{IsTakenOf, AreInOrder, operations_of_taken, operations_in, list_at, StaysOfFirst, OnlyAdds}

@@ -10,9 +10,9 @@ use Rattle.yd_ops.specs.Operation.{Operation, later_id, level_of, gone_from, ope
 use Rattle.yd_ops.specs.Value.{ContentValue, string, deleted, len_of, RunValue, UpdateValue}
 use Rattle.yd_ops.specs.Valid.{IsValidContent, CarriesList}
 use Rattle.yd_ops.specs.View.{run_value}
-use Rattle.yd_updates.specs.Pairs.{as_torn}
-use Rattle.yd_updates.specs.Received.{has_operation}
-use Rattle.yd_updates.specs.Law.{AreAPair}
+use Rattle.yd_ops.specs.Pairs.{as_torn}
+use Rattle.yd_ops.specs.Received.{has_operation}
+use Rattle.yd_ops.specs.ReceivedLaw.{AreAPair}
 use Rattle.yd_entries.specs.declared.entry.Entry.{Entry}
 use Rattle.yd_entries.specs.declared.place.Place.TheVariants.{Waits}
 use Rattle.yd_entries.specs.Entries.{IsTakenOf, AreInOrder, operations_of_taken, operations_in, covers, PartsPair, GrowBy}

@@ -10,13 +10,13 @@ use Rattle.yd_ids.proofs.UnionLemmas.{sets_same}
 use Rattle.yd_ops.specs.Operation.{Operation, operations_of}
 use Rattle.yd_ops.specs.Valid.{IsValidUpdate}
 use Rattle.yd_ops.specs.Value.{UpdateValue}
-use Rattle.yd_updates.specs.Deletes.{SpellLess}
-use Rattle.yd_updates.specs.Received.{IsWritten, Received, received_set}
-use Rattle.yd_updates.proofs.AgreementLemmas.{received_deletes, received_maximal, received_written}
-use Rattle.yd_updates.proofs.GroupLemmas.{deletes_of-ids}
-use Rattle.yd_updates.proofs.MergingLemmas.{merged_back, merged_there}
-use Rattle.yd_updates.proofs.ReceivedLemmas.{one_received, set_is_received}
-use Rattle.yd_updates.proofs.WritingLemmas.{written_alone}
+use Rattle.yd_ops.specs.Deletes.{SpellLess}
+use Rattle.yd_ops.specs.Received.{IsWritten, Received, received_set}
+use Rattle.yd_ops.proofs.AgreementLemmas.{received_deletes, received_maximal, received_written}
+use Rattle.yd_ops.proofs.GroupLemmas.{deletes_of-ids}
+use Rattle.yd_ops.proofs.MergingLemmas.{merged_back, merged_there}
+use Rattle.yd_ops.proofs.ReceivedLemmas.{one_received, set_is_received}
+use Rattle.yd_ops.proofs.WritingLemmas.{written_alone}
 use Rattle.yd_grouping.specs.Groupable.{AreGroupable}
 use Rattle.yd_grouping.specs.Grouped.{IsGrouped, grouping_of}
 use Rattle.yd_grouping.specs.Merged.{cut_of, cut_update, is_cut_in, merge_of, received_grouped}

@@ -6,7 +6,7 @@ use Rattle.yd_words.proofs.MemberLemmas.{in_left_part, in_parts, in_right_part}
 use Rattle.yd_ops.specs.Operation.{Operation, operations_of}
 use Rattle.yd_ops.specs.Valid.{IsValidUpdate}
 use Rattle.yd_ops.specs.Value.{UpdateValue}
-use Rattle.yd_updates.specs.Agreement.{operations_of_all}
+use Rattle.yd_ops.specs.Agreement.{operations_of_all}
 use Rattle.yd_grouping.specs.Merged.{merge_of, merges_of, updates_of}
 
 all-append : (one other : List UpdateValue) (o : Operation) → IsIn o (operations_of_all (one ++ other)) → IsIn o (operations_of_all one) ⊎ IsIn o (operations_of_all other)

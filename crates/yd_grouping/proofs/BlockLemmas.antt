@@ -14,7 +14,7 @@ use Rattle.yd_ops.specs.Valid.{AreStructsFrom, IsStructAt, IsValidBlock}
 use Rattle.yd_ops.specs.Value.{BlockValue, StructValue, clocks_of}
 use Rattle.yd_ops.specs.declared.lists.List.{List as DocList}
 use Rattle.yd_ops.proofs.OperationLemmas.{length-units_of_content}
-use Rattle.yd_updates.specs.Received.{IsWritten}
+use Rattle.yd_ops.specs.Received.{IsWritten}
 use Rattle.yd_grouping.specs.Grouped.{block_of, block_with, blocks_of, end_of, front_block, with_gap}
 use Rattle.yd_grouping.specs.Groups.{Group, of_gone, of_run, operations_of_group, operations_of_groups, size_of, start_of, struct_of}
 use Rattle.yd_grouping.specs.Law.{Ascend, HaveUnits}

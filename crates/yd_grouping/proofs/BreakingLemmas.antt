@@ -10,10 +10,10 @@ use Rattle.yd_ops.specs.Operation.{Operation, level_of, operations_of}
 use Rattle.yd_ops.specs.Value.{UpdateValue}
 use Rattle.yd_ops.specs.declared.lists.List.{List as DocList}
 use Rattle.yd_ops.proofs.JoinLemmas.{neighbour_itself, neighbours-same}
-use Rattle.yd_updates.specs.Agreement.{operations_of_all}
-use Rattle.yd_updates.specs.Deletes.{SpellLess}
-use Rattle.yd_updates.specs.Pairs.{are_partners}
-use Rattle.yd_updates.proofs.PartnerLemmas.{same_decides}
+use Rattle.yd_ops.specs.Agreement.{operations_of_all}
+use Rattle.yd_ops.specs.Deletes.{SpellLess}
+use Rattle.yd_ops.specs.Pairs.{are_partners}
+use Rattle.yd_ops.proofs.PartnerLemmas.{same_decides}
 use Rattle.yd_meaning.specs.ListNames.{same_list_decides}
 use Rattle.yd_meaning.specs.Names.{same_carried}
 use Rattle.yd_grouping.specs.Disagreement.{AreElsewhere, BreaksAgreement, HoldOther, IsHalfCollected, IsUnlike, are_unlike, breaks_agreement, is_half_collected, is_unlike, some_passes, spells_less}

@@ -5,7 +5,7 @@ use Rattle.yd_words.proofs.MemberLemmas.{in_left_part}
 use Rattle.yd_ids.specs.declared.id.Span.{Span}
 use Rattle.yd_ops.specs.Operation.{Operation}
 use Rattle.yd_ops.specs.Value.{BlockValue}
-use Rattle.yd_updates.specs.Received.{IsWritten}
+use Rattle.yd_ops.specs.Received.{IsWritten}
 use Rattle.yd_grouping.specs.Building.{Built, all_pushed, blocks_and, finished, nothing_built, with_pushed}
 use Rattle.yd_grouping.specs.Grouped.{blocks_of, grouping_of}
 use Rattle.yd_grouping.specs.Groups.{Group, IsGroup, gathered, group_joins, joined_group, met, operations_of_group, operations_of_groups}

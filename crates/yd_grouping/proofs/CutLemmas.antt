@@ -11,14 +11,14 @@ use Rattle.yd_ids.specs.declared.id.Id.{Id}
 use Rattle.yd_ops.specs.Operation.{ArePartners, Operation, operations_of}
 use Rattle.yd_ops.specs.Valid.{IsValidUpdate}
 use Rattle.yd_ops.specs.Value.{UpdateValue}
-use Rattle.yd_updates.specs.Deletes.{deletes_of}
-use Rattle.yd_updates.specs.Pairs.{are_partners}
-use Rattle.yd_updates.specs.Received.{IsWritten, received_set}
-use Rattle.yd_updates.proofs.AgreementLemmas.{received_deletes}
-use Rattle.yd_updates.proofs.GroupLemmas.{deletes_of-ids}
-use Rattle.yd_updates.proofs.MendingLemmas.{HasPartners, has_paired, paired_has}
-use Rattle.yd_updates.proofs.PartnerLemmas.{high_partner, low_partner, one_half, one_partner, partners_decide}
-use Rattle.yd_updates.proofs.ReceivedLemmas.{set_is_received}
+use Rattle.yd_ops.specs.Deletes.{deletes_of}
+use Rattle.yd_ops.specs.Pairs.{are_partners}
+use Rattle.yd_ops.specs.Received.{IsWritten, received_set}
+use Rattle.yd_ops.proofs.AgreementLemmas.{received_deletes}
+use Rattle.yd_ops.proofs.GroupLemmas.{deletes_of-ids}
+use Rattle.yd_ops.proofs.MendingLemmas.{HasPartners, has_paired, paired_has}
+use Rattle.yd_ops.proofs.PartnerLemmas.{high_partner, low_partner, one_half, one_partner, partners_decide}
+use Rattle.yd_ops.proofs.ReceivedLemmas.{set_is_received}
 use Rattle.yd_grouping.specs.Groupable.{AreGroupable, IsValidOperation}
 use Rattle.yd_grouping.specs.Grouped.{IsGrouped}
 use Rattle.yd_grouping.specs.Law.{IsFrom}

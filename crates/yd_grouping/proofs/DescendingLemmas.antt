@@ -7,7 +7,7 @@ use Rattle.yd_ids.specs.Ids.{is_written_before}
 use Rattle.yd_ids.specs.declared.id.Span.{Span}
 use Rattle.yd_ops.specs.Operation.{Operation, later_id}
 use Rattle.yd_ops.specs.Value.{BlockValue}
-use Rattle.yd_updates.specs.Received.{IsWritten}
+use Rattle.yd_ops.specs.Received.{IsWritten}
 use Rattle.yd_grouping.specs.Groupable.{AreGroupable}
 use Rattle.yd_grouping.specs.Grouped.{block_of, block_with, blocks_of, front_block, grouping_of}
 use Rattle.yd_grouping.specs.Groups.{Group, group_of, groups_for, operations_of_group, operations_of_groups, size_of, start_of}

@@ -8,10 +8,10 @@ use Rattle.yd_ids.specs.Ids.{is_same_neighbour, is_smaller}
 use Rattle.yd_ids.specs.declared.id.Id.{Id}
 use Rattle.yd_ops.specs.Operation.{Operation, level_of, operations_of}
 use Rattle.yd_ops.specs.Value.{UpdateValue}
-use Rattle.yd_updates.specs.Agreement.{Agree, ShareId, operations_of_all}
-use Rattle.yd_updates.specs.Deletes.{SpellLess}
-use Rattle.yd_updates.specs.Pairs.{are_partners}
-use Rattle.yd_updates.proofs.LevelLemmas.{level_at_most}
+use Rattle.yd_ops.specs.Agreement.{Agree, ShareId, operations_of_all}
+use Rattle.yd_ops.specs.Deletes.{SpellLess}
+use Rattle.yd_ops.specs.Pairs.{are_partners}
+use Rattle.yd_ops.proofs.LevelLemmas.{level_at_most}
 use Rattle.yd_meaning.specs.Names.{same_carried}
 use Rattle.yd_grouping.specs.Disagreement.{BreaksAgreement, breaks_agreement, disagreement_of, spells_less}
 use Rattle.yd_grouping.specs.Sameness.{same_content}

@@ -6,13 +6,13 @@ use Rattle.yd_words.proofs.MemberLemmas.{in_left_part, in_parts, in_right_part}
 use Rattle.yd_ops.specs.Operation.{ArePartners, IsHighUnit, Operation, operations_of}
 use Rattle.yd_ops.specs.Valid.{IsValidUpdate}
 use Rattle.yd_ops.specs.Value.{UpdateValue}
-use Rattle.yd_updates.specs.Law.{HaveOneRight, IsReceived}
-use Rattle.yd_updates.specs.Received.{IsWritten, Received, groups_of, received_after, received_set}
-use Rattle.yd_updates.proofs.GroupLemmas.{all_of, all_partners, update_groups, update_partners, update_rights}
-use Rattle.yd_updates.proofs.MendingLemmas.{HasPartners, has_paired}
-use Rattle.yd_updates.proofs.PartnerLemmas.{high_partner, partners_decide}
-use Rattle.yd_updates.proofs.ReceivedLemmas.{after_is_received, set_is_received}
-use Rattle.yd_updates.proofs.WritingLemmas.{written_agrees}
+use Rattle.yd_ops.specs.ReceivedLaw.{HaveOneRight, IsReceived}
+use Rattle.yd_ops.specs.Received.{IsWritten, Received, groups_of, received_after, received_set}
+use Rattle.yd_ops.proofs.GroupLemmas.{all_of, all_partners, update_groups, update_partners, update_rights}
+use Rattle.yd_ops.proofs.MendingLemmas.{HasPartners, has_paired}
+use Rattle.yd_ops.proofs.PartnerLemmas.{high_partner, partners_decide}
+use Rattle.yd_ops.proofs.ReceivedLemmas.{after_is_received, set_is_received}
+use Rattle.yd_ops.proofs.WritingLemmas.{written_agrees}
 use Rattle.yd_grouping.specs.Groupable.{AreGroupable}
 use Rattle.yd_grouping.proofs.ValidLemmas.{after_valid, operations_valid, received_valid}
 

@@ -20,9 +20,9 @@ use Rattle.yd_ops.specs.Valid.{AreValidTrees, CarriesList, IsValidContent, IsVal
 use Rattle.yd_ops.specs.Value.{ContentValue, RunValue, UpdateValue, any, embed, format, json, len_of, string}
 use Rattle.yd_ops.specs.declared.lists.List.{List as DocList}
 use Rattle.yd_ops.proofs.JoinLemmas.{joined-len, joins_says, of_one_kind}
-use Rattle.yd_updates.specs.Received.{IsWritten}
-use Rattle.yd_updates.proofs.LevelLemmas.{AreBare}
-use Rattle.yd_updates.proofs.MendingLemmas.{paired_has}
+use Rattle.yd_ops.specs.Received.{IsWritten}
+use Rattle.yd_ops.proofs.LevelLemmas.{AreBare}
+use Rattle.yd_ops.proofs.MendingLemmas.{paired_has}
 use Rattle.yd_meaning.specs.Held.{is_gone}
 use Rattle.yd_grouping.specs.Groupable.{AreGroupable, IsValidOperation, IsValidUnitContent}
 use Rattle.yd_grouping.specs.Grouped.{IsGrouped, blocks_of, grouping_of}

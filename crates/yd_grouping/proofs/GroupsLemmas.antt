@@ -8,7 +8,7 @@ use Rattle.yd_ops.specs.Operation.{Operation, UnitContent, gone_from, gone_opera
 use Rattle.yd_ops.specs.Value.{len_of}
 use Rattle.yd_ops.proofs.JoinLemmas.{joined-len, joins_says, runs_have}
 use Rattle.yd_ops.proofs.OperationLemmas.{later_none}
-use Rattle.yd_updates.proofs.LevelLemmas.{AreBare}
+use Rattle.yd_ops.proofs.LevelLemmas.{AreBare}
 use Rattle.yd_meaning.specs.Held.{is_gone}
 use Rattle.yd_grouping.specs.Groups.{Group, IsGroup, content_of_unit, gathered, group_joins, group_of, groups_for, in_front, joined_group, of_gone, of_run, operations_of_group, operations_of_groups, run_of}
 

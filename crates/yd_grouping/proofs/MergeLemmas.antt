@@ -6,13 +6,13 @@ use Rattle.yd_ids.specs.declared.id.Id.{Id}
 use Rattle.yd_ops.specs.Operation.{operations_of}
 use Rattle.yd_ops.specs.Valid.{IsValidUpdate}
 use Rattle.yd_ops.specs.Value.{UpdateValue}
-use Rattle.yd_updates.specs.Agreement.{AreAlike, DeleteId, HaveSameContents, operations_of_all}
-use Rattle.yd_updates.specs.Deletes.{SpellLess, deletes_of}
-use Rattle.yd_updates.specs.Received.{Received, nothing_received, received_after, received_more, received_set}
-use Rattle.yd_updates.proofs.AgreementLemmas.{received_deletes, received_one}
-use Rattle.yd_updates.proofs.GroupLemmas.{deletes_of-ids}
-use Rattle.yd_updates.proofs.MergingLemmas.{merging_keeps}
-use Rattle.yd_updates.proofs.ReceivedLemmas.{set_is_received}
+use Rattle.yd_ops.specs.Agreement.{AreAlike, DeleteId, HaveSameContents, operations_of_all}
+use Rattle.yd_ops.specs.Deletes.{SpellLess, deletes_of}
+use Rattle.yd_ops.specs.Received.{Received, nothing_received, received_after, received_more, received_set}
+use Rattle.yd_ops.proofs.AgreementLemmas.{received_deletes, received_one}
+use Rattle.yd_ops.proofs.GroupLemmas.{deletes_of-ids}
+use Rattle.yd_ops.proofs.MergingLemmas.{merging_keeps}
+use Rattle.yd_ops.proofs.ReceivedLemmas.{set_is_received}
 use Rattle.yd_grouping.specs.Grouped.{IsGrouped}
 use Rattle.yd_grouping.specs.Merged.{merge_of, received_grouped}
 use Rattle.yd_grouping.proofs.GroupableLemmas.{received_groupable}

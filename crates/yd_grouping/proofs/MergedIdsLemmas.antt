@@ -8,16 +8,16 @@ use Rattle.yd_ids.specs.declared.id.Id.{Id}
 use Rattle.yd_ops.specs.Operation.{Operation, operations_of}
 use Rattle.yd_ops.specs.Valid.{IsValidUpdate}
 use Rattle.yd_ops.specs.Value.{UpdateValue}
-use Rattle.yd_updates.specs.Agreement.{operations_of_all}
-use Rattle.yd_updates.specs.Law.{IsCovered, IsReceived}
-use Rattle.yd_updates.specs.Pairs.{as_torn, is_alone}
-use Rattle.yd_updates.specs.Received.{Received, all_taken, groups_of, has_operation, lowered, nothing_received, received_after, received_more, received_set, taken_in, with_group, with_groups}
-use Rattle.yd_updates.proofs.CoveringLemmas.{covered_groups, groups_cover}
-use Rattle.yd_updates.proofs.GroupLemmas.{all_of, update_groups}
-use Rattle.yd_updates.proofs.LevelLemmas.{lowered-id}
-use Rattle.yd_updates.proofs.MendingLemmas.{as_torn-id}
-use Rattle.yd_updates.proofs.OneOfLemmas.{id_is_there, id_there, operation_with}
-use Rattle.yd_updates.proofs.ReceivedLemmas.{after_is_received, nothing_is_received}
+use Rattle.yd_ops.specs.Agreement.{operations_of_all}
+use Rattle.yd_ops.specs.ReceivedLaw.{IsCovered, IsReceived}
+use Rattle.yd_ops.specs.Pairs.{as_torn, is_alone}
+use Rattle.yd_ops.specs.Received.{Received, all_taken, groups_of, has_operation, lowered, nothing_received, received_after, received_more, received_set, taken_in, with_group, with_groups}
+use Rattle.yd_ops.proofs.CoveringLemmas.{covered_groups, groups_cover}
+use Rattle.yd_ops.proofs.GroupLemmas.{all_of, update_groups}
+use Rattle.yd_ops.proofs.LevelLemmas.{lowered-id}
+use Rattle.yd_ops.proofs.MendingLemmas.{as_torn-id}
+use Rattle.yd_ops.proofs.OneOfLemmas.{id_is_there, id_there, operation_with}
+use Rattle.yd_ops.proofs.ReceivedLemmas.{after_is_received, nothing_is_received}
 use Rattle.yd_grouping.specs.Merged.{merge_of}
 use Rattle.yd_grouping.proofs.MergeLemmas.{merge-operations}
 use Rattle.yd_grouping.proofs.ValidLemmas.{each_parts}

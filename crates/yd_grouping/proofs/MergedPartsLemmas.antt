@@ -6,17 +6,17 @@ use Rattle.yd_ids.specs.declared.id.Id.{Id}
 use Rattle.yd_ops.specs.Operation.{ArePartners, Operation, operations_of}
 use Rattle.yd_ops.specs.Valid.{IsValidUpdate}
 use Rattle.yd_ops.specs.Value.{UpdateValue}
-use Rattle.yd_updates.specs.Agreement.{Agree, AreAlike, DeleteId, SaysNoMore, ShareId, operations_of_all}
-use Rattle.yd_updates.specs.Deletes.{SpellLess}
-use Rattle.yd_updates.specs.Law.{IsCovered}
-use Rattle.yd_updates.specs.Pairs.{are_partners}
-use Rattle.yd_updates.specs.Received.{groups_of, nothing_received, received_set}
-use Rattle.yd_updates.proofs.AgreementLemmas.{received_is, received_merged}
-use Rattle.yd_updates.proofs.GroupLemmas.{all_partners, bare_append, update_bare, update_groups, update_partners}
-use Rattle.yd_updates.proofs.LevelLemmas.{AreBare, down_to_level, half_full, say_as_much}
-use Rattle.yd_updates.proofs.MendingLemmas.{HasPartners}
-use Rattle.yd_updates.proofs.PartnerLemmas.{AreOnePair, high_partner, partners_decide}
-use Rattle.yd_updates.proofs.ReceivedLemmas.{nothing_is_received}
+use Rattle.yd_ops.specs.Agreement.{Agree, AreAlike, DeleteId, SaysNoMore, ShareId, operations_of_all}
+use Rattle.yd_ops.specs.Deletes.{SpellLess}
+use Rattle.yd_ops.specs.ReceivedLaw.{IsCovered}
+use Rattle.yd_ops.specs.Pairs.{are_partners}
+use Rattle.yd_ops.specs.Received.{groups_of, nothing_received, received_set}
+use Rattle.yd_ops.proofs.AgreementLemmas.{received_is, received_merged}
+use Rattle.yd_ops.proofs.GroupLemmas.{all_partners, bare_append, update_bare, update_groups, update_partners}
+use Rattle.yd_ops.proofs.LevelLemmas.{AreBare, down_to_level, half_full, say_as_much}
+use Rattle.yd_ops.proofs.MendingLemmas.{HasPartners}
+use Rattle.yd_ops.proofs.PartnerLemmas.{AreOnePair, high_partner, partners_decide}
+use Rattle.yd_ops.proofs.ReceivedLemmas.{nothing_is_received}
 use Rattle.yd_grouping.specs.Merged.{merge_of, merges_of, updates_of}
 use Rattle.yd_grouping.proofs.AllLemmas.{front_valid, in_part, merge_part, of_all, part_all, part_merge, part_update, part_valid, update_valid, update_with}
 use Rattle.yd_grouping.proofs.MergeLemmas.{merge-operations, merge_deletes, merge_valid}

@@ -13,8 +13,8 @@ use Rattle.yd_ids.proofs.EntriesLemmas.{entries_greatest, entries_vector}
 use Rattle.yd_ops.specs.Operation.{Operation, operations_of}
 use Rattle.yd_ops.specs.Valid.{IsValidUpdate}
 use Rattle.yd_ops.specs.Value.{UpdateValue}
-use Rattle.yd_updates.specs.Received.{has_operation}
-use Rattle.yd_updates.proofs.OneOfLemmas.{none_has}
+use Rattle.yd_ops.specs.Received.{has_operation}
+use Rattle.yd_ops.proofs.OneOfLemmas.{none_has}
 use Rattle.yd_grouping.specs.Groupable.{IsValidOperation}
 use Rattle.yd_grouping.specs.Reach.{clock_behind, first_missing, reach, reach_of}
 use Rattle.yd_grouping.proofs.ValidLemmas.{operations_valid}

@@ -7,10 +7,10 @@ use Rattle.yd_ids.specs.declared.id.Span.{Span}
 use Rattle.yd_ids.proofs.UnionLemmas.{union_ids, union_maximal}
 use Rattle.yd_ops.specs.Operation.{operations_of}
 use Rattle.yd_ops.specs.Valid.{IsValidUpdate}
-use Rattle.yd_updates.specs.Deletes.{SpellLess, deletes_of}
-use Rattle.yd_updates.specs.Law.{IsReceived}
-use Rattle.yd_updates.specs.Received.{Received, received_after}
-use Rattle.yd_updates.proofs.GroupLemmas.{deletes_of-ids}
+use Rattle.yd_ops.specs.Deletes.{SpellLess, deletes_of}
+use Rattle.yd_ops.specs.ReceivedLaw.{IsReceived}
+use Rattle.yd_ops.specs.Received.{Received, received_after}
+use Rattle.yd_ops.proofs.GroupLemmas.{deletes_of-ids}
 use Rattle.yd_meaning.specs.Held.{held_clock, held_set}
 use Rattle.yd_meaning.specs.Law.{IsCompleted}
 use Rattle.yd_meaning.proofs.ReplyLemmas.{completed}

@@ -9,13 +9,13 @@ use Rattle.yd_ids.specs.declared.id.Id.{Id}
 use Rattle.yd_ops.specs.Operation.{Operation, operations_of}
 use Rattle.yd_ops.specs.Valid.{IsValidUpdate}
 use Rattle.yd_ops.specs.Value.{UpdateValue}
-use Rattle.yd_updates.specs.Agreement.{AreAlike, DeleteId, HaveSameContents, operations_of_all}
-use Rattle.yd_updates.specs.Deletes.{deletes_of}
-use Rattle.yd_updates.specs.Received.{received_set}
-use Rattle.yd_updates.proofs.AgreementLemmas.{received_one}
-use Rattle.yd_updates.proofs.MendingLemmas.{HasPartners, has_paired, paired_has}
-use Rattle.yd_updates.proofs.PartnerLemmas.{AreOnePair, one_partner, pair_flip, pair_half}
-use Rattle.yd_updates.proofs.WritingLemmas.{written_agrees}
+use Rattle.yd_ops.specs.Agreement.{AreAlike, DeleteId, HaveSameContents, operations_of_all}
+use Rattle.yd_ops.specs.Deletes.{deletes_of}
+use Rattle.yd_ops.specs.Received.{received_set}
+use Rattle.yd_ops.proofs.AgreementLemmas.{received_one}
+use Rattle.yd_ops.proofs.MendingLemmas.{HasPartners, has_paired, paired_has}
+use Rattle.yd_ops.proofs.PartnerLemmas.{AreOnePair, one_partner, pair_flip, pair_half}
+use Rattle.yd_ops.proofs.WritingLemmas.{written_agrees}
 use Rattle.yd_grouping.specs.Groupable.{AreGroupable, IsValidOperation}
 use Rattle.yd_grouping.specs.Merged.{cut_of, cut_update, is_cut_in, merge_of, rest_of}
 use Rattle.yd_grouping.proofs.CutLemmas.{cut-operations, cut_deletes, cut_groupable, cut_valid, filter_written}

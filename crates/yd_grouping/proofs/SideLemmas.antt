@@ -4,7 +4,7 @@ use Rattle.yd_words.specs.Member.{IsIn}
 use Rattle.yd_ids.specs.Ids.{is_written_before}
 use Rattle.yd_ids.specs.declared.id.Id.{Id}
 use Rattle.yd_ops.specs.Operation.{ArePartners, IsHighUnit, IsLowUnit, Operation, later_id}
-use Rattle.yd_updates.specs.Received.{IsWritten}
+use Rattle.yd_ops.specs.Received.{IsWritten}
 
 -- the two are partners with one right origin
 abbrev pub AreSideBySide : Operation → Operation → Type 0

@@ -16,12 +16,12 @@ use Rattle.yd_ops.specs.Valid.{AreStructsFrom, AreValidTrees, CarriesList, IsStr
 use Rattle.yd_ops.specs.Value.{BlockValue, ContentValue, StructValue, UpdateValue, any, binary, clocks_of, deleted, embed, format, gone, item, json, len_of, nested, skip, string}
 use Rattle.yd_ops.specs.declared.lists.List.{List as DocList}
 use Rattle.yd_ops.proofs.OperationLemmas.{length-units_of_content}
-use Rattle.yd_updates.specs.Pairs.{as_torn, is_alone}
-use Rattle.yd_updates.specs.Received.{Received, all_taken, groups_of, lowered, nothing_received, received_after, received_more, received_set, taken_in, with_group, with_groups}
-use Rattle.yd_updates.proofs.GroupLemmas.{all_of, update_groups}
-use Rattle.yd_updates.proofs.LevelLemmas.{half_full, lowered_either}
-use Rattle.yd_updates.proofs.MendingLemmas.{alone_decides}
-use Rattle.yd_updates.proofs.SpellingLemmas.{run_bare}
+use Rattle.yd_ops.specs.Pairs.{as_torn, is_alone}
+use Rattle.yd_ops.specs.Received.{Received, all_taken, groups_of, lowered, nothing_received, received_after, received_more, received_set, taken_in, with_group, with_groups}
+use Rattle.yd_ops.proofs.GroupLemmas.{all_of, update_groups}
+use Rattle.yd_ops.proofs.LevelLemmas.{half_full, lowered_either}
+use Rattle.yd_ops.proofs.MendingLemmas.{alone_decides}
+use Rattle.yd_ops.proofs.SpellingLemmas.{run_bare}
 use Rattle.yd_grouping.specs.Groupable.{IsValidOperation, IsValidUnitContent}
 
 -- what holds of each of two lists in a row holds of each of them

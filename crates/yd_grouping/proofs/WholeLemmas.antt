@@ -10,11 +10,11 @@ use Rattle.yd_ops.specs.Joining.{are_of_one_kind, joined_content, joined_run, ru
 use Rattle.yd_ops.specs.Operation.{ArePartners, IsHighUnit, IsLowUnit, Operation, UnitContent, later_id, level_of, text_unit}
 use Rattle.yd_ops.specs.Value.{ContentValue, RunValue, string}
 use Rattle.yd_ops.proofs.JoinLemmas.{joins_says, neighbour_itself, says_joins}
-use Rattle.yd_updates.specs.Law.{HaveOneRight}
-use Rattle.yd_updates.specs.Received.{IsWritten}
-use Rattle.yd_updates.proofs.LevelLemmas.{half_full}
-use Rattle.yd_updates.proofs.MendingLemmas.{HasPartners}
-use Rattle.yd_updates.proofs.PartnerLemmas.{IsHalf, high_partner, low_partner, partners_decide}
+use Rattle.yd_ops.specs.ReceivedLaw.{HaveOneRight}
+use Rattle.yd_ops.specs.Received.{IsWritten}
+use Rattle.yd_ops.proofs.LevelLemmas.{half_full}
+use Rattle.yd_ops.proofs.MendingLemmas.{HasPartners}
+use Rattle.yd_ops.proofs.PartnerLemmas.{IsHalf, high_partner, low_partner, partners_decide}
 use Rattle.yd_meaning.specs.Held.{is_gone}
 use Rattle.yd_grouping.specs.Groups.{Group, content_of_unit, group_of, groups_for, in_front, met, of_gone, of_run, run_of}
 use Rattle.yd_grouping.proofs.GroupsLemmas.{unit-len}

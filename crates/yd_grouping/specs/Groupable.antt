@@ -5,8 +5,8 @@ use Rattle.yd_any.specs.Valid.{is_valid_any, is_valid_json}
 use Rattle.yd_ids.specs.Id.{IsClient, IsClock, IsId}
 use Rattle.yd_ops.specs.Operation.{Operation, UnitContent, any_unit, embedded, gone_operation, json_unit, level_of, mark, text_unit}
 use Rattle.yd_ops.specs.Valid.{CarriesList, IsValidUnit}
-use Rattle.yd_updates.specs.Law.{ArePaired, HaveOneRight}
-use Rattle.yd_updates.specs.Received.{IsWritten}
+use Rattle.yd_ops.specs.ReceivedLaw.{ArePaired, HaveOneRight}
+use Rattle.yd_ops.specs.Received.{IsWritten}
 
 -- what one unit holds is valid; a half may be without its partner
 abbrev pub IsValidUnitContent : UnitContent → Type 0

@@ -10,11 +10,11 @@ use Rattle.yd_ids.specs.declared.id.Span.{Span}
 use Rattle.yd_ops.specs.Operation.{Operation, operations_of, operations_of_blocks}
 use Rattle.yd_ops.specs.Valid.{IsValidUpdate}
 use Rattle.yd_ops.specs.Value.{BlockValue, UpdateValue}
-use Rattle.yd_updates.specs.Agreement.{Agree, AreAlike, DeleteId, HaveSameContents, operations_of_all}
-use Rattle.yd_updates.specs.Deletes.{SpellLess, deletes_of}
-use Rattle.yd_updates.specs.Law.{IsReceived}
-use Rattle.yd_updates.specs.Pairs.{are_partners}
-use Rattle.yd_updates.specs.Received.{IsWritten, Received, has_operation, received_after, received_set}
+use Rattle.yd_ops.specs.Agreement.{Agree, AreAlike, DeleteId, HaveSameContents, operations_of_all}
+use Rattle.yd_ops.specs.Deletes.{SpellLess, deletes_of}
+use Rattle.yd_ops.specs.ReceivedLaw.{IsReceived}
+use Rattle.yd_ops.specs.Pairs.{are_partners}
+use Rattle.yd_ops.specs.Received.{IsWritten, Received, has_operation, received_after, received_set}
 use Rattle.yd_meaning.specs.Held.{held_clock, held_set}
 use Rattle.yd_meaning.specs.Law.{IsCompleted}
 use Rattle.yd_grouping.specs.Building.{all_pushed, blocks_and, finished, nothing_built}

@@ -4,8 +4,8 @@ use Rattle.yd_ids.specs.Set.{union_of}
 use Rattle.yd_ids.specs.declared.id.Span.{Span}
 use Rattle.yd_ops.specs.Operation.{Operation}
 use Rattle.yd_ops.specs.Value.{UpdateValue}
-use Rattle.yd_updates.specs.Pairs.{are_partners}
-use Rattle.yd_updates.specs.Received.{Received, received_set}
+use Rattle.yd_ops.specs.Pairs.{are_partners}
+use Rattle.yd_ops.specs.Received.{Received, received_set}
 use Rattle.yd_grouping.specs.Grouped.{grouping_of}
 
 -- what is received, as a grouped update

@@ -4,7 +4,7 @@ use Rattle.yd_ids.specs.Vector.{vector_of_entries}
 use Rattle.yd_ids.specs.declared.id.Client.{Client}
 use Rattle.yd_ops.specs.Operation.{Operation, operations_of}
 use Rattle.yd_ops.specs.Value.{UpdateValue}
-use Rattle.yd_updates.specs.Received.{has_operation}
+use Rattle.yd_ops.specs.Received.{has_operation}
 
 -- the clock behind all operations of a client
 abbrev pub clock_behind : List Operation → ℕ → ℕ

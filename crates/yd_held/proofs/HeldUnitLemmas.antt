@@ -11,7 +11,7 @@ use Rattle.yd_ops.specs.declared.runs.Run.{Run}
 use Rattle.yd_ops.specs.Operation.{UnitContent, Operation, later_id, operations_from, gone_operation, gone_from}
 use Rattle.yd_ops.specs.Value.{ContentValue, json, binary, string, embed, format, nested, any, deleted}
 use Rattle.yd_ops.specs.View.{content_value}
-use Rattle.yd_updates.proofs.OneOfLemmas.{id_is_there}
+use Rattle.yd_ops.proofs.OneOfLemmas.{id_is_there}
 use Rattle.yd_meaning.specs.Held.{is_gone}
 use Rattle.yd_entries.specs.declared.entry.Entry.{Entry}
 use Rattle.yd_entries.specs.declared.place.Place.{Place}

@@ -8,8 +8,8 @@ use Rattle.yd_ids.specs.declared.id.Client.{Client}
 use Rattle.yd_ids.specs.declared.id.Id.{Id}
 use Rattle.yd_ids.specs.Vector.{clock_of, RaisesOnly}
 use Rattle.yd_ops.specs.Operation.{Operation}
-use Rattle.yd_updates.specs.Received.{has_operation, IsWritten}
-use Rattle.yd_updates.proofs.OneOfLemmas.{operation_with, id_is_there, id_there, ids_stay}
+use Rattle.yd_ops.specs.Received.{has_operation, IsWritten}
+use Rattle.yd_ops.proofs.OneOfLemmas.{operation_with, id_is_there, id_there, ids_stay}
 use Rattle.yd_meaning.specs.Held.{needs, held_set}
 use Rattle.yd_meaning.proofs.HeldLemmas.{held_set-part}
 use Rattle.yd_meaning.proofs.ClockLemmas.{AreReached, AreReady, raise_reached, below_held}

@@ -10,7 +10,7 @@ use Rattle.yd_ids.specs.Vector.{clock_of}
 use Rattle.yd_ids.specs.Ids.{HasSmallerClock}
 use Rattle.yd_ops.specs.declared.runs.Run.{Run}
 use Rattle.yd_ops.specs.Operation.{Operation}
-use Rattle.yd_updates.specs.Received.{has_operation, IsWritten}
+use Rattle.yd_ops.specs.Received.{has_operation, IsWritten}
 use Rattle.yd_meaning.specs.Held.{id_before, item_carried, sources, needs, held_set}
 use Rattle.yd_meaning.proofs.HeldLemmas.{held_needs, held_id_grows}
 use Rattle.yd_meaning.proofs.NeedLemmas.{left_source, right_source, item_source, source_is, source_needed}

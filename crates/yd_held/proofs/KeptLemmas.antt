@@ -14,7 +14,7 @@ use Rattle.yd_ids.specs.Vector.{clock_of}
 use Rattle.yd_ops.specs.declared.lists.List.{List as DocList}
 use Rattle.yd_ops.specs.declared.runs.Run.{Run}
 use Rattle.yd_ops.specs.Operation.{Operation}
-use Rattle.yd_updates.specs.Received.{has_operation, IsWritten}
+use Rattle.yd_ops.specs.Received.{has_operation, IsWritten}
 use Rattle.yd_meaning.specs.Held.{held_set, held_clock}
 use Rattle.yd_meaning.proofs.HeldLemmas.{held_needs, held_set-part}
 use Rattle.yd_meaning.proofs.VectorLemmas.{held_below}

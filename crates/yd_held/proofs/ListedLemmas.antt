@@ -10,8 +10,8 @@ use Rattle.yd_origins.specs.Table.{IsTable}
 use Rattle.yd_origins.specs.Operations.{list_by_origins}
 use Rattle.yd_ops.specs.declared.lists.List.{List as DocList}
 use Rattle.yd_ops.specs.Operation.{Operation}
-use Rattle.yd_updates.specs.Received.{has_operation}
-use Rattle.yd_updates.proofs.OneOfLemmas.{operation_with}
+use Rattle.yd_ops.specs.Received.{has_operation}
+use Rattle.yd_ops.proofs.OneOfLemmas.{operation_with}
 use Rattle.yd_meaning.specs.Held.{sources, is_gone}
 use Rattle.yd_meaning.specs.Order.{rows_of, list_or_root, list_of}
 use Rattle.yd_meaning.proofs.NeedLemmas.{left_source, right_source}

@@ -7,9 +7,9 @@ use Rattle.yd_words.proofs.TestLemmas.{hold_both}
 use Rattle.yd_ids.specs.declared.id.Id.{Id}
 use Rattle.yd_ids.specs.Vector.{clock_of}
 use Rattle.yd_ops.specs.Operation.{Operation}
-use Rattle.yd_updates.specs.Received.{has_operation, IsWritten}
-use Rattle.yd_updates.proofs.OneOfLemmas.{operation_with, id_is_there}
-use Rattle.yd_updates.proofs.WritingLemmas.{written_alone}
+use Rattle.yd_ops.specs.Received.{has_operation, IsWritten}
+use Rattle.yd_ops.proofs.OneOfLemmas.{operation_with, id_is_there}
+use Rattle.yd_ops.proofs.WritingLemmas.{written_alone}
 use Rattle.yd_meaning.specs.Held.{item_carried, needs, held_set, held_clock}
 use Rattle.yd_meaning.proofs.RowLemmas.{written_distinct, one_operation}
 use Rattle.yd_meaning.proofs.NeedLemmas.{before_needed, left_needed, right_needed, item_needed}

@@ -7,8 +7,8 @@ use Rattle.yd_words.proofs.TestLemmas.{both_hold, hold_both}
 use Rattle.yd_ids.specs.declared.id.Id.{Id}
 use Rattle.yd_ops.specs.declared.lists.List.{List as DocList}
 use Rattle.yd_ops.specs.Operation.{Operation}
-use Rattle.yd_updates.specs.Received.{has_operation}
-use Rattle.yd_updates.proofs.OneOfLemmas.{ids_stay}
+use Rattle.yd_ops.specs.Received.{has_operation}
+use Rattle.yd_ops.proofs.OneOfLemmas.{ids_stay}
 use Rattle.yd_meaning.specs.Held.{item_carried, sources, is_gone, standing}
 use Rattle.yd_meaning.proofs.NeedLemmas.{left_source, right_source, item_source}
 use Rattle.yd_meaning.proofs.StandingLemmas.{standing_alone}

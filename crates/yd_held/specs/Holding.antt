@@ -6,7 +6,7 @@ use Rattle.yd_ids.specs.declared.id.Id.{Id}
 use Rattle.yd_ids.specs.Vector.{clock_of, RaisesOnly}
 use Rattle.yd_ops.specs.declared.lists.List.{List as DocList}
 use Rattle.yd_ops.specs.declared.runs.Run.{Run}
-use Rattle.yd_updates.specs.Received.{has_operation}
+use Rattle.yd_ops.specs.Received.{has_operation}
 use Rattle.yd_meaning.specs.Names.{item_of_list}
 use Rattle.yd_meaning.specs.Held.{held_set}
 use Rattle.yd_entries.specs.declared.entry.Entry.{Entry}

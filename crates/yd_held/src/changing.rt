@@ -3,7 +3,7 @@
 ghost use Rattle.std.specs.Prelude.{◌≡◌, ◌↔◌, ◌≤◌, [], length, filter, IsTrue, OnOk, IfOk};
 ghost use Rattle.yd_ops.specs.Valid.{IsValidUpdate};
 ghost use Rattle.yd_ops.specs.View.{update_value};
-ghost use Rattle.yd_updates.specs.Received.{with_groups, groups_of};
+ghost use Rattle.yd_ops.specs.Received.{with_groups, groups_of};
 ghost use Rattle.yd_received.specs.Received.{taken_of, brings};
 ghost use Rattle.yd_entries.specs.Taking.{BringsOperation};
 ghost use Rattle.yd_held.specs.Changing.{TellsAll, IsOf, back_to};

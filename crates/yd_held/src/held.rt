@@ -3,7 +3,7 @@
 ghost use Rattle.std.specs.Prelude.{◌≡◌, ◌≢◌, ◌↔◌, [], ℕ, Some, IsTrue, IfSome, IfNone, OnOk, OnErr, IfOk, slice_get};
 ghost use Rattle.yd_ops.specs.Valid.{IsValidUpdate};
 ghost use Rattle.yd_ops.specs.View.{update_value};
-ghost use Rattle.yd_updates.specs.Received.{with_groups, groups_of};
+ghost use Rattle.yd_ops.specs.Received.{with_groups, groups_of};
 ghost use Rattle.yd_names.specs.Names.{IsOf, IsLastOf, top_of};
 ghost use Rattle.yd_received.specs.Received.{taken_of};
 ghost use Rattle.yd_entries.specs.Taking.{BringsOperation};

@@ -8,7 +8,7 @@ use Rattle.yd_words.proofs.TestLemmas.{test_fails}
 use Rattle.yd_ids.specs.declared.id.Id.{Id}
 use Rattle.yd_ids.specs.Ids.{is_smaller}
 use Rattle.yd_ops.specs.Operation.{Operation}
-use Rattle.yd_updates.specs.Received.{IsWritten}
+use Rattle.yd_ops.specs.Received.{IsWritten}
 use Rattle.yd_meaning.specs.Held.{held_set, standing}
 use Rattle.yd_meaning.specs.Order.{AreHonest}
 use Rattle.yd_grouping.proofs.SmallestLemmas.{is_smallest, no_smallest, none_smallest, smallest_is}

@@ -3,8 +3,8 @@ use Rattle.std.proofs.Common.{◌≡◌, true, sym, subst}
 use Rattle.std.specs.Prelude.{Decides}
 use Rattle.yd_words.specs.Member.{IsIn}
 use Rattle.yd_ids.specs.declared.id.Id.{Id}
-use Rattle.yd_updates.specs.Received.{has_operation}
-use Rattle.yd_updates.proofs.OneOfLemmas.{operation_with}
+use Rattle.yd_ops.specs.Received.{has_operation}
+use Rattle.yd_ops.proofs.OneOfLemmas.{operation_with}
 use Rattle.yd_meaning.specs.Order.{IsPast}
 use Rattle.yd_received.specs.Received.{ReceivedValue, taken_of, held_of}
 use Rattle.yd_entries.proofs.WrittenLemmas.{taken_written}

@@ -7,7 +7,7 @@ use Rattle.yd_ids.specs.declared.id.Id.{Id}
 use Rattle.yd_ops.specs.Operation.{Operation}
 use Rattle.yd_origins.specs.Table.{IsTable}
 use Rattle.yd_origins.proofs.ListTableLemmas.{own_member}
-use Rattle.yd_updates.specs.Received.{has_operation}
+use Rattle.yd_ops.specs.Received.{has_operation}
 use Rattle.yd_meaning.specs.Order.{rows_of, operation_set, MeetsRules}
 use Rattle.yd_meaning.proofs.RowLemmas.{row_has}
 use Rattle.yd_meaning.proofs.StandingTableLemmas.{standing_table}

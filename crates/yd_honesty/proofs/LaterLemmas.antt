@@ -14,7 +14,7 @@ use Rattle.yd_origins.specs.Table.{OriginTable, ids_of, left_of, right_of, IsTab
 use Rattle.yd_origins.proofs.ListLemmas.{list_of_left, list_of_right, kept_same}
 use Rattle.yd_origins.proofs.ListTableLemmas.{in_own, own_left, own_right, own_is_table, own_order}
 use Rattle.yd_origins.proofs.TableLemmas.{not_itself}
-use Rattle.yd_updates.specs.Received.{has_operation, IsWritten}
+use Rattle.yd_ops.specs.Received.{has_operation, IsWritten}
 use Rattle.yd_meaning.specs.ListNames.{list_names}
 use Rattle.yd_meaning.specs.Held.{held_set, standing, id_before, sources, needs, item_carried}
 use Rattle.yd_meaning.specs.Order.{rows_of, operation_set, list_of, IsPast, of_need, of_past, MeetsRules}

@@ -3,7 +3,7 @@ use Rattle.std.proofs.Common.{◌≡◌, ℕ, ◌<◌, ◌≤◌, Bool, true, fa
 use Rattle.std.specs.Prelude.{IfSome, slice_get}
 use Rattle.yd_words.proofs.TestLemmas.{split, both_hold}
 use Rattle.yd_ids.specs.declared.id.Id.{Id}
-use Rattle.yd_updates.specs.Received.{has_operation}
+use Rattle.yd_ops.specs.Received.{has_operation}
 use Rattle.yd_meaning.specs.Order.{IsPast, of_past}
 use Rattle.yd_received.specs.Received.{ReceivedValue, held_of}
 use Rattle.yd_honesty.specs.Dishonest.{is_past}

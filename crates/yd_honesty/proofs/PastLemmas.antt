@@ -8,8 +8,8 @@ use Rattle.yd_ids.specs.Ids.{is_same}
 use Rattle.yd_ids.proofs.IdLemmas.{same_is, same_itself, same_says}
 use Rattle.yd_ops.specs.Operation.{Operation}
 use Rattle.yd_origins.specs.Table.{ids_of}
-use Rattle.yd_updates.specs.Received.{IsWritten}
-use Rattle.yd_updates.proofs.OneOfLemmas.{operation_with}
+use Rattle.yd_ops.specs.Received.{IsWritten}
+use Rattle.yd_ops.proofs.OneOfLemmas.{operation_with}
 use Rattle.yd_meaning.specs.Held.{needs, round, held_set}
 use Rattle.yd_meaning.specs.Order.{rows_of, IsPast, of_need, of_past}
 use Rattle.yd_meaning.proofs.RowLemmas.{one_row, one_operation, written_distinct}

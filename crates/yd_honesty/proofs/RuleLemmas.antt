@@ -11,9 +11,9 @@ use Rattle.yd_ops.specs.Operation.{Operation}
 use Rattle.yd_ops.specs.declared.lists.List.{List as DocList}
 use Rattle.yd_origins.specs.Before.{is_before, IsLeftFirst, IsBetween}
 use Rattle.yd_origins.specs.Operations.{table_of_all}
-use Rattle.yd_updates.specs.Received.{has_operation, IsWritten}
-use Rattle.yd_updates.proofs.OneOfLemmas.{operation_with, id_is_there}
-use Rattle.yd_updates.proofs.PartnerLemmas.{same_decides}
+use Rattle.yd_ops.specs.Received.{has_operation, IsWritten}
+use Rattle.yd_ops.proofs.OneOfLemmas.{operation_with, id_is_there}
+use Rattle.yd_ops.proofs.PartnerLemmas.{same_decides}
 use Rattle.yd_meaning.specs.ListNames.{same_list_decides}
 use Rattle.yd_meaning.specs.Names.{same_list}
 use Rattle.yd_meaning.specs.Held.{held_set, standing}

@@ -13,8 +13,8 @@ use Rattle.yd_ids.specs.Ids.{is_smaller}
 use Rattle.yd_ops.specs.Operation.{Operation}
 use Rattle.yd_ops.specs.declared.lists.List.{List as DocList}
 use Rattle.yd_origins.proofs.ListTableLemmas.{in_own}
-use Rattle.yd_updates.specs.Received.{has_operation}
-use Rattle.yd_updates.proofs.OneOfLemmas.{operation_with, id_there}
+use Rattle.yd_ops.specs.Received.{has_operation}
+use Rattle.yd_ops.proofs.OneOfLemmas.{operation_with, id_there}
 use Rattle.yd_meaning.specs.Held.{held_set, standing}
 use Rattle.yd_meaning.specs.Order.{operation_set, list_of, MeetsRules, AreHonest}
 use Rattle.yd_meaning.proofs.RowLemmas.{has_row}

@@ -9,7 +9,7 @@ use Rattle.yd_origins.specs.Before.{is_before}
 use Rattle.yd_origins.specs.Operations.{table_of_list}
 use Rattle.yd_origins.specs.Table.{ids_of, IsTable}
 use Rattle.yd_origins.proofs.ListLemmas.{list_of_left}
-use Rattle.yd_updates.specs.Received.{IsWritten}
+use Rattle.yd_ops.specs.Received.{IsWritten}
 use Rattle.yd_meaning.specs.Held.{held_set, standing}
 use Rattle.yd_meaning.specs.Order.{rows_of, operation_set, list_of, MeetsRules}
 use Rattle.yd_meaning.proofs.RowLemmas.{one_row, left_of-row}

@@ -10,8 +10,8 @@ use Rattle.yd_ids.specs.Ids.{is_same}
 use Rattle.yd_ids.specs.Vector.{clock_of}
 use Rattle.yd_ids.proofs.IdLemmas.{same_is}
 use Rattle.yd_ops.specs.Operation.{Operation}
-use Rattle.yd_updates.specs.Received.{has_operation}
-use Rattle.yd_updates.proofs.OneOfLemmas.{operation_with}
+use Rattle.yd_ops.specs.Received.{has_operation}
+use Rattle.yd_ops.proofs.OneOfLemmas.{operation_with}
 use Rattle.yd_meaning.specs.Held.{needs, sources, id_before, given, item_carried}
 use Rattle.yd_meaning.specs.Order.{IsPast, of_past}
 use Rattle.yd_entries.specs.declared.entry.Entry.{Entry}

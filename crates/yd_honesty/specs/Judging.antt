@@ -16,7 +16,7 @@ use Rattle.yd_meaning.specs.Order.{operation_set, list_of, IsPast, MeetsRules}
 use Rattle.yd_order.specs.Comparing.{HasCells, is_told_before}
 use Rattle.yd_firsts.specs.Firsts.{ComparesFirsts}
 use Rattle.yd_ids.specs.Id.{IsClient}
-use Rattle.yd_updates.specs.Received.{has_operation}
+use Rattle.yd_ops.specs.Received.{has_operation}
 use Rattle.yd_entries.specs.declared.entry.Entry.{Entry}
 use Rattle.yd_entries.specs.Entries.{is_listed}
 use Rattle.yd_received.specs.Received.{ReceivedValue, held_of, listed_of}

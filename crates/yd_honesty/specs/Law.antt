@@ -5,7 +5,7 @@ use Rattle.yd_ids.specs.declared.id.Id.{Id}
 use Rattle.yd_ops.specs.Operation.{Operation, later_id}
 use Rattle.yd_origins.specs.Law.{IsStrict}
 use Rattle.yd_origins.specs.Operations.{table_of_list}
-use Rattle.yd_updates.specs.Received.{IsWritten}
+use Rattle.yd_ops.specs.Received.{IsWritten}
 use Rattle.yd_words.specs.Member.{IsIn}
 use Rattle.yd_meaning.specs.Held.{held_set, standing}
 use Rattle.yd_meaning.specs.Order.{operation_set, list_of, MeetsRules, AreHonest}

@@ -2,7 +2,7 @@
 
 ghost use Rattle.std.specs.Prelude.{◌≡◌, ◌<◌, ◌≤◌, ◌+◌, ℕ, length, true, Some, slice_get, IfOk};
 ghost use Rattle.yd_ids.specs.declared.id.Id.{Id as IdSeen};
-ghost use Rattle.yd_updates.specs.Received.{has_operation};
+ghost use Rattle.yd_ops.specs.Received.{has_operation};
 ghost use Rattle.yd_received.specs.Received.{held_of};
 ghost use Rattle.yd_honesty.specs.Pasts.{IsHeldWhole, ArePasts};
 ghost use Rattle.yd_honesty.specs.Judging.{AreEnds, IsEnd, AreHeld};

@@ -1,7 +1,7 @@
 //! The origins of a unit in a list.
 
 ghost use Rattle.std.specs.Prelude.{◌≡◌, true};
-ghost use Rattle.yd_updates.specs.Received.{has_operation};
+ghost use Rattle.yd_ops.specs.Received.{has_operation};
 ghost use Rattle.yd_received.specs.Received.{listed_of};
 ghost use Rattle.yd_honesty.specs.Judging.{IsKept, AreOrigins, left_in};
 

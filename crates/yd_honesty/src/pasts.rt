@@ -4,7 +4,7 @@ ghost use Rattle.std.specs.Prelude.{◌≡◌, ◌<◌, ◌+◌, [], Some, false
 ghost use Rattle.yd_words.specs.Member.{IsIn};
 ghost use Rattle.yd_ids.specs.Id.{IsClient, IsClock};
 ghost use Rattle.yd_entries.specs.Entries.{is_held};
-ghost use Rattle.yd_updates.specs.Received.{has_operation};
+ghost use Rattle.yd_ops.specs.Received.{has_operation};
 ghost use Rattle.yd_received.specs.Received.{held_of};
 ghost use Rattle.yd_entries.specs.Taking.{is_covered};
 ghost use Rattle.yd_honesty.specs.Dishonest.{is_past};

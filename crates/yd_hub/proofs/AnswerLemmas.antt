@@ -11,12 +11,12 @@ use Rattle.yd_ids.proofs.UnionLemmas.{union_ids}
 use Rattle.yd_ops.specs.Operation.{Operation, level_of, operations_of}
 use Rattle.yd_ops.specs.Valid.{IsValidUpdate}
 use Rattle.yd_ops.specs.Value.{UpdateValue}
-use Rattle.yd_updates.specs.Law.{IsReceived}
-use Rattle.yd_updates.specs.Received.{Received, received_set}
-use Rattle.yd_updates.proofs.GroupLemmas.{deletes_of-ids}
-use Rattle.yd_updates.proofs.LevelLemmas.{half_full}
-use Rattle.yd_updates.proofs.PartnerLemmas.{pair_half, partners_decide}
-use Rattle.yd_updates.proofs.ReceivedLemmas.{set_is_received}
+use Rattle.yd_ops.specs.ReceivedLaw.{IsReceived}
+use Rattle.yd_ops.specs.Received.{Received, received_set}
+use Rattle.yd_ops.proofs.GroupLemmas.{deletes_of-ids}
+use Rattle.yd_ops.proofs.LevelLemmas.{half_full}
+use Rattle.yd_ops.proofs.PartnerLemmas.{pair_half, partners_decide}
+use Rattle.yd_ops.proofs.ReceivedLemmas.{set_is_received}
 use Rattle.yd_meaning.specs.Document.{Document}
 use Rattle.yd_meaning.specs.Held.{held_clock, held_set}
 use Rattle.yd_grouping.specs.Law.{IsFrom}

@@ -10,14 +10,14 @@ use Rattle.yd_ids.proofs.UnionLemmas.{union_ids}
 use Rattle.yd_ops.specs.Operation.{Operation, operations_of}
 use Rattle.yd_ops.specs.Valid.{IsValidUpdate}
 use Rattle.yd_ops.specs.Value.{UpdateValue}
-use Rattle.yd_updates.specs.Received.{has_operation, groups_of, Received, received_after, received_more}
-use Rattle.yd_updates.specs.Deletes.{deletes_of}
-use Rattle.yd_updates.specs.Law.{IsReceived}
-use Rattle.yd_updates.proofs.GroupLemmas.{update_groups}
-use Rattle.yd_updates.proofs.ReceivedLemmas.{after_is_received}
-use Rattle.yd_updates.proofs.CoveringLemmas.{groups_cover}
-use Rattle.yd_updates.proofs.OneOfLemmas.{operation_with, id_there, id_is_there}
-use Rattle.yd_updates.proofs.WritingLemmas.{written_alone}
+use Rattle.yd_ops.specs.Received.{has_operation, groups_of, Received, received_after, received_more}
+use Rattle.yd_ops.specs.Deletes.{deletes_of}
+use Rattle.yd_ops.specs.ReceivedLaw.{IsReceived}
+use Rattle.yd_ops.proofs.GroupLemmas.{update_groups}
+use Rattle.yd_ops.proofs.ReceivedLemmas.{after_is_received}
+use Rattle.yd_ops.proofs.CoveringLemmas.{groups_cover}
+use Rattle.yd_ops.proofs.OneOfLemmas.{operation_with, id_there, id_is_there}
+use Rattle.yd_ops.proofs.WritingLemmas.{written_alone}
 use Rattle.yd_meaning.specs.Held.{held_set, held_clock}
 use Rattle.yd_meaning.specs.Law.{IsCompleted}
 use Rattle.yd_meaning.proofs.VectorLemmas.{held_below}

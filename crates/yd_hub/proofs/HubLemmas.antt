@@ -1,7 +1,7 @@
 -- What the hub receives, and that its sessions are few and in order.
 use Rattle.std.proofs.Common.{◌≡◌, ℕ, suc, ◌≤◌, true, List, [], ◌∷◌, ◌++◌, length, None, Result, Ok, Err, inl, inr, refl, sym, ap, ◌∙◌, arith, tests, nat_lt}
 use Rattle.yd_ops.specs.Value.{UpdateValue}
-use Rattle.yd_updates.specs.Received.{Received, received_after, received_more}
+use Rattle.yd_ops.specs.Received.{Received, received_after, received_more}
 use Rattle.yd_world.specs.declared.event.Event.{Event}
 use Rattle.yd_world.specs.declared.event.What.{What}
 use Rattle.yd_world.specs.declared.event.What.TheVariants.{Opened, Received as Heard, Closed, Idle}

@@ -4,16 +4,16 @@ use Rattle.yd_words.specs.Member.{IsIn}
 use Rattle.yd_ids.specs.declared.id.Id.{Id}
 use Rattle.yd_ops.specs.Operation.{Operation, operations_of}
 use Rattle.yd_ops.specs.Value.{UpdateValue}
-use Rattle.yd_updates.specs.Pairs.{is_alone, as_torn}
-use Rattle.yd_updates.specs.Received.{has_operation, IsWritten, taken_in, all_taken, with_group, with_groups, groups_of, Received, received_after}
-use Rattle.yd_updates.specs.Law.{IsReceived, IsCovered}
-use Rattle.yd_updates.proofs.OneOfLemmas.{operation_with, id_there}
-use Rattle.yd_updates.proofs.LevelLemmas.{lowered-id}
-use Rattle.yd_updates.proofs.WritingLemmas.{taken_is, taken_written}
-use Rattle.yd_updates.proofs.TakingLemmas.{all_taken_written}
-use Rattle.yd_updates.proofs.MendingLemmas.{in_map, as_torn-id, mended_written}
-use Rattle.yd_updates.proofs.GroupLemmas.{all_of, update_groups}
-use Rattle.yd_updates.proofs.CoveringLemmas.{covered_groups, groups_cover}
+use Rattle.yd_ops.specs.Pairs.{is_alone, as_torn}
+use Rattle.yd_ops.specs.Received.{has_operation, IsWritten, taken_in, all_taken, with_group, with_groups, groups_of, Received, received_after}
+use Rattle.yd_ops.specs.ReceivedLaw.{IsReceived, IsCovered}
+use Rattle.yd_ops.proofs.OneOfLemmas.{operation_with, id_there}
+use Rattle.yd_ops.proofs.LevelLemmas.{lowered-id}
+use Rattle.yd_ops.proofs.WritingLemmas.{taken_is, taken_written}
+use Rattle.yd_ops.proofs.TakingLemmas.{all_taken_written}
+use Rattle.yd_ops.proofs.MendingLemmas.{in_map, as_torn-id, mended_written}
+use Rattle.yd_ops.proofs.GroupLemmas.{all_of, update_groups}
+use Rattle.yd_ops.proofs.CoveringLemmas.{covered_groups, groups_cover}
 use Rattle.yd_words.proofs.MemberLemmas.{in_left_part, in_right_part}
 
 -- one of the two lists has the id

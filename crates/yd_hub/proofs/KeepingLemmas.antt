@@ -7,17 +7,17 @@ use Rattle.yd_ids.proofs.UnionLemmas.{union_ids}
 use Rattle.yd_ids.proofs.IdLemmas.{same_says}
 use Rattle.yd_ops.specs.Operation.{Operation, level_of, ArePartners}
 use Rattle.yd_ops.specs.Value.{UpdateValue}
-use Rattle.yd_updates.specs.Pairs.{is_alone, as_torn}
-use Rattle.yd_updates.specs.Received.{has_operation, IsWritten, taken_in, all_taken, mended, with_group, with_groups, groups_of, Received, received_after}
-use Rattle.yd_updates.specs.Deletes.{deletes_of}
-use Rattle.yd_updates.specs.Law.{IsReceived}
-use Rattle.yd_updates.proofs.OneOfLemmas.{operation_with, id_is_there}
-use Rattle.yd_updates.proofs.PartnerLemmas.{AreOnePair, IsHalf, partners_decide}
-use Rattle.yd_updates.proofs.LevelLemmas.{level_at_most}
-use Rattle.yd_updates.proofs.WritingLemmas.{written_agrees, taken_there, taken_stays, taken_written}
-use Rattle.yd_updates.proofs.TakingLemmas.{all_taken_written}
-use Rattle.yd_updates.proofs.MendingLemmas.{HasPartner, HasPartners, paired_has, alone_decides, map_has, mended_written}
-use Rattle.yd_updates.proofs.GroupLemmas.{all_of, update_groups}
+use Rattle.yd_ops.specs.Pairs.{is_alone, as_torn}
+use Rattle.yd_ops.specs.Received.{has_operation, IsWritten, taken_in, all_taken, mended, with_group, with_groups, groups_of, Received, received_after}
+use Rattle.yd_ops.specs.Deletes.{deletes_of}
+use Rattle.yd_ops.specs.ReceivedLaw.{IsReceived}
+use Rattle.yd_ops.proofs.OneOfLemmas.{operation_with, id_is_there}
+use Rattle.yd_ops.proofs.PartnerLemmas.{AreOnePair, IsHalf, partners_decide}
+use Rattle.yd_ops.proofs.LevelLemmas.{level_at_most}
+use Rattle.yd_ops.proofs.WritingLemmas.{written_agrees, taken_there, taken_stays, taken_written}
+use Rattle.yd_ops.proofs.TakingLemmas.{all_taken_written}
+use Rattle.yd_ops.proofs.MendingLemmas.{HasPartner, HasPartners, paired_has, alone_decides, map_has, mended_written}
+use Rattle.yd_ops.proofs.GroupLemmas.{all_of, update_groups}
 use Rattle.yd_meaning.specs.Held.{needs, sources, id_before, given, item_carried, held_set, held_clock}
 use Rattle.yd_words.proofs.MemberLemmas.{in_left_part, in_right_part}
 use Rattle.yd_meaning.proofs.HeldLemmas.{held_in, held_needs, needs_held, held_left, held_right}

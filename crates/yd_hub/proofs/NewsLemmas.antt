@@ -13,16 +13,16 @@ use Rattle.yd_ids.proofs.IdLemmas.{same_numbers}
 use Rattle.yd_ids.proofs.UnionLemmas.{union_ids}
 use Rattle.yd_ops.specs.Operation.{Operation, level_of, operations_of}
 use Rattle.yd_ops.specs.Value.{UpdateValue}
-use Rattle.yd_updates.specs.Deletes.{deletes_of}
-use Rattle.yd_updates.specs.Law.{IsCovered, IsReceived}
-use Rattle.yd_updates.specs.Received.{IsWritten, Received, has_operation}
-use Rattle.yd_updates.proofs.OneOfLemmas.{id_there, operation_with}
-use Rattle.yd_updates.proofs.PartnerLemmas.{same_decides}
-use Rattle.yd_updates.proofs.WritingLemmas.{written_agrees}
+use Rattle.yd_ops.specs.Deletes.{deletes_of}
+use Rattle.yd_ops.specs.ReceivedLaw.{IsCovered, IsReceived}
+use Rattle.yd_ops.specs.Received.{IsWritten, Received, has_operation}
+use Rattle.yd_ops.proofs.OneOfLemmas.{id_there, operation_with}
+use Rattle.yd_ops.proofs.PartnerLemmas.{same_decides}
+use Rattle.yd_ops.proofs.WritingLemmas.{written_agrees}
 use Rattle.yd_meaning.specs.Deleted.{AreDeleteSet}
 use Rattle.yd_meaning.specs.Held.{is_named}
 use Rattle.yd_entries.specs.Taking.{BringsOne, BringsOperation, IsNews}
-use Rattle.yd_state.specs.Brings.{BringsSomething, IsKnownDeleted}
+use Rattle.yd_state.specs.Brings.{KnowsDeleted, BringsUnknown}
 use Rattle.yd_state.proofs.NamedLemmas.{has_named, named_has}
 use Rattle.yd_sync.proofs.PresenceLemmas.{tested}
 use Rattle.yd_hub.specs.Answers.{BringsNews}
@@ -155,42 +155,6 @@ news_says r known update is = (there, back)
         (says_new r.operations (operations_of update) o i (uncovered_news r.operations o new))
     back (inr (x, h, new)) = or_right (has_new r.operations (operations_of update)) (not (has_spans known (deletes_of update)))
         (ap not (test_fails (has_spans known (deletes_of update)) (λ e. new (has_all known (deletes_of update) e x h))))
-
--- what a replica tells that an update brings is the same
-pub brings_says : (r : Received) (own : List Span) (update : UpdateValue) (brings : Bool) → AreDeleteSet own r → IsTrue brings ↔ BringsSomething update r →
-    brings_news r (union_of own r.deletes) update ≡ brings
-brings_says r own update brings are both = one_answer (brings_news r (union_of own r.deletes) update) brings (there, back) (both.0, both.1)
-  where
-    known : (x : Id) → HasId (union_of own r.deletes) x → IsKnownDeleted r x
-    known x h = elim ((union_ids own r.deletes x).0 h) [ inl i ↦ inr ((are x).0 i) | inr i ↦ inl i ]
-
-    known_back : (x : Id) → IsKnownDeleted r x → HasId (union_of own r.deletes) x
-    known_back x (inl i) = (union_ids own r.deletes x).1 (inr i)
-    known_back x (inr e) = (union_ids own r.deletes x).1 (inl ((are x).1 e))
-
-    there : brings_news r (union_of own r.deletes) update ≡ true → BringsSomething update r
-    there e = elim (one_holds (has_new r.operations (operations_of update)) (not (has_spans (union_of own r.deletes) (deletes_of update))) e) [
-      | inl new ↦ inl (new_says r.operations (operations_of update) new)
-      | inr lacks ↦ inr (λ all. let (x, h, none) = lacks_some (union_of own r.deletes) (deletes_of update) (not_not (has_spans (union_of own r.deletes) (deletes_of update)) lacks) in
-          none (known_back x (all x h)))
-    ]
-
-    back : BringsSomething update r → brings_news r (union_of own r.deletes) update ≡ true
-    back (inl (o, i, news)) = or_left (has_new r.operations (operations_of update)) (not (has_spans (union_of own r.deletes) (deletes_of update)))
-        (says_new r.operations (operations_of update) o i news)
-    back (inr not_all) = or_right (has_new r.operations (operations_of update)) (not (has_spans (union_of own r.deletes) (deletes_of update)))
-        (ap not (test_fails (has_spans (union_of own r.deletes) (deletes_of update)) (λ e. not_all (λ x h. known x (has_all (union_of own r.deletes) (deletes_of update) e x h)))))
-
--- ---- by the own delete set
-
--- the id is deleted by name, or it is one of the deleted ids that are told
-abbrev pub KnowsDeleted : Received → List Span → Id → Type 0
-KnowsDeleted r deletes x = HasId r.deletes x ⊎ HasId deletes x
-
--- the update has an operation whose id was not received or that says less than the received one, or it deletes an id that is not known
--- so
-abbrev pub BringsUnknown : UpdateValue → Received → List Span → Type 0
-BringsUnknown update r deletes = BringsOperation update r.operations ⊎ (((x : Id) → HasId (deletes_of update) x → KnowsDeleted r deletes x) → ⊥)
 
 -- what a replica tells that an update brings, by its own delete set, is the same
 pub unknown_says : (r : Received) (own : List Span) (update : UpdateValue) (brings : Bool) → IsTrue brings ↔ BringsUnknown update r own →

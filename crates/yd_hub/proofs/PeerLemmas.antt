@@ -1,6 +1,6 @@
 -- What a peer receives, and when it has taken a step 2 and answered a step 1.
 use Rattle.std.proofs.Common.{◌≡◌, ℕ, Bool, true, false, ◌||◌, List, [], ◌∷◌, Result, Ok, Err, inl, inr, refl, sym, ap, ◌∙◌}
-use Rattle.yd_updates.specs.Received.{received_more}
+use Rattle.yd_ops.specs.Received.{received_more}
 use Rattle.yd_sync.specs.Message.{MessageValue, step1, step2, change, aware, auth, query}
 use Rattle.yd_sync.specs.declared.fault.MessageFault.{MessageFault}
 use Rattle.yd_sync.proofs.PresenceLemmas.{tested}

@@ -5,10 +5,10 @@ use Rattle.yd_ids.specs.declared.id.Id.{Id}
 use Rattle.yd_ids.specs.Set.{HasId}
 use Rattle.yd_ids.proofs.UnionLemmas.{union_ids}
 use Rattle.yd_ops.specs.Operation.{Operation}
-use Rattle.yd_updates.specs.Received.{has_operation, Received, received_after}
-use Rattle.yd_updates.specs.Deletes.{deletes_of}
-use Rattle.yd_updates.specs.Law.{IsReceived}
-use Rattle.yd_updates.proofs.ReceivedLemmas.{after_is_received}
+use Rattle.yd_ops.specs.Received.{has_operation, Received, received_after}
+use Rattle.yd_ops.specs.Deletes.{deletes_of}
+use Rattle.yd_ops.specs.ReceivedLaw.{IsReceived}
+use Rattle.yd_ops.proofs.ReceivedLemmas.{after_is_received}
 use Rattle.yd_meaning.specs.Held.{held_set}
 use Rattle.yd_meaning.specs.Order.{AreHonest}
 use Rattle.yd_meaning.specs.Law.{ShowAlike}

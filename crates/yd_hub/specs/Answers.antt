@@ -9,9 +9,9 @@ use Rattle.yd_ids.specs.Vector.{clock_of}
 use Rattle.yd_ops.specs.Operation.{Operation, operations_of, level_of}
 use Rattle.yd_ops.specs.Value.{UpdateValue}
 use Rattle.yd_ops.specs.Valid.{IsValidUpdate}
-use Rattle.yd_updates.specs.Received.{Received}
-use Rattle.yd_updates.specs.Deletes.{deletes_of}
-use Rattle.yd_updates.specs.Law.{IsCovered}
+use Rattle.yd_ops.specs.Received.{Received}
+use Rattle.yd_ops.specs.Deletes.{deletes_of}
+use Rattle.yd_ops.specs.ReceivedLaw.{IsCovered}
 use Rattle.yd_meaning.specs.Held.{held_set, held_clock}
 
 -- its state vector; the ids that it knows as deleted, waiting ones too; the update that answers a vector; whether an update

@@ -3,7 +3,7 @@ use Rattle.std.specs.Prelude.{◌≡◌, ℕ, ◌+◌, Bool, true, false, List, 
 use Rattle.std.specs.Str.{bytes_eq}
 use Rattle.yd_ops.specs.declared.lists.Parent.TheVariants.{Root}
 use Rattle.yd_ops.specs.Value.{string, item, UpdateValue}
-use Rattle.yd_updates.specs.Received.{nothing_received, received_set}
+use Rattle.yd_ops.specs.Received.{nothing_received, received_set}
 use Rattle.yd_world.specs.declared.event.Event.{Event}
 use Rattle.yd_world.specs.declared.event.Session.{Session}
 use Rattle.yd_world.specs.declared.event.What.{What}

@@ -6,8 +6,8 @@ use Rattle.yd_ids.specs.declared.id.Id.{Id}
 use Rattle.yd_ids.specs.Set.{HasId}
 use Rattle.yd_ops.specs.Operation.{Operation, level_of, operations_of}
 use Rattle.yd_ops.specs.Value.{UpdateValue}
-use Rattle.yd_updates.specs.Law.{IsReceived}
-use Rattle.yd_updates.specs.Received.{Received, has_operation, received_after}
+use Rattle.yd_ops.specs.ReceivedLaw.{IsReceived}
+use Rattle.yd_ops.specs.Received.{Received, has_operation, received_after}
 use Rattle.yd_meaning.specs.Deleted.{is_in_delete_set}
 use Rattle.yd_meaning.specs.Held.{held_clock, held_set}
 use Rattle.yd_meaning.specs.Law.{IsPartOf, ShowAlike}

@@ -1,7 +1,7 @@
 -- The hub: what is received, which sessions are open, who is there; what an event changes, and what it orders (y-websocket's server; the limit of sessions and the closes are own).
 use Rattle.std.specs.Prelude.{◌≤◌, ℕ, List, [], ◌∷◌, ◌++◌, length, None, Result, Ok, Err, if◌then◌else◌, nat_lt}
 use Rattle.yd_ops.specs.Value.{UpdateValue}
-use Rattle.yd_updates.specs.Received.{Received, received_after}
+use Rattle.yd_ops.specs.Received.{Received, received_after}
 use Rattle.yd_world.specs.declared.event.Event.{Event}
 use Rattle.yd_world.specs.declared.event.What.{What}
 use Rattle.yd_world.specs.declared.event.What.TheVariants.{Opened, Received as Heard, Closed, Idle}

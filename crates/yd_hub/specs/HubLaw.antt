@@ -3,8 +3,8 @@ use Rattle.std.specs.Prelude.{◌≡◌, ◌≢◌, ◌⊎◌, ◌↔◌, ℕ, t
 use Rattle.yd_words.specs.Member.{IsIn}
 use Rattle.yd_ids.specs.declared.id.Client.{Client}
 use Rattle.yd_ops.specs.Value.{UpdateValue}
-use Rattle.yd_updates.specs.Law.{IsReceived}
-use Rattle.yd_updates.specs.Received.{Received, received_after, received_more, received_set}
+use Rattle.yd_ops.specs.ReceivedLaw.{IsReceived}
+use Rattle.yd_ops.specs.Received.{Received, received_after, received_more, received_set}
 use Rattle.yd_world.specs.declared.event.Event.{Event}
 use Rattle.yd_world.specs.declared.event.Session.{Session}
 use Rattle.yd_world.specs.declared.event.What.{What}

@@ -1,7 +1,7 @@
 -- The laws of sends that fail, and of the loops of server and client, as statements. How bytes are read, messages written and closes explained is any function.
 use Rattle.std.specs.Prelude.{◌≡◌, ◌≤◌, ◌↔◌, ℕ, Bool, false, List, [], ◌∷◌, ◌++◌}
 use Rattle.yd_words.specs.Each.{Each}
-use Rattle.yd_updates.specs.Received.{received_more}
+use Rattle.yd_ops.specs.Received.{received_more}
 use Rattle.yd_sync.specs.declared.fault.MessageFault.{MessageFault}
 use Rattle.yd_sync.specs.Message.{MessageValue}
 use Rattle.yd_hub.specs.declared.action.CloseCause.{CloseCause}

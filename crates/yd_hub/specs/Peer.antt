@@ -4,7 +4,7 @@
 use Rattle.std.specs.Prelude.{ℕ, ◌-◌, ◌^◌, Bool, true, false, ◌&&◌, ◌||◌, List, [], ◌∷◌, ◌++◌, Option, Some, None, Result, Ok, Err, if◌then◌else◌, is_some, nat_le}
 use Rattle.yd_ids.specs.declared.id.Client.{Client}
 use Rattle.yd_ops.specs.Value.{UpdateValue}
-use Rattle.yd_updates.specs.Received.{Received, received_after}
+use Rattle.yd_ops.specs.Received.{Received, received_after}
 use Rattle.yd_sync.specs.declared.entry.AwareEntry.{AwareEntry}
 use Rattle.yd_sync.specs.declared.fault.MessageFault.{MessageFault}
 use Rattle.yd_sync.specs.Message.{MessageValue, step1, step2, change, aware, auth, query}

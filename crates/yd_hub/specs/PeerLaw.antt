@@ -3,8 +3,8 @@ use Rattle.std.specs.Prelude.{◌≡◌, ℕ, false, List, Ok}
 use Rattle.yd_words.specs.Each.{Each}
 use Rattle.yd_ids.specs.Vector.{clock_of}
 use Rattle.yd_ops.specs.Valid.{IsValidUpdate}
-use Rattle.yd_updates.specs.Law.{IsReceived}
-use Rattle.yd_updates.specs.Received.{Received, received_more}
+use Rattle.yd_ops.specs.ReceivedLaw.{IsReceived}
+use Rattle.yd_ops.specs.Received.{Received, received_more}
 use Rattle.yd_meaning.specs.Law.{IsCompleted}
 use Rattle.yd_sync.specs.Message.{step2}
 use Rattle.yd_hub.specs.Answers.{Answers, AreAnswersOf}

@@ -16,8 +16,8 @@ use Rattle.yd_store.specs.Contents.{Contented, told_of}
 use Rattle.yd_store.specs.Store.{Stored, KeepsRuns, AddsOutside}
 use Rattle.yd_store.specs.Units.{operations_at, KeepsUnits}
 use Rattle.yd_store.proofs.IntegratingLemmas.{keeps_itself}
-use Rattle.yd_filling.specs.Filling.{FillsOn}
-use Rattle.yd_filling.proofs.FillingLemmas.{still_named, filling_is_kept, filling_adds_list, filling_adds_lost, filling_goes_on}
+use Rattle.yd_kept.specs.Filling.{FillsOn}
+use Rattle.yd_kept.proofs.FillingLemmas.{still_named, filling_is_kept, filling_adds_list, filling_adds_lost, filling_goes_on}
 use Rattle.yd_kept.specs.Kept.{KeptValue, FillsFurther, StaysFilled, FillsByLost, KeepsHeld}
 
 -- what follows from both outcomes holds

@@ -16,7 +16,7 @@ use Rattle.yd_arena.specs.Arena.{Placed, count_of, next_clock}
 use Rattle.yd_store.specs.Store.{Stored, StandsIn}
 use Rattle.yd_store.specs.Units.{AddsUnits}
 use Rattle.yd_store.specs.Integrating.{IsReady, Integrates}
-use Rattle.yd_updates.specs.Received.{has_operation, IsWritten}
+use Rattle.yd_ops.specs.Received.{has_operation, IsWritten}
 use Rattle.yd_meaning.specs.Held.{standing}
 use Rattle.yd_meaning.specs.Order.{rows_of, list_or_root, operation_set, list_of}
 use Rattle.yd_meaning.proofs.HeldListLemmas.{list_of-left, list_of-right, list_of-carried}
@@ -24,9 +24,9 @@ use Rattle.yd_meaning.proofs.NeedLemmas.{left_source, right_source}
 use Rattle.yd_meaning.proofs.RowLemmas.{has_row}
 use Rattle.yd_meaning.proofs.StandingLemmas.{standing_sources}
 use Rattle.yd_meaning.proofs.StandingTableLemmas.{standing_table}
-use Rattle.yd_filling.specs.Filling.{ComesNext}
-use Rattle.yd_filling.proofs.FillingLemmas.{within_names, filling_is_kept, filling_adds_run}
-use Rattle.yd_filling.proofs.NextLemmas.{there_stands}
+use Rattle.yd_kept.specs.Filling.{ComesNext}
+use Rattle.yd_kept.proofs.FillingLemmas.{within_names, filling_is_kept, filling_adds_run}
+use Rattle.yd_kept.proofs.NextLemmas.{there_stands}
 use Rattle.yd_kept.specs.Kept.{KeptValue, IsFilled, ComesNextOfSome, telling_origin, IsListFor, KeepsHeld, HoldsRun}
 use Rattle.yd_kept.proofs.ChangeLemmas.{further_on, further_both}
 

@@ -1,3 +1,11 @@
+pub mod BackLemmas
 pub mod ChangeLemmas
+pub mod FillingLemmas
+pub mod GoingLemmas
 pub mod HoldingLemmas
+pub mod KeepingLemmas
 pub mod MarkingLemmas
+pub mod NextLemmas
+pub mod PlacingLemmas
+pub mod RowLemmas
+pub mod TellingLemmas

@@ -12,8 +12,8 @@ use Rattle.yd_ids.specs.Set.{HasId, AreMaximal}
 use Rattle.yd_ids.proofs.SetLemmas.{has_front, has_either}
 use Rattle.yd_arena.specs.Arena.{Placed, IsArena, runs_of, count_of, places_in, next_clock}
 use Rattle.yd_arena.specs.Rows.{rows_in}
-use Rattle.yd_marks.specs.Marks.{IsBorder, MarksSpan}
-use Rattle.yd_marks.proofs.MarkLemmas.{marks_are_units}
+use Rattle.yd_arena.specs.Marks.{IsBorder, MarksSpan}
+use Rattle.yd_arena.proofs.MarkLemmas.{marks_are_units}
 use Rattle.yd_store.specs.Contents.{Contented, told_of}
 use Rattle.yd_store.specs.Store.{Stored}
 use Rattle.yd_store.specs.Units.{operations_at, operations_in, HasOperation, KeepsUnits, HasMarked}

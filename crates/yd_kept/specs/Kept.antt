@@ -9,13 +9,13 @@ use Rattle.yd_scan.specs.declared.stretch.Stretch.{Stretch}
 use Rattle.yd_scan.specs.Stretches.{units_of}
 use Rattle.yd_arena.specs.Arena.{runs_of, count_of, next_clock}
 use Rattle.yd_arena.specs.Rows.{rows_in}
-use Rattle.yd_marks.specs.Marks.{IsBorder}
+use Rattle.yd_arena.specs.Marks.{IsBorder}
 use Rattle.yd_store.specs.Store.{Stored}
 use Rattle.yd_store.specs.Units.{operations_in, HasOperation, HasMarked, AddsUnits}
-use Rattle.yd_updates.specs.Received.{has_operation, IsWritten}
+use Rattle.yd_ops.specs.Received.{has_operation, IsWritten}
 use Rattle.yd_meaning.specs.Held.{standing}
 use Rattle.yd_meaning.specs.Order.{list_of}
-use Rattle.yd_filling.specs.Filling.{FillsLists, ComesNext, GrowsFrom}
+use Rattle.yd_kept.specs.Filling.{FillsLists, ComesNext, GrowsFrom}
 
 -- a store, and the names of its lists by their numbers
 pub record KeptValue : Type 0 where

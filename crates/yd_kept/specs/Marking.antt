@@ -7,7 +7,7 @@ use Rattle.yd_ids.specs.Set.{HasId}
 use Rattle.yd_ops.specs.Operation.{Operation}
 use Rattle.yd_arena.specs.Arena.{runs_of, count_of, next_clock}
 use Rattle.yd_arena.specs.Rows.{rows_in}
-use Rattle.yd_marks.specs.Marks.{IsBorder}
+use Rattle.yd_arena.specs.Marks.{IsBorder}
 use Rattle.yd_store.specs.Store.{Stored}
 use Rattle.yd_store.specs.Units.{operations_in, HasOperation, HasMarked}
 use Rattle.yd_kept.specs.Kept.{KeptValue, StaysFilled, KeepsHeld}

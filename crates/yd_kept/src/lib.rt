@@ -7,6 +7,11 @@
 //! That is promised of all held operations, whether they keep the edit rules or not, and no link
 //! between runs is seen in it (`specs/Kept.antt`). A call that finds no memory changes no unit.
 //!
+//! What a list has while runs come stands in `specs/Placing.antt`, all lists by their names in
+//! `specs/Filling.antt`, how a store goes back in `specs/Back.antt`, and the document that a filled
+//! store tells in `specs/Telling.antt`. The laws are contracts of empty functions: of one list in
+//! [`one_list`], of all in [`law`].
+//!
 //! ```rust
 //! let mut kept = Kept::new(alloc);
 //! kept.hold(run)?;
@@ -20,6 +25,7 @@ mod holding;
 mod kept;
 pub mod law;
 mod marking;
+pub mod one_list;
 mod placing;
 
 pub use kept::Kept;

@@ -1,2 +1,13 @@
+mod AddingLemmas
+mod DroppingLemmas
+mod NotingLemmas
+mod OpeningLemmas
+mod OutlivingLemmas
+mod QueueLemmas
+mod RunLemmas
+mod TakingLemmas
+pub mod LawLemmas
+pub mod LentLemmas
 pub mod ListingLemmas
 pub mod UnitLemmas
+pub mod WalkLemmas

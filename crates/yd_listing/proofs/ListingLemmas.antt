@@ -20,18 +20,18 @@ use Rattle.yd_scan.specs.Stretches.{stretch_at}
 use Rattle.yd_arena.specs.Lists.{AreLists}
 use Rattle.yd_arena.specs.Arena.{runs_of, count_of, places_in, IsArena, HasUnit}
 use Rattle.yd_arena.proofs.ArenaLemmas.{unit_below}
-use Rattle.yd_marks.specs.Marks.{mark_at}
+use Rattle.yd_arena.specs.Marks.{mark_at}
 use Rattle.yd_store.specs.Contents.{told_of}
 use Rattle.yd_store.specs.Store.{Stored, AreTold}
 use Rattle.yd_store.specs.Units.{operations_at, HasOperation}
 use Rattle.yd_store.proofs.HalvesLemmas.{has_unit}
 use Rattle.yd_meaning.specs.Document.{Document}
-use Rattle.yd_growing.specs.Own.{ids_in}
-use Rattle.yd_lending.specs.Lending.{Lent, lent, lent_from, lent_at, lent_in, units_of_run, units_left, Walk}
-use Rattle.yd_lending.specs.declared.lent.LentRun.{LentRun}
-use Rattle.yd_lending.proofs.LentLemmas.{lists_lend_units}
+use Rattle.yd_meaning.specs.Own.{ids_in}
+use Rattle.yd_listing.specs.Lending.{Lent, lent, lent_from, lent_at, lent_in, units_of_run, units_left, Walk}
+use Rattle.yd_listing.specs.declared.lent.LentRun.{LentRun}
+use Rattle.yd_listing.proofs.LentLemmas.{lists_lend_units}
 use Rattle.yd_kept.specs.Kept.{KeptValue}
-use Rattle.yd_deleting.specs.Falling.{IsTold}
+use Rattle.yd_listing.specs.Falling.{IsTold}
 use Rattle.yd_listing.specs.Listing.{Tells, lent_units, units_to_come, HasRoom, AreInRange, IsInRange}
 
 -- ---- names

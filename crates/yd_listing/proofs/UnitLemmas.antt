@@ -15,13 +15,13 @@ use Rattle.yd_index.proofs.RowLemmas.{from_says, from_in}
 use Rattle.yd_arena.specs.Lists.{AreLists}
 use Rattle.yd_arena.specs.Arena.{IsArena, HasUnit, runs_of, count_of, places_in, units_in as units_of_list}
 use Rattle.yd_arena.proofs.ArenaLemmas.{units_stand_once}
-use Rattle.yd_marks.specs.Marks.{mark_at}
+use Rattle.yd_arena.specs.Marks.{mark_at}
 use Rattle.yd_store.specs.Contents.{told_of, run_at}
 use Rattle.yd_store.specs.Store.{Stored, IsRunOf, AreTold, StandsIn}
 use Rattle.yd_store.specs.Units.{operations_told, operations_in, HasOperation, HasMarked}
 use Rattle.yd_store.proofs.HalvesLemmas.{in_at}
 use Rattle.yd_store.proofs.StoreLemmas.{stands_only}
-use Rattle.yd_filling.proofs.TellingLemmas.{lists_tell_units}
+use Rattle.yd_kept.proofs.TellingLemmas.{lists_tell_units}
 
 -- ---- an operation
 

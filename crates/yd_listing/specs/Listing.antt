@@ -7,9 +7,9 @@ use Rattle.yd_ops.specs.declared.lists.List.{List as DocList}
 use Rattle.yd_ops.specs.Operation.{Operation}
 use Rattle.yd_meaning.specs.Document.{Document}
 use Rattle.yd_store.specs.Units.{HasMarked}
-use Rattle.yd_lending.specs.Lending.{Lent, lent, Walk, units_left}
-use Rattle.yd_lending.specs.declared.lent.LentRun.{LentRun}
-use Rattle.yd_filling.specs.Telling.{TellsLists}
+use Rattle.yd_listing.specs.Lending.{Lent, lent, Walk, units_left}
+use Rattle.yd_listing.specs.declared.lent.LentRun.{LentRun}
+use Rattle.yd_kept.specs.Telling.{TellsLists}
 use Rattle.yd_kept.specs.Kept.{KeptValue}
 
 -- a store tells a document: it has the operations of each list under its name, and none under others, and it deletes what is marked

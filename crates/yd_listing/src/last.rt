@@ -5,13 +5,13 @@ ghost use Rattle.yd_ids.specs.Id.{IsClock};
 ghost use Rattle.yd_origins.specs.Deleted.{last_of};
 ghost use Rattle.yd_ops.specs.Operation.{later_id};
 ghost use Rattle.yd_meaning.specs.Document.{Document};
-ghost use Rattle.yd_growing.specs.Own.{ids_in};
-ghost use Rattle.yd_deleting.specs.Falling.{IsTold};
+ghost use Rattle.yd_meaning.specs.Own.{ids_in};
+ghost use Rattle.yd_listing.specs.Falling.{IsTold};
 ghost use Rattle.yd_listing.specs.Listing.{Tells};
 
+use crate::last_run;
 use yd_ids::Id;
 use yd_kept::Kept;
-use yd_lending::last_run;
 use yd_ops::List;
 
 /// The id of the unit that stands last in the list with a name, deleted or not, and none where the

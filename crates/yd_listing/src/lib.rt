@@ -12,13 +12,34 @@
 //! }
 //! let last = last_of(&kept, &name);
 //! ```
+//!
+//! Which ids become deleted when more is held or named is answered by spans
+//! ([`deletions_besides`], `specs/Falling.antt`): the work is that of what came and of what falls, and
+//! not of what is known. With it the deletions of a replica are closed again, and sound ([`law`]).
 #![tactic(auto)]
 
+mod arriving;
+mod came;
+mod closing;
+mod dropping;
+mod ends;
 mod finding;
 mod last;
+pub mod law;
+mod lent;
 mod listing;
+mod naming;
+mod outliving;
+mod queue;
+mod spans;
+mod walking;
 
+pub use came::Came;
+pub use dropping::deletions_besides;
+pub use ends::last_run;
 pub use finding::{UnitView, unit};
 pub use last::last_of;
+pub use lent::LentRun;
 pub use listing::{ListView, list, list_at};
-pub use yd_lending::LentRun;
+pub use walking::{ListWalk, walk};
+pub use yd_ops::NoMemory;

@@ -6,14 +6,14 @@ ghost use Rattle.yd_ops.specs.View.{content_value};
 ghost use Rattle.yd_ops.specs.Value.{len_of};
 ghost use Rattle.yd_meaning.specs.Document.{Document};
 ghost use Rattle.yd_arena.specs.Arena.{count_of};
-ghost use Rattle.yd_lending.specs.Lending.{units_of_run, units_left};
-ghost use Rattle.yd_deleting.specs.Falling.{IsTold};
+ghost use Rattle.yd_listing.specs.Lending.{units_of_run, units_left};
+ghost use Rattle.yd_listing.specs.Falling.{IsTold};
 ghost use Rattle.yd_listing.specs.Listing.{Tells, lent_units, units_to_come, EndIn};
 ghost use Rattle.yd_listing.specs.Listing.{AreInRange, IsInRange};
 
+use crate::{LentRun, ListWalk, walk};
 use std::marker::Model;
 use yd_kept::Kept;
-use yd_lending::{LentRun, ListWalk, walk};
 use yd_ops::List;
 
 /// The units of a list in order, seen as those that are still to come.
@@ -24,7 +24,7 @@ pub struct ListView<'a> {
 
 impl<'a> Model for ListView<'a> {
     ghost use Rattle.std.specs.Prelude.{Option};
-    ghost use Rattle.yd_lending.specs.Lending.{Walk};
+    ghost use Rattle.yd_listing.specs.Lending.{Walk};
     ghost use Rattle.yd_listing.specs.Listing.{AreInRange};
     ghost use Rattle.yd_any.specs.contracts.any_value.AnyList as any_list;
     ghost use Rattle.yd_any.specs.contracts.json_value.Json as json;

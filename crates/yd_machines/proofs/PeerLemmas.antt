@@ -8,7 +8,7 @@ use Rattle.yd_sync.specs.Message.{MessageValue, message_value}
 use Rattle.yd_sync.specs.MessageGrammar.{ReadsMessage}
 use Rattle.yd_sync.specs.MessageLaw.{MessagesAreRead}
 use Rattle.yd_sync.specs.MessageReading.{MakesMessage, message_reading}
-use Rattle.yd_updates.specs.Received.{Received}
+use Rattle.yd_ops.specs.Received.{Received}
 use Rattle.yd_aware.specs.AwareTable.{AwareTable}
 use Rattle.std.specs.Prelude.{IfErr, IfOk, OnOk}
 use Rattle.yd_doc.specs.Kept.{Kept}

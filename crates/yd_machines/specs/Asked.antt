@@ -2,7 +2,7 @@
 use Rattle.std.specs.Prelude.{ℕ, List}
 use Rattle.yd_ids.specs.declared.id.Client.{Client}
 use Rattle.yd_ids.specs.Set.{AreMaximal}
-use Rattle.yd_updates.specs.Law.{IsReceived}
+use Rattle.yd_ops.specs.ReceivedLaw.{IsReceived}
 use Rattle.yd_grouping.specs.Groupable.{AreGroupable}
 use Rattle.yd_doc.specs.Kept.{Kept, own_deletes, received_of}
 use Rattle.yd_hub.specs.Answers.{Answers}

@@ -15,8 +15,8 @@ use Rattle.yd_ops.specs.Operation.{UnitContent, Operation, text_unit, later_id, 
 use Rattle.yd_ops.specs.View.{unit_value, content_value}
 use Rattle.yd_any.specs.AnyView.{any_trees}
 use Rattle.yd_ops.proofs.OperationLemmas.{length-units_of_content, later_later, later_none}
-use Rattle.yd_updates.specs.Pairs.{is_high, is_text_and}
-use Rattle.yd_updates.specs.Received.{has_operation}
+use Rattle.yd_ops.specs.Pairs.{is_high, is_text_and}
+use Rattle.yd_ops.specs.Received.{has_operation}
 use Rattle.yd_editing.specs.Made.{units_behind, id_of_first}
 use Rattle.yd_editing.specs.Refused.{has_high}
 use Rattle.yd_state.specs.declared.listing.RunView.{RunView}

@@ -6,8 +6,8 @@ use Rattle.yd_ids.specs.declared.id.Id.{Id}
 use Rattle.yd_ids.specs.Id.{IsId}
 use Rattle.yd_ops.specs.declared.lists.List.{List as DocList}
 use Rattle.yd_ops.specs.Operation.{Operation}
-use Rattle.yd_updates.specs.Received.{has_operation, IsWritten}
-use Rattle.yd_updates.proofs.OneOfLemmas.{operation_with, id_is_there}
+use Rattle.yd_ops.specs.Received.{has_operation, IsWritten}
+use Rattle.yd_ops.proofs.OneOfLemmas.{operation_with, id_is_there}
 use Rattle.yd_meaning.specs.Held.{held_set, held_clock, standing}
 use Rattle.yd_meaning.proofs.StandingLemmas.{standing_in}
 use Rattle.yd_meaning.proofs.VectorLemmas.{held_written, held_below}

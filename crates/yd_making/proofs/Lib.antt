@@ -1,6 +1,8 @@
 pub mod AskedLemmas
 pub mod FindingLemmas
 pub mod GivenLemmas
+pub mod KindLemmas
+pub mod ListLemmas
 pub mod PlaceLemmas
 pub mod RightsLemmas
 pub mod StructLemmas

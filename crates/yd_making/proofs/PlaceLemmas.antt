@@ -4,7 +4,7 @@ use Rattle.std.specs.Prelude.{is_some, if◌then◌else◌}
 use Rattle.yd_words.specs.Test.{is_some_and}
 use Rattle.yd_ids.specs.declared.id.Id.{Id}
 use Rattle.yd_ops.specs.Operation.{Operation}
-use Rattle.yd_updates.specs.Received.{has_operation}
+use Rattle.yd_ops.specs.Received.{has_operation}
 use Rattle.yd_editing.specs.Step.{Refusal, no_place}
 use Rattle.yd_editing.specs.Made.{units_behind, id_of_first}
 use Rattle.yd_editing.specs.Refused.{after_refusal, has_high}

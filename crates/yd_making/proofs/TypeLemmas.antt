@@ -13,7 +13,7 @@ use Rattle.yd_ops.specs.declared.runs.Run.{Run}
 use Rattle.yd_ops.specs.Value.{ContentValue, json, binary, string, embed, format, nested, any, deleted}
 use Rattle.yd_ops.specs.Operation.{UnitContent, Operation, units_of_trees, deleted_units, units_of_content, later_id, gone_from}
 use Rattle.yd_ops.specs.View.{content_value}
-use Rattle.yd_updates.specs.Received.{has_operation, IsWritten}
+use Rattle.yd_ops.specs.Received.{has_operation, IsWritten}
 use Rattle.yd_editing.specs.Basis.{is_type, has_type_item}
 use Rattle.yd_entries.specs.declared.entry.Entry.{Entry}
 use Rattle.yd_entries.specs.Entries.{units_of, list_at, operations_told, operations_of_taken, IsTold, TellsRight, IsTakenOf, is_listed, covers}

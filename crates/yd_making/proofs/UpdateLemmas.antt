@@ -11,7 +11,7 @@ use Rattle.yd_ops.specs.declared.lists.List.{List as DocList}
 use Rattle.yd_ops.specs.Operation.{Operation}
 use Rattle.yd_ops.specs.Value.{ContentValue, item, StructValue, BlockValue, UpdateValue}
 use Rattle.yd_ops.specs.Valid.{IsValidBlock, IsValidUpdate}
-use Rattle.yd_updates.specs.Received.{has_operation}
+use Rattle.yd_ops.specs.Received.{has_operation}
 use Rattle.yd_meaning.specs.Names.{item_of_list}
 use Rattle.yd_editing.specs.Step.{Step, make, remove, Refusal, no_place, first_or}
 use Rattle.yd_editing.specs.Basis.{Basis}

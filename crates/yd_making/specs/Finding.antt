@@ -3,7 +3,7 @@ use Rattle.std.specs.Prelude.{ℕ, ◌+◌, Bool, false, List, [], ◌∷◌, Op
 use Rattle.yd_ids.specs.declared.id.Id.{Id}
 use Rattle.yd_ids.specs.Ids.{is_same}
 use Rattle.yd_ops.specs.Operation.{UnitContent, later_id}
-use Rattle.yd_updates.specs.Pairs.{is_high, is_text_and}
+use Rattle.yd_ops.specs.Pairs.{is_high, is_text_and}
 use Rattle.yd_state.specs.declared.listing.RunView.{RunView}
 use Rattle.yd_state.specs.Lent.{Lent}
 use Rattle.yd_making.specs.declared.finding.Found.{Found}

@@ -7,7 +7,7 @@ ghost use Rattle.yd_ops.specs.Operation.{units_of_content, later_id};
 ghost use Rattle.yd_ops.specs.View.{content_value};
 ghost use Rattle.yd_state.specs.Lent.{lent_units, units_left, units_of_view, IsWithin};
 ghost use Rattle.yd_state.specs.State.{document_in};
-ghost use Rattle.yd_updates.specs.Pairs.{is_high as is_high_half};
+ghost use Rattle.yd_ops.specs.Pairs.{is_high as is_high_half};
 ghost use Rattle.yd_making.specs.Finding.{first_id, found_in, next_in, is_high_unit};
 
 use yd_ids::Id;

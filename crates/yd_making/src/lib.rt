@@ -3,7 +3,8 @@
 //! An edit is a list of steps, each of which makes units behind a unit of a list or removes ids. What
 //! is made and what is refused is a function of the state before (`yd_editing`): [`Basis::refusal`]
 //! gives the first refusal of the steps, and [`Basis::update`] the one update of an edit that is not
-//! refused. Nothing here changes the state; whoever carries the edit out takes the update in.
+//! refused. Nothing here changes the state; whoever carries the edit out takes the update in. The list
+//! that a unit stands in is [`list_of`], and the type that it is [`kind_of`].
 //!
 //! ```rust
 //! let basis = Basis { state: &state, client };
@@ -16,7 +17,9 @@ mod basis;
 mod fault;
 mod finding;
 mod gathering;
+mod kind;
 mod kinds;
+mod lists;
 mod refusing;
 mod rights;
 mod step;
@@ -26,4 +29,6 @@ mod waiting;
 
 pub use basis::Basis;
 pub use fault::{EditFault, NoMemory};
+pub use kind::kind_of;
+pub use lists::list_of;
 pub use step::{Step, StepList};

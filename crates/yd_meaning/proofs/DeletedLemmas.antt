@@ -11,7 +11,7 @@ use Rattle.yd_ids.proofs.IdLemmas.{same_itself, other_id}
 use Rattle.yd_ops.specs.Operation.{Operation}
 use Rattle.yd_origins.specs.Table.{ids_of}
 use Rattle.yd_origins.specs.Deleted.{last_of, IsOverwritten, IsDeleted, by_name, by_key, by_item}
-use Rattle.yd_updates.specs.Received.{has_operation, IsWritten}
+use Rattle.yd_ops.specs.Received.{has_operation, IsWritten}
 use Rattle.yd_meaning.specs.Names.{has_key, item_of_list}
 use Rattle.yd_meaning.specs.Held.{standing}
 use Rattle.yd_meaning.specs.Order.{rows_of, operation_set, list_of, order_of}

@@ -13,8 +13,8 @@ use Rattle.yd_words.specs.Member.{IsIn}
 use Rattle.yd_ops.specs.Operation.{Operation}
 use Rattle.yd_origins.specs.Before.{is_before, IsLeftFirst}
 use Rattle.yd_origins.specs.Operations.{table_of_all}
-use Rattle.yd_updates.specs.Received.{IsWritten}
-use Rattle.yd_updates.proofs.WritingLemmas.{written_agrees}
+use Rattle.yd_ops.specs.Received.{IsWritten}
+use Rattle.yd_ops.proofs.WritingLemmas.{written_agrees}
 use Rattle.yd_meaning.specs.Held.{needs, standing}
 use Rattle.yd_meaning.specs.Order.{operation_set, IsPast, of_need, of_past, MeetsRules, AreHonest}
 use Rattle.yd_meaning.proofs.NeedLemmas.{left_needed}

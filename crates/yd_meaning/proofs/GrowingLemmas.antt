@@ -6,13 +6,13 @@ use Rattle.yd_ids.specs.declared.id.Id.{Id}
 use Rattle.yd_ids.proofs.IdLemmas.{same_says}
 use Rattle.yd_ops.specs.Operation.{Operation, level_of, as_level}
 use Rattle.yd_ops.specs.Value.{UpdateValue}
-use Rattle.yd_updates.specs.Pairs.{is_alone, as_torn}
-use Rattle.yd_updates.specs.Received.{has_operation, IsWritten, lowered, taken_in, all_taken, mended, with_group, with_groups, groups_of, Received, received_after}
-use Rattle.yd_updates.specs.Law.{IsReceived}
-use Rattle.yd_updates.proofs.OneOfLemmas.{operation_with, id_there}
-use Rattle.yd_updates.proofs.LevelLemmas.{lowered_either}
-use Rattle.yd_updates.proofs.WritingLemmas.{taken_stays, taken_lowered, taken_written}
-use Rattle.yd_updates.proofs.MendingLemmas.{map_has, mended_written}
+use Rattle.yd_ops.specs.Pairs.{is_alone, as_torn}
+use Rattle.yd_ops.specs.Received.{has_operation, IsWritten, lowered, taken_in, all_taken, mended, with_group, with_groups, groups_of, Received, received_after}
+use Rattle.yd_ops.specs.ReceivedLaw.{IsReceived}
+use Rattle.yd_ops.proofs.OneOfLemmas.{operation_with, id_there}
+use Rattle.yd_ops.proofs.LevelLemmas.{lowered_either}
+use Rattle.yd_ops.proofs.WritingLemmas.{taken_stays, taken_lowered, taken_written}
+use Rattle.yd_ops.proofs.MendingLemmas.{map_has, mended_written}
 use Rattle.yd_meaning.specs.Held.{id_before, sources, needs, held_set}
 use Rattle.yd_meaning.proofs.HeldLemmas.{held_least, needs_held}
 

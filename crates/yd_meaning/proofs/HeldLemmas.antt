@@ -6,8 +6,8 @@ use Rattle.yd_words.proofs.TestLemmas.{one_answer}
 use Rattle.yd_words.proofs.FilterLemmas.{filter-all, filter_alike}
 use Rattle.yd_ids.specs.declared.id.Id.{Id}
 use Rattle.yd_ops.specs.Operation.{Operation}
-use Rattle.yd_updates.specs.Received.{has_operation, IsWritten}
-use Rattle.yd_updates.proofs.OneOfLemmas.{operation_with, id_is_there}
+use Rattle.yd_ops.specs.Received.{has_operation, IsWritten}
+use Rattle.yd_ops.proofs.OneOfLemmas.{operation_with, id_is_there}
 use Rattle.yd_meaning.specs.Held.{item_carried, needs, has_all, next_round, held_set}
 use Rattle.yd_meaning.proofs.HasAllLemmas.{all_has, has_each}
 use Rattle.yd_meaning.proofs.RowLemmas.{written_distinct, one_operation}

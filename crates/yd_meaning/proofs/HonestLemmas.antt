@@ -14,8 +14,8 @@ use Rattle.yd_origins.specs.Table.{OriginTable, ids_of, left_of, right_of, IsTab
 use Rattle.yd_origins.specs.Before.{is_before, IsBetween}
 use Rattle.yd_origins.specs.Operations.{OperationSet, list_by_origins, list_within, past_of, of_left, of_right, of_parent, of_clock, table_of_all, IsHonest, MeetsRules as SetMeetsRules}
 use Rattle.yd_origins.specs.Operations.past_of.{of_past as then_past}
-use Rattle.yd_updates.specs.Received.{has_operation, IsWritten}
-use Rattle.yd_updates.proofs.OneOfLemmas.{operation_with, id_is_there}
+use Rattle.yd_ops.specs.Received.{has_operation, IsWritten}
+use Rattle.yd_ops.proofs.OneOfLemmas.{operation_with, id_is_there}
 use Rattle.yd_meaning.specs.ListNames.{list_names}
 use Rattle.yd_meaning.specs.Names.{item_of_list}
 use Rattle.yd_meaning.specs.Held.{item_carried, needs, held_set, standing}

@@ -13,7 +13,7 @@ use Rattle.yd_origins.proofs.GrowingLemmas.{growth_keeps, growth_gives_order}
 use Rattle.yd_origins.proofs.HonestLemmas.{own_fits, right_is}
 use Rattle.yd_origins.proofs.ListTableLemmas.{own_is_table, own_left, own_list, own_member, in_own}
 use Rattle.yd_origins.proofs.SortedLemmas.{order_in_order}
-use Rattle.yd_updates.specs.Received.{has_operation, IsWritten}
+use Rattle.yd_ops.specs.Received.{has_operation, IsWritten}
 use Rattle.yd_meaning.specs.ListNames.{list_names}
 use Rattle.yd_meaning.specs.Held.{held_set, standing}
 use Rattle.yd_meaning.specs.Order.{rows_of, list_of, order_of, operation_set, AreHonest}

@@ -4,8 +4,8 @@ use Rattle.std.proofs.lemmas.Bool.{cases_Bool, false_from_ne_true}
 use Rattle.yd_words.specs.Member.{IsIn}
 use Rattle.yd_ids.specs.declared.id.Id.{Id}
 use Rattle.yd_ops.specs.Operation.{Operation}
-use Rattle.yd_updates.specs.Received.{has_operation, IsWritten}
-use Rattle.yd_updates.proofs.OneOfLemmas.{operation_with, id_is_there, none_has}
+use Rattle.yd_ops.specs.Received.{has_operation, IsWritten}
+use Rattle.yd_ops.proofs.OneOfLemmas.{operation_with, id_is_there, none_has}
 use Rattle.yd_meaning.specs.Held.{sources, is_gone, standing, is_lost, is_one_that}
 use Rattle.yd_meaning.proofs.RowLemmas.{written_distinct, one_operation}
 use Rattle.yd_meaning.proofs.StandingLemmas.{standing_in, standing_sources, sources_stand, standing_one}

@@ -17,9 +17,9 @@ use Rattle.yd_origins.proofs.NextLemmas.{none_between, neighbours_in_order, next
 use Rattle.yd_origins.proofs.ListTableLemmas.{own_is_table, own_order, own_member, own_list, in_own}
 use Rattle.yd_origins.proofs.SortedLemmas.{origin_order_in}
 use Rattle.yd_origins.proofs.HonestLemmas.{own_fits}
-use Rattle.yd_updates.specs.Received.{has_operation, IsWritten, taken_in}
-use Rattle.yd_updates.proofs.OneOfLemmas.{operation_with, id_is_there, id_there, id_not_there, ids_stay}
-use Rattle.yd_updates.proofs.WritingLemmas.{taken_is, taken_new, taken_stays, taken_written}
+use Rattle.yd_ops.specs.Received.{has_operation, IsWritten, taken_in}
+use Rattle.yd_ops.proofs.OneOfLemmas.{operation_with, id_is_there, id_there, id_not_there, ids_stay}
+use Rattle.yd_ops.proofs.WritingLemmas.{taken_is, taken_new, taken_stays, taken_written}
 use Rattle.yd_meaning.specs.Held.{id_before, item_carried, sources, needs, has_all, held_set, is_gone, standing}
 use Rattle.yd_meaning.specs.Order.{rows_of, list_or_root, operation_set, list_of, order_of, IsPast, of_need, of_past, MeetsRules, AreHonest}
 use Rattle.yd_meaning.specs.Law.{StaysAsItIs, IsMade, StaysHonestWith}

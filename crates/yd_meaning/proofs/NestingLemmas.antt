@@ -10,7 +10,7 @@ use Rattle.yd_origins.specs.Table.{OriginTable, ids_of, left_of, right_of}
 use Rattle.yd_origins.specs.Operations.{list_by_origins, list_within}
 use Rattle.yd_origins.proofs.ListingLemmas.{arranged, arranged_in, in_arranged, arranged_falling, arranged_distinct, arranged_length, listed, rank, rank_below, rank_left}
 use Rattle.yd_origins.proofs.PlacedLemmas.{IsListed}
-use Rattle.yd_updates.specs.Received.{has_operation, IsWritten}
+use Rattle.yd_ops.specs.Received.{has_operation, IsWritten}
 use Rattle.yd_meaning.specs.Names.{item_of_list}
 use Rattle.yd_meaning.specs.Held.{item_carried, standing}
 use Rattle.yd_meaning.specs.Order.{rows_of, list_or_root, list_carried, operation_set, list_of}

@@ -14,8 +14,8 @@ use Rattle.yd_origins.specs.Deleted.{IsDeleted}
 use Rattle.yd_origins.specs.Operations.{table_of_all, IsClosedPart}
 use Rattle.yd_origins.proofs.PastLemmas.{closed_list, closed_order}
 use Rattle.yd_origins.proofs.DeletedLemmas.{deletes_no_more}
-use Rattle.yd_updates.specs.Received.{has_operation, IsWritten}
-use Rattle.yd_updates.proofs.OneOfLemmas.{operation_with, id_is_there, ids_stay}
+use Rattle.yd_ops.specs.Received.{has_operation, IsWritten}
+use Rattle.yd_ops.proofs.OneOfLemmas.{operation_with, id_is_there, ids_stay}
 use Rattle.yd_meaning.specs.Names.{item_of_list}
 use Rattle.yd_meaning.specs.Held.{sources, held_set, is_gone, standing, is_lost}
 use Rattle.yd_meaning.specs.Order.{row_of, rows_of, list_carried, operation_set, list_of, IsPast, of_need, of_past, AreHonest}

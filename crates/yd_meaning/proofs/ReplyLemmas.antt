@@ -7,12 +7,12 @@ use Rattle.yd_ids.specs.Set.{HasId}
 use Rattle.yd_ids.proofs.UnionLemmas.{union_ids}
 use Rattle.yd_ops.specs.Operation.{Operation, operations_of}
 use Rattle.yd_ops.specs.Value.{UpdateValue}
-use Rattle.yd_updates.specs.Received.{has_operation, groups_of, Received, received_after}
-use Rattle.yd_updates.specs.Deletes.{deletes_of}
-use Rattle.yd_updates.specs.Law.{IsReceived, IsCovered}
-use Rattle.yd_updates.proofs.OneOfLemmas.{operation_with, id_there, ids_stay}
-use Rattle.yd_updates.proofs.GroupLemmas.{update_groups}
-use Rattle.yd_updates.proofs.CoveringLemmas.{covered_groups, groups_cover}
+use Rattle.yd_ops.specs.Received.{has_operation, groups_of, Received, received_after}
+use Rattle.yd_ops.specs.Deletes.{deletes_of}
+use Rattle.yd_ops.specs.ReceivedLaw.{IsReceived, IsCovered}
+use Rattle.yd_ops.proofs.OneOfLemmas.{operation_with, id_there, ids_stay}
+use Rattle.yd_ops.proofs.GroupLemmas.{update_groups}
+use Rattle.yd_ops.proofs.CoveringLemmas.{covered_groups, groups_cover}
 use Rattle.yd_meaning.specs.Held.{held_set, held_clock}
 use Rattle.yd_meaning.specs.Law.{IsCompleted}
 use Rattle.yd_meaning.proofs.HeldLemmas.{held_in}

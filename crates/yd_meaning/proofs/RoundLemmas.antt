@@ -4,8 +4,8 @@ use Rattle.yd_words.specs.Member.{IsIn}
 use Rattle.yd_words.proofs.FilterLemmas.{kept_one, one_kept, length-filter, same_or_more}
 use Rattle.yd_ids.specs.declared.id.Id.{Id}
 use Rattle.yd_ops.specs.Operation.{Operation}
-use Rattle.yd_updates.specs.Received.{has_operation}
-use Rattle.yd_updates.proofs.OneOfLemmas.{operation_with, id_is_there}
+use Rattle.yd_ops.specs.Received.{has_operation}
+use Rattle.yd_ops.proofs.OneOfLemmas.{operation_with, id_is_there}
 use Rattle.yd_meaning.specs.Held.{has_all, next_round, round, last_round}
 use Rattle.yd_meaning.proofs.HasAllLemmas.{all_has, has_each}
 

@@ -6,9 +6,9 @@ use Rattle.yd_words.specs.Member.{IsIn}
 use Rattle.yd_words.proofs.FilterLemmas.{kept_one, one_kept}
 use Rattle.yd_ids.specs.declared.id.Id.{Id}
 use Rattle.yd_ops.specs.Operation.{Operation}
-use Rattle.yd_updates.specs.Received.{has_operation, IsWritten}
-use Rattle.yd_updates.proofs.OneOfLemmas.{operation_with, id_is_there}
-use Rattle.yd_updates.proofs.WritingLemmas.{written_alone}
+use Rattle.yd_ops.specs.Received.{has_operation, IsWritten}
+use Rattle.yd_ops.proofs.OneOfLemmas.{operation_with, id_is_there}
+use Rattle.yd_ops.proofs.WritingLemmas.{written_alone}
 use Rattle.yd_meaning.specs.Held.{sources, has_all, round, held_set, is_gone, standing}
 use Rattle.yd_meaning.specs.Law.{AreStanding}
 use Rattle.yd_meaning.proofs.RowLemmas.{written_distinct, one_operation}

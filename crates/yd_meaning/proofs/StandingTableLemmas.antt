@@ -7,8 +7,8 @@ use Rattle.yd_words.proofs.OptionLemmas.{if_some_map, if_some_each}
 use Rattle.yd_ids.specs.declared.id.Id.{Id}
 use Rattle.yd_ops.specs.Operation.{Operation}
 use Rattle.yd_origins.specs.Table.{OriginTable, ids_of, left_of, right_of, IsTable}
-use Rattle.yd_updates.specs.Received.{has_operation, IsWritten}
-use Rattle.yd_updates.proofs.OneOfLemmas.{operation_with}
+use Rattle.yd_ops.specs.Received.{has_operation, IsWritten}
+use Rattle.yd_ops.proofs.OneOfLemmas.{operation_with}
 use Rattle.yd_meaning.specs.Held.{sources, round, standing}
 use Rattle.yd_meaning.specs.Order.{rows_of}
 use Rattle.yd_meaning.proofs.RowLemmas.{row_one, has_row, written_distinct, one_operation, left_of-row, right_of-row}

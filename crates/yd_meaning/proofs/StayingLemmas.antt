@@ -3,7 +3,7 @@ use Rattle.std.proofs.Common.{◌≡◌, true, List}
 use Rattle.yd_words.specs.Member.{IsIn}
 use Rattle.yd_ids.specs.declared.id.Id.{Id}
 use Rattle.yd_ops.specs.Operation.{Operation}
-use Rattle.yd_updates.specs.Received.{has_operation, IsWritten}
+use Rattle.yd_ops.specs.Received.{has_operation, IsWritten}
 use Rattle.yd_meaning.specs.Held.{held_set, standing, is_lost}
 use Rattle.yd_meaning.specs.Order.{list_of}
 use Rattle.yd_meaning.specs.Law.{IsPartOf}

@@ -9,8 +9,8 @@ use Rattle.yd_ids.specs.declared.id.Id.{Id}
 use Rattle.yd_ids.specs.Ids.{is_same, HasSmallerClock, is_written_before}
 use Rattle.yd_ids.proofs.IdLemmas.{same_numbers}
 use Rattle.yd_ops.specs.Operation.{Operation}
-use Rattle.yd_updates.specs.Received.{has_operation, IsWritten}
-use Rattle.yd_updates.proofs.OneOfLemmas.{operation_with, has_behind, id_is_there}
+use Rattle.yd_ops.specs.Received.{has_operation, IsWritten}
+use Rattle.yd_ops.proofs.OneOfLemmas.{operation_with, has_behind, id_is_there}
 use Rattle.yd_meaning.specs.Held.{needs, has_all, round, held_set, held_clock}
 use Rattle.yd_meaning.proofs.NeedLemmas.{before_needed}
 use Rattle.yd_meaning.proofs.HeldLemmas.{held_needs}

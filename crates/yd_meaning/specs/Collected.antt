@@ -8,7 +8,7 @@ use Rattle.yd_ops.specs.declared.lists.Parent.TheVariants.{Item}
 use Rattle.yd_ops.specs.Value.{string, nested, any, deleted, item, gone, UpdateValue}
 use Rattle.yd_ops.specs.Valid.{IsValidUpdate}
 use Rattle.yd_ops.specs.Operation.{Operation, operations_of}
-use Rattle.yd_updates.specs.Received.{Received, received_set}
+use Rattle.yd_ops.specs.Received.{Received, received_set}
 use Rattle.yd_meaning.specs.Held.{held_set, held_clock, standing, waiting_counts}
 use Rattle.yd_meaning.specs.Order.{list_of, order_of, AreHonest}
 use Rattle.yd_meaning.specs.Deleted.{is_in_delete_set}

@@ -8,7 +8,7 @@ use Rattle.yd_ids.specs.Ids.{is_same_neighbour}
 use Rattle.yd_ops.specs.declared.lists.List.{List as DocList}
 use Rattle.yd_ops.specs.Operation.{Operation}
 use Rattle.yd_origins.specs.Deleted.{last_of}
-use Rattle.yd_updates.specs.Received.{Received, has_operation}
+use Rattle.yd_ops.specs.Received.{Received, has_operation}
 use Rattle.yd_meaning.specs.Names.{has_key, item_of_list}
 use Rattle.yd_meaning.specs.Held.{held_set, standing, is_lost, is_named}
 use Rattle.yd_meaning.specs.Order.{list_of, order_of}

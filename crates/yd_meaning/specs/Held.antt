@@ -5,7 +5,7 @@ use Rattle.yd_ids.specs.declared.id.Id.{Id}
 use Rattle.yd_ids.specs.declared.id.Span.{Span}
 use Rattle.yd_ops.specs.declared.lists.List.{List as DocList}
 use Rattle.yd_ops.specs.Operation.{Operation, level_of}
-use Rattle.yd_updates.specs.Received.{Received, has_operation}
+use Rattle.yd_ops.specs.Received.{Received, has_operation}
 use Rattle.yd_meaning.specs.Names.{item_of_list}
 
 -- ---- what an operation needs

@@ -17,10 +17,10 @@ use Rattle.yd_origins.specs.Law.{IsStrict}
 use Rattle.yd_origins.specs.Growing.{GrowsByScan, IsClosed}
 use Rattle.yd_origins.specs.Deleted.{IsDeleted}
 use Rattle.yd_origins.specs.Operations.{list_by_origins, table_of_all, table_of_list, IsHonest}
-use Rattle.yd_updates.specs.Received.{has_operation, IsWritten, taken_in, Received, received_after, received_set}
-use Rattle.yd_updates.specs.Deletes.{deletes_of}
-use Rattle.yd_updates.specs.Agreement.{operations_of_all, AreAlike, Agree, HaveSameContents, SayTheSame}
-use Rattle.yd_updates.specs.Law.{IsReceived, IsCovered}
+use Rattle.yd_ops.specs.Received.{has_operation, IsWritten, taken_in, Received, received_after, received_set}
+use Rattle.yd_ops.specs.Deletes.{deletes_of}
+use Rattle.yd_ops.specs.Agreement.{operations_of_all, AreAlike, Agree, HaveSameContents, SayTheSame}
+use Rattle.yd_ops.specs.ReceivedLaw.{IsReceived, IsCovered}
 use Rattle.yd_meaning.specs.Names.{item_of_list}
 use Rattle.yd_meaning.specs.Held.{needs, sources, item_carried, held_set, is_gone, standing, is_lost, is_one_that, held_clock}
 use Rattle.yd_meaning.specs.Order.{rows_of, list_or_root, list_of, order_of, operation_set, AreHonest}

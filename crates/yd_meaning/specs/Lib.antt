@@ -1,10 +1,17 @@
 pub mod Collected
 pub mod Deleted
+pub mod Deletions
 pub mod Document
 pub mod Example
+pub mod GrowingLaw
+pub mod Grown
+pub mod GrownExample
 pub mod Held
 pub mod Law
 pub mod ListNames
 pub mod Names
 pub mod Order
+pub mod Own
+pub mod Replica
+pub mod Staying
 pub mod Text

@@ -10,7 +10,7 @@ use Rattle.yd_origins.specs.Before.{is_before, IsLeftFirst, IsBetween}
 use Rattle.yd_origins.specs.Table.{Row, OriginTable}
 use Rattle.yd_origins.specs.Sorted.{origin_order}
 use Rattle.yd_origins.specs.Operations.{OperationSet, list_of_operation, table_of_all, table_of_list}
-use Rattle.yd_updates.specs.Received.{has_operation}
+use Rattle.yd_ops.specs.Received.{has_operation}
 use Rattle.yd_meaning.specs.ListNames.{list_names}
 use Rattle.yd_meaning.specs.Held.{needs, standing}
 

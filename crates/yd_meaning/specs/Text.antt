@@ -2,7 +2,7 @@
 use Rattle.std.specs.Prelude.{ℕ, Bool, false, ◌&&◌, ◌||◌, not, List, [], ◌∷◌, Option, Some, None, filter, if◌then◌else◌}
 use Rattle.yd_ops.specs.declared.lists.List.{List as DocList}
 use Rattle.yd_ops.specs.Operation.{UnitContent, text_unit, any_unit, json_unit, bytes, embedded, mark, nested_type, deleted_unit, gone_unit, Operation}
-use Rattle.yd_updates.specs.Pairs.{is_high, is_low, is_text_and, are_partners}
+use Rattle.yd_ops.specs.Pairs.{is_high, is_low, is_text_and, are_partners}
 use Rattle.yd_meaning.specs.Document.{Document}
 
 -- the live units of a list, in order

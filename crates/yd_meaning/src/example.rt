@@ -2,6 +2,7 @@
 
 ghost use Rattle.yd_meaning.specs.Example.{TwoValues, NestedText, MissingOrigin, EditRules};
 ghost use Rattle.yd_meaning.specs.Collected.{AllDeleted, MiddleDeleted, ListGone, OriginGone};
+ghost use Rattle.yd_meaning.specs.GrownExample.{GrownLists};
 
 /// Of two values that clients set under one key, the greater client's is live, and the other is deleted.
 pub fn two_values()
@@ -41,4 +42,9 @@ pub fn list_gone()
 /// A unit whose left origin is gone is held and lost.
 pub fn origin_gone()
     ensures { OriginGone }
+{}
+
+/// A list grows into the origin order, but where the edit rules are broken it need not.
+pub fn grown_lists()
+    ensures { GrownLists }
 {}

@@ -11,8 +11,8 @@ use Rattle.yd_ids.specs.declared.id.Span.{Span}
 use Rattle.yd_ops.specs.Operation.{Operation}
 use Rattle.yd_ops.specs.Value.{UpdateValue}
 use Rattle.yd_ops.specs.declared.runs.Run.{Run}
-use Rattle.yd_updates.specs.Received.{groups_of, received_set, with_groups}
-use Rattle.yd_updates.proofs.MendingLemmas.{HasPartners, paired_has}
+use Rattle.yd_ops.specs.Received.{groups_of, received_set, with_groups}
+use Rattle.yd_ops.proofs.MendingLemmas.{HasPartners, paired_has}
 use Rattle.yd_grouping.specs.Building.{Built, all_pushed, finished, nothing_built, with_pushed}
 use Rattle.yd_grouping.specs.Grouped.{grouping_of}
 use Rattle.yd_grouping.specs.Groups.{Group}

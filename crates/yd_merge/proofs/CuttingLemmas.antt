@@ -11,8 +11,8 @@ use Rattle.yd_ops.specs.Operation.{ArePartners, IsHighUnit, Operation, UnitConte
 use Rattle.yd_ops.specs.Valid.{IsValidContent}
 use Rattle.yd_ops.specs.View.{content_value}
 use Rattle.yd_ops.specs.declared.runs.Run.{Run}
-use Rattle.yd_updates.proofs.MendingLemmas.{HasPartners}
-use Rattle.yd_updates.proofs.PartnerLemmas.{IsHalf, high_partner}
+use Rattle.yd_ops.proofs.MendingLemmas.{HasPartners}
+use Rattle.yd_ops.proofs.PartnerLemmas.{IsHalf, high_partner}
 use Rattle.yd_grouping.specs.Merged.{is_cut_in}
 use Rattle.yd_grouping.proofs.CutLemmas.{IsKept, cut_is, cut_passes}
 use Rattle.yd_entries.specs.Entries.{IsTakenOf, IsTold, PartsPair, TellsRight, list_at, operations_in, operations_of_taken, operations_told, units_of}

@@ -9,8 +9,8 @@ use Rattle.yd_ops.specs.Operation.{text_unit}
 use Rattle.yd_ops.specs.Value.{ContentValue, any, binary, deleted, embed, format, json, nested, string}
 use Rattle.yd_ops.specs.View.{content_value}
 use Rattle.yd_ops.specs.declared.runs.Run.{Run}
-use Rattle.yd_updates.specs.Pairs.{is_high, is_low}
-use Rattle.yd_updates.proofs.PartnerLemmas.{high_unit, low_unit}
+use Rattle.yd_ops.specs.Pairs.{is_high, is_low}
+use Rattle.yd_ops.proofs.PartnerLemmas.{high_unit, low_unit}
 use Rattle.yd_entries.specs.Entries.{IsTakenOf, PartsPair}
 use Rattle.yd_entries.specs.Splitting.{PartsPairOf}
 use Rattle.yd_entries.specs.declared.entry.Entry.{Entry}

@@ -19,8 +19,8 @@ use Rattle.yd_ops.specs.Value.{ContentValue, UpdateValue, any, binary, deleted, 
 use Rattle.yd_ops.specs.View.{content_value, run_value}
 use Rattle.yd_ops.specs.declared.runs.Run.{Run}
 use Rattle.yd_ops.proofs.OperationLemmas.{later_later, later_none, length-units_of_content}
-use Rattle.yd_updates.specs.Received.{IsWritten, received_set}
-use Rattle.yd_updates.proofs.MendingLemmas.{HasPartners, paired_has}
+use Rattle.yd_ops.specs.Received.{IsWritten, received_set}
+use Rattle.yd_ops.proofs.MendingLemmas.{HasPartners, paired_has}
 use Rattle.yd_grouping.specs.Building.{Built, all_pushed, finished, nothing_built}
 use Rattle.yd_grouping.specs.Groupable.{AreGroupable}
 use Rattle.yd_grouping.specs.Grouped.{grouping_of}

@@ -6,7 +6,7 @@ use Rattle.yd_ops.specs.declared.updates.Update.{Update}
 use Rattle.yd_ops.specs.Operation.{Operation}
 use Rattle.yd_ops.specs.Value.{UpdateValue}
 use Rattle.yd_ops.specs.View.{update_value}
-use Rattle.yd_updates.specs.Received.{Received, groups_of, received_after, received_more, received_set, with_groups}
+use Rattle.yd_ops.specs.Received.{Received, groups_of, received_after, received_more, received_set, with_groups}
 use Rattle.yd_grouping.specs.Grouped.{grouping_of}
 use Rattle.yd_grouping.specs.Merged.{received_grouped}
 

@@ -15,11 +15,11 @@ use Rattle.yd_ops.specs.declared.updates.Update.{Update}
 use Rattle.yd_ops.specs.Valid.{AreStructsFrom, IsStructAt, IsValidBlock, IsValidUpdate}
 use Rattle.yd_ops.specs.Value.{BlockValue, ContentValue, StructValue, UpdateValue, any, binary, clocks_of, deleted, embed, format, gone, item, json, len_of, nested, skip, string}
 use Rattle.yd_ops.specs.View.{update_value}
-use Rattle.yd_updates.specs.Agreement.{DeleteId}
-use Rattle.yd_updates.specs.Deletes.{blocks_spans, content_spans, deletes_of, struct_spans, structs_spans}
-use Rattle.yd_updates.specs.Received.{received_set}
-use Rattle.yd_updates.proofs.AgreementLemmas.{received_deletes, received_maximal}
-use Rattle.yd_updates.proofs.GroupLemmas.{deletes_of-spans}
+use Rattle.yd_ops.specs.Agreement.{DeleteId}
+use Rattle.yd_ops.specs.Deletes.{blocks_spans, content_spans, deletes_of, struct_spans, structs_spans}
+use Rattle.yd_ops.specs.Received.{received_set}
+use Rattle.yd_ops.proofs.AgreementLemmas.{received_deletes, received_maximal}
+use Rattle.yd_ops.proofs.GroupLemmas.{deletes_of-spans}
 use Rattle.yd_merge.specs.Named.{all_named, named_spans}
 
 -- ---- they are spans

@@ -18,8 +18,8 @@ use Rattle.yd_ids.proofs.VectorLemmas.{vectors_same}
 use Rattle.yd_ops.specs.Operation.{Operation, later_id, operations_of}
 use Rattle.yd_ops.specs.Valid.{IsValidUpdate}
 use Rattle.yd_ops.specs.Value.{UpdateValue}
-use Rattle.yd_updates.specs.Received.{has_operation}
-use Rattle.yd_updates.proofs.OneOfLemmas.{id_there, operation_with}
+use Rattle.yd_ops.specs.Received.{has_operation}
+use Rattle.yd_ops.proofs.OneOfLemmas.{id_there, operation_with}
 use Rattle.yd_grouping.specs.Groups.{Group, operations_of_group, operations_of_groups, start_of}
 use Rattle.yd_grouping.specs.Merged.{merge_of}
 use Rattle.yd_grouping.specs.Reach.{reach_of}

@@ -12,7 +12,7 @@ use Rattle.yd_ops.specs.Valid.{CarriesList, IsValidContent}
 use Rattle.yd_ops.specs.Value.{ContentValue}
 use Rattle.yd_ops.specs.View.{content_value}
 use Rattle.yd_ops.proofs.OperationLemmas.{length-units_of_content}
-use Rattle.yd_updates.specs.Received.{IsWritten}
+use Rattle.yd_ops.specs.Received.{IsWritten}
 use Rattle.yd_grouping.specs.Building.{Built, all_pushed, finished, nothing_built, with_pushed}
 use Rattle.yd_grouping.specs.Grouped.{grouping_of}
 use Rattle.yd_grouping.specs.Groups.{IsGroup, operations_of_group, operations_of_groups}

@@ -16,14 +16,14 @@ use Rattle.yd_ops.specs.Operation.{Operation, later_id, operations_of, operation
 use Rattle.yd_ops.specs.Valid.{IsStructAt, IsValidUpdate}
 use Rattle.yd_ops.specs.Value.{BlockValue, StructValue, UpdateValue, clocks_of, gone, item, skip}
 use Rattle.yd_ops.proofs.OperationLemmas.{length-units_of_content}
-use Rattle.yd_updates.specs.Agreement.{AreAlike, DeleteId, HaveSameContents, ShareId, operations_of_all}
-use Rattle.yd_updates.specs.Deletes.{SpellLess}
-use Rattle.yd_updates.specs.Received.{IsWritten, received_set}
-use Rattle.yd_updates.proofs.AgreementLemmas.{received_deletes, received_maximal, received_one}
-use Rattle.yd_updates.proofs.GroupLemmas.{deletes_of-ids}
-use Rattle.yd_updates.proofs.RunLemmas.{run_written}
-use Rattle.yd_updates.proofs.SpellingLemmas.{gone_written}
-use Rattle.yd_updates.proofs.WritingLemmas.{written_agrees}
+use Rattle.yd_ops.specs.Agreement.{AreAlike, DeleteId, HaveSameContents, ShareId, operations_of_all}
+use Rattle.yd_ops.specs.Deletes.{SpellLess}
+use Rattle.yd_ops.specs.Received.{IsWritten, received_set}
+use Rattle.yd_ops.proofs.AgreementLemmas.{received_deletes, received_maximal, received_one}
+use Rattle.yd_ops.proofs.GroupLemmas.{deletes_of-ids}
+use Rattle.yd_ops.proofs.RunLemmas.{run_written}
+use Rattle.yd_ops.proofs.SpellingLemmas.{gone_written}
+use Rattle.yd_ops.proofs.WritingLemmas.{written_agrees}
 use Rattle.yd_grouping.specs.Building.{Built, all_pushed, finished, nothing_built}
 use Rattle.yd_grouping.specs.Groupable.{AreGroupable}
 use Rattle.yd_grouping.specs.Grouped.{blocks_of, grouping_of}

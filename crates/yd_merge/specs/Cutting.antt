@@ -6,7 +6,7 @@ use Rattle.yd_ops.specs.Operation.{later_id}
 use Rattle.yd_ops.specs.Value.{ContentValue, any, binary, deleted, embed, format, json, len_of, nested, string}
 use Rattle.yd_ops.specs.View.{content_value}
 use Rattle.yd_ops.specs.declared.runs.Run.{Run}
-use Rattle.yd_updates.specs.Pairs.{is_high, is_low}
+use Rattle.yd_ops.specs.Pairs.{is_high, is_low}
 use Rattle.yd_grouping.specs.Groups.{Group, of_gone}
 use Rattle.yd_entries.specs.Splitting.{back_of}
 use Rattle.yd_entries.specs.declared.entry.Entry.{Entry}

@@ -2,7 +2,7 @@
 use Rattle.std.specs.Prelude.{List, [], ◌∷◌, ◌++◌}
 use Rattle.yd_ids.specs.declared.id.Span.{Span}
 use Rattle.yd_ops.specs.Value.{UpdateValue}
-use Rattle.yd_updates.specs.Deletes.{blocks_spans}
+use Rattle.yd_ops.specs.Deletes.{blocks_spans}
 
 -- those that an update spells deleted or gone, and those that its deletions name
 abbrev pub named_spans : UpdateValue → List Span

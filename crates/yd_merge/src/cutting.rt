@@ -4,7 +4,7 @@ ghost use Rattle.std.specs.Prelude.{◌≡◌, ◌<◌, [], ◌∷◌, map, IfOk
 ghost use Rattle.yd_ids.specs.Vector.{clock_of};
 ghost use Rattle.yd_ops.specs.Valid.{IsValidUpdate};
 ghost use Rattle.yd_ops.specs.View.{content_value, update_value};
-ghost use Rattle.yd_updates.specs.Received.{received_set};
+ghost use Rattle.yd_ops.specs.Received.{received_set};
 ghost use Rattle.yd_grouping.specs.Building.{all_pushed};
 ghost use Rattle.yd_grouping.specs.Grouped.{grouping_of};
 ghost use Rattle.yd_grouping.specs.Merged.{cut_of, cut_update};

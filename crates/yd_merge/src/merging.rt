@@ -4,7 +4,7 @@ ghost use Rattle.std.specs.Prelude.{◌≡◌, map, IfOk};
 ghost use Rattle.yd_words.specs.Each.{Each};
 ghost use Rattle.yd_ops.specs.Valid.{IsValidUpdate};
 ghost use Rattle.yd_ops.specs.View.{update_value};
-ghost use Rattle.yd_updates.specs.Received.{received_set};
+ghost use Rattle.yd_ops.specs.Received.{received_set};
 ghost use Rattle.yd_grouping.specs.Merged.{merge_of};
 ghost use Rattle.yd_received.specs.Received.{taken_of};
 

@@ -4,8 +4,8 @@ ghost use Rattle.std.specs.Prelude.{◌≡◌, [], ◌∷◌, ◌++◌, map, IfO
 ghost use Rattle.yd_words.specs.Each.{Each};
 ghost use Rattle.yd_ops.specs.Valid.{IsValidBlock, IsValidUpdate};
 ghost use Rattle.yd_ops.specs.View.{content_value, struct_value, block_value, update_value};
-ghost use Rattle.yd_updates.specs.Deletes.{content_spans, struct_spans, structs_spans};
-ghost use Rattle.yd_updates.specs.Received.{received_set};
+ghost use Rattle.yd_ops.specs.Deletes.{content_spans, struct_spans, structs_spans};
+ghost use Rattle.yd_ops.specs.Received.{received_set};
 ghost use Rattle.yd_merge.specs.Named.{named_spans};
 
 use crate::fault::NoMemory;

@@ -4,7 +4,7 @@ use Rattle.std.specs.Prelude.{if◌then◌else◌, not, ◌&&◌, ◌||◌}
 use Rattle.yd_any.specs.Tree.{AnyTree, AnyFields}
 use Rattle.yd_ids.specs.declared.id.Id.{Id}
 use Rattle.yd_ops.specs.Operation.{UnitContent, text_unit, mark, Operation}
-use Rattle.yd_updates.specs.Pairs.{is_high, is_low}
+use Rattle.yd_ops.specs.Pairs.{is_high, is_low}
 use Rattle.yd_state.specs.Lent.{Lent}
 use Rattle.yd_any.specs.Same.{same_fields}
 use Rattle.yd_shown.specs.Pieces.{Piece, text_piece, value_piece, unit_before, with_attribute}

@@ -7,7 +7,7 @@ use Rattle.yd_ops.specs.declared.contents.Content.TheVariants.{Json, Binary, Str
 use Rattle.yd_ops.specs.View.{unit_value, content_value}
 use Rattle.yd_ids.specs.Ids.{is_same}
 use Rattle.yd_ops.specs.Operation.{UnitContent, text_unit, any_unit, json_unit, bytes, embedded, mark, nested_type, deleted_unit, gone_unit, Operation, later_id, units_of_trees, deleted_units, units_of_content}
-use Rattle.yd_updates.specs.Pairs.{is_high, is_low}
+use Rattle.yd_ops.specs.Pairs.{is_high, is_low}
 use Rattle.yd_state.specs.Lent.{Lent}
 use Rattle.yd_shown.specs.Pieces.{Piece, unit_before, value_piece, attributes_after, delta_before, delta_pieces, value_before, list_pieces}
 use Rattle.yd_modes.specs.declared.way.Way.{Way}

@@ -9,8 +9,8 @@ use Rattle.yd_ops.specs.declared.kinds.Kind.{Kind}
 use Rattle.yd_ops.specs.declared.lists.List.{List as DocList}
 use Rattle.yd_ops.specs.declared.lists.Parent.TheVariants.{Item}
 use Rattle.yd_ops.specs.Operation.{UnitContent, text_unit, any_unit, json_unit, bytes, embedded, mark, nested_type, deleted_unit, gone_unit, Operation}
-use Rattle.yd_updates.specs.Pairs.{is_high, is_low, is_text_and, as_torn}
-use Rattle.yd_updates.specs.Law.{ArePaired}
+use Rattle.yd_ops.specs.Pairs.{is_high, is_low, is_text_and, as_torn}
+use Rattle.yd_ops.specs.ReceivedLaw.{ArePaired}
 use Rattle.yd_meaning.specs.Document.{Document}
 use Rattle.yd_meaning.specs.Text.{live_units, has_partner_before, has_partner_behind}
 use Rattle.yd_state.specs.Lent.{lent, lent_units}

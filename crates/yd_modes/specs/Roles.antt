@@ -8,7 +8,7 @@ use Rattle.yd_ops.specs.declared.contents.Content.TheVariants.{Json, Binary, Str
 use Rattle.yd_ops.specs.Operation.{UnitContent, text_unit, any_unit, json_unit, bytes, embedded, mark, nested_type, deleted_unit, gone_unit, Operation, units_of_content}
 use Rattle.yd_ops.specs.View.{content_value}
 use Rattle.yd_state.specs.declared.listing.RunView.{RunView}
-use Rattle.yd_updates.specs.Pairs.{is_high, is_low}
+use Rattle.yd_ops.specs.Pairs.{is_high, is_low}
 use Rattle.yd_state.specs.Lent.{Lent}
 use Rattle.yd_shown.specs.Pieces.{Piece, value_piece, with_attribute, unit_before}
 use Rattle.yd_shown.specs.Shown.{value_of_content}

@@ -1,5 +1,5 @@
 -- How many units are counted up to one of them, piece by piece.
-use Rattle.std.proofs.Common.{◌≡◌, ◌<◌, ◌≤◌, ◌+◌, ◌-◌, ℕ, zero, suc, Bool, true, false, not, List, [], ◌∷◌, ◌++◌, length, map, take, drop, filter, refl, sym, ap, ◌∙◌, arith, tests, length-append, length-drop}
+use Rattle.std.proofs.Common.{◌≡◌, ◌<◌, ◌≤◌, ◌+◌, ◌-◌, ℕ, zero, suc, Bool, true, false, ◌&&◌, not, List, [], ◌∷◌, ◌++◌, length, map, take, drop, filter, refl, sym, ap, ◌∙◌, arith, tests, length-append, length-drop}
 use Rattle.std.specs.Prelude.{if◌then◌else◌}
 use Rattle.std.proofs.lemmas.List.{length-take-le}
 use Rattle.yd_ids.specs.declared.id.Id.{Id}
@@ -15,7 +15,7 @@ use Rattle.yd_state.specs.declared.listing.RunView.{RunView}
 use Rattle.yd_state.specs.Lent.{Lent, lent, lent_from, lent_units, units_of_view, IsWithin}
 use Rattle.yd_making.proofs.FindingLemmas.{id_behind}
 use Rattle.yd_doc.specs.Counted.{counted_ids, ids_from}
-use Rattle.yd_doc.proofs.CountedLemmas.{counted_lent, counted_within, counted-append}
+use Rattle.yd_doc.proofs.CountedLemmas.{counted_lent, counted-append}
 use Rattle.yd_places.specs.Lent.{front_of, lent_to, one_if}
 use Rattle.yd_places.specs.Place.{count_to, units_to}
 
@@ -124,18 +124,18 @@ module _ (view : RunView) (within : IsWithin view) where
 
 -- ---- lists
 
--- no more are counted than there are
-pub count_within : (with_it : Bool) (x : Id) (us : List Lent) → length (counted_ids (lent_to with_it x us)) ≤ length us
-count_within with_it x us = omega (arith, counted_within (lent_to with_it x us), fewer with_it us)
+-- no more are counted up to a unit than in all
+pub count_within : (with_it : Bool) (x : Id) (us : List Lent) → length (counted_ids (lent_to with_it x us)) ≤ length (counted_ids us)
+count_within b x [] = omega arith
+count_within b x (v ∷ vs) = go b (is_same v.id x) (not v.is_deleted && is_counted v.content) refl (count_within b x vs)
   where
-    fewer : (b : Bool) (vs : List Lent) → length (lent_to b x vs) ≤ length vs
-    fewer b [] = omega arith
-    fewer b (v ∷ vs) = go b (is_same v.id x) (fewer b vs)
-      where
-        go : (c t : Bool) → length (lent_to b x vs) ≤ length vs → length (if t then (if c then v ∷ [] else []) else v ∷ lent_to b x vs) ≤ length (v ∷ vs)
-        go true true le = omega arith
-        go false true le = omega arith
-        go c false le = omega (arith, le)
+    go : (c t k : Bool) → (not v.is_deleted && is_counted v.content) ≡ k → length (counted_ids (lent_to b x vs)) ≤ length (counted_ids vs) →
+        length (counted_ids (if t then (if c then v ∷ [] else []) else v ∷ lent_to b x vs)) ≤ length (counted_ids (v ∷ vs))
+    go true true true e le = rw e (omega arith)
+    go true true false e le = rw e (omega arith)
+    go false true k e le = omega arith
+    go c false true e le = rw e (omega (arith, le))
+    go c false false e le = rw e (omega (arith, le))
 
 -- what is counted of a document's list
 pub count_is : (document : Document) (name : DocList) (with_it : Bool) (x : Id) → length (counted_ids (lent_to with_it x (lent_units document name))) ≡ count_to document name with_it x

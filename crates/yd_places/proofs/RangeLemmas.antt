@@ -18,10 +18,10 @@ use Rattle.yd_meaning.specs.Order.{list_carried, list_of, list_or_root, operatio
 use Rattle.yd_meaning.proofs.HeldLemmas.{held_in}
 use Rattle.yd_meaning.proofs.StandingLemmas.{standing_in}
 use Rattle.yd_meaning.proofs.VectorLemmas.{held_written}
-use Rattle.yd_updates.specs.Received.{has_operation}
+use Rattle.yd_ops.specs.Received.{has_operation}
 use Rattle.yd_grouping.specs.Groupable.{AreGroupable, IsValidOperation}
 use Rattle.yd_editing.specs.Basis.{has_type_item, is_type}
-use Rattle.yd_standing.specs.Standing.{stands_in}
+use Rattle.yd_making.specs.Standing.{stands_in}
 use Rattle.yd_doc.specs.Editing.{own_basis}
 use Rattle.yd_doc.specs.Kept.{Kept, own_document, received_of}
 use Rattle.yd_position.specs.declared.position.Position.{Position}

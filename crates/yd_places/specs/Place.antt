@@ -9,7 +9,7 @@ use Rattle.yd_ops.specs.Operation.{Operation}
 use Rattle.yd_meaning.specs.Document.{Document}
 use Rattle.yd_shown.specs.Shown.{is_counted}
 use Rattle.yd_editing.specs.TextEdit.{counted_units, place_at, unit_at}
-use Rattle.yd_standing.specs.Standing.{list_where, stands_in}
+use Rattle.yd_making.specs.Standing.{list_where, stands_in}
 use Rattle.yd_doc.specs.Editing.{own_basis}
 use Rattle.yd_doc.specs.Kept.{Kept, own_document, received_of}
 use Rattle.yd_position.specs.declared.position.Position.{Position}

@@ -19,8 +19,8 @@ pub(crate) fn count_to(replica: &Replica, list: &List, id: Id, with_it: bool) ->
     ensures { result ≡ count_to (own_document replica.now) list.now with_it id }
 {
     let mut view = replica.list(list);
-    // How many units there are is in range, and so is how many of them are counted.
-    let _units = view.len();
+    // The length is in range, and so is how many units are counted so far.
+    let _units = replica.length(list);
     let mut count = 0;
     while let Some(piece) = view.next() {
         if has_id(&piece, id) {

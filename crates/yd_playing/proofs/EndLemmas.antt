@@ -2,11 +2,11 @@
 use Rattle.std.proofs.Common.{◌≡◌, ◌⊎◌, ℕ, List, [], ◌∷◌, Result, Ok, Err, inl, inr, refl, sym, ap, ◌∙◌, subst}
 use Rattle.yd_ids.specs.declared.id.Client.{Client}
 use Rattle.yd_ops.specs.Value.{UpdateValue}
-use Rattle.yd_updates.specs.Received.{IsWritten, Received}
+use Rattle.yd_ops.specs.Received.{IsWritten, Received}
 use Rattle.yd_meaning.specs.Held.{held_set}
 use Rattle.yd_meaning.specs.Order.{AreHonest}
 use Rattle.yd_meaning.specs.Document.{Document, document_of}
-use Rattle.yd_growing.proofs.ReplicaLemmas.{defined_is, documents_are_one}
+use Rattle.yd_meaning.proofs.ReplicaLemmas.{defined_is, documents_are_one}
 use Rattle.yd_script.specs.Lines.{Numbered}
 use Rattle.yd_playing.specs.Desk.{Desk, Played, first_desk}
 use Rattle.yd_playing.specs.Ended.{MayEnd, text_ends}

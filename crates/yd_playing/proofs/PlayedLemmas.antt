@@ -3,9 +3,9 @@ use Rattle.std.proofs.Common.{◌≡◌, List, [], ◌∷◌, ◌++◌, Result, 
 use Rattle.std.proofs.lemmas.List.{append-nil}
 use Rattle.yd_ids.specs.declared.id.Client.{Client}
 use Rattle.yd_ops.specs.Value.{UpdateValue}
-use Rattle.yd_updates.specs.Received.{Received}
+use Rattle.yd_ops.specs.Received.{Received}
 use Rattle.yd_meaning.specs.Document.{Document}
-use Rattle.yd_growing.specs.Replica.{IsReplicaDocument}
+use Rattle.yd_meaning.specs.Replica.{IsReplicaDocument}
 use Rattle.yd_script.specs.Lines.{Numbered}
 use Rattle.yd_playing.specs.Desk.{Desk, Played, first_desk}
 use Rattle.yd_playing.specs.Ended.{MayEnd, text_ends}

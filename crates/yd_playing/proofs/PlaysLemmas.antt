@@ -7,7 +7,7 @@ use Rattle.yd_ops.specs.declared.lists.Parent.{Parent}
 use Rattle.yd_ops.specs.declared.updates.Update.{Update}
 use Rattle.yd_ops.specs.Value.{UpdateValue}
 use Rattle.yd_ops.specs.View.{update_value}
-use Rattle.yd_updates.specs.Received.{Received, received_after}
+use Rattle.yd_ops.specs.Received.{Received, received_after}
 use Rattle.yd_meaning.specs.Document.{Document}
 use Rattle.yd_editing.specs.Basis.{Basis, basis_over}
 use Rattle.yd_editing.specs.Made.{update_of_edit}

@@ -6,8 +6,8 @@ use Rattle.yd_ops.specs.declared.lists.List.{List as DocList}
 use Rattle.yd_ops.specs.declared.lists.Parent.{Parent}
 use Rattle.yd_units.specs.Text.{units_of}
 use Rattle.yd_ops.specs.Value.{UpdateValue, string}
-use Rattle.yd_updates.specs.Received.{IsWritten, Received, groups_of, received_after, received_more}
-use Rattle.yd_updates.proofs.TurnLemmas.{groups_written}
+use Rattle.yd_ops.specs.Received.{IsWritten, Received, groups_of, received_after, received_more}
+use Rattle.yd_ops.proofs.TurnLemmas.{groups_written}
 use Rattle.yd_editing.specs.Basis.{Basis, basis_over}
 use Rattle.yd_shown.specs.Shown.{own_list}
 use Rattle.yd_editing.specs.Refused.{refusal_of}

@@ -5,7 +5,7 @@ use Rattle.yd_ops.specs.declared.updates.Update.{Update}
 use Rattle.yd_ops.specs.Valid.{IsValidUpdate}
 use Rattle.yd_ops.specs.Value.{UpdateValue}
 use Rattle.yd_ops.specs.View.{update_value}
-use Rattle.yd_updates.specs.Received.{Received}
+use Rattle.yd_ops.specs.Received.{Received}
 use Rattle.yd_playing.specs.Desk.{Desk, Played}
 use Rattle.yd_playing.specs.Stopped.{IsStop, IsLeft}
 use Rattle.yd_causes.specs.declared.cause.LineCause.{LineCause}

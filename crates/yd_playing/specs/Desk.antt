@@ -2,7 +2,7 @@
 use Rattle.std.specs.Prelude.{ℕ, List, [], ◌∷◌, ◌++◌, Option, Some, None, if◌then◌else◌}
 use Rattle.std.specs.Str.{bytes_eq}
 use Rattle.yd_ops.specs.Value.{UpdateValue}
-use Rattle.yd_updates.specs.Received.{Received, received_after}
+use Rattle.yd_ops.specs.Received.{Received, received_after}
 use Rattle.yd_doc.specs.Kept.{Kept, received_of}
 use Rattle.yd_position.specs.declared.position.Position.{Position}
 use Rattle.yd_playing.specs.declared.desk.Mark.{Mark}

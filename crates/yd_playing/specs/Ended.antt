@@ -6,16 +6,16 @@ use Rattle.yd_ops.specs.declared.lists.List.{List as DocList}
 use Rattle.yd_ops.specs.declared.lists.Parent.{Parent}
 use Rattle.yd_ops.specs.declared.lists.Parent.TheVariants as parents
 use Rattle.yd_ops.specs.Value.{UpdateValue, string}
-use Rattle.yd_updates.specs.Received.{Received}
+use Rattle.yd_ops.specs.Received.{Received}
 use Rattle.yd_meaning.specs.Document.{Document}
-use Rattle.yd_growing.specs.Replica.{IsReplicaDocument}
+use Rattle.yd_meaning.specs.Replica.{IsReplicaDocument}
 use Rattle.yd_shown.specs.Shown.{own_list}
 use Rattle.yd_editing.specs.Basis.{Basis, basis_over}
 use Rattle.yd_editing.specs.Made.{update_of_edit}
 use Rattle.yd_editing.specs.Refused.{refusal_of}
 use Rattle.yd_editing.specs.Step.{Step, Refusal}
 use Rattle.yd_editing.specs.TextEdit.{counted_units, end_refusal, insert_steps, insert_refusal}
-use Rattle.yd_standing.specs.Standing.{list_where, stands_in}
+use Rattle.yd_making.specs.Standing.{list_where, stands_in}
 use Rattle.yd_making.specs.Steps.{fault_of}
 use Rattle.yd_making.specs.declared.fault.EditFault.TheVariants.{Nothing}
 use Rattle.yd_position.specs.declared.position.Position.{Position}

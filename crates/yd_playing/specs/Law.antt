@@ -2,7 +2,7 @@
 use Rattle.std.specs.Prelude.{◌≡◌, ◌⊎◌, ℕ, List}
 use Rattle.yd_ids.specs.declared.id.Client.{Client}
 use Rattle.yd_ops.specs.Value.{UpdateValue}
-use Rattle.yd_updates.specs.Received.{IsWritten, Received}
+use Rattle.yd_ops.specs.Received.{IsWritten, Received}
 use Rattle.yd_script.specs.Lines.{Numbered}
 use Rattle.yd_playing.specs.Desk.{first_desk}
 use Rattle.yd_playing.specs.Played.{ArePlayed, RulesAreKept}

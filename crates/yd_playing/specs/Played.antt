@@ -2,7 +2,7 @@
 use Rattle.std.specs.Prelude.{◌≡◌, ◌⊎◌, ℕ, List, [], ◌∷◌, ◌++◌, Result, Ok, Err}
 use Rattle.yd_ids.specs.declared.id.Client.{Client}
 use Rattle.yd_ops.specs.Value.{UpdateValue}
-use Rattle.yd_updates.specs.Received.{Received}
+use Rattle.yd_ops.specs.Received.{Received}
 use Rattle.yd_meaning.specs.Held.{held_set}
 use Rattle.yd_meaning.specs.Order.{AreHonest}
 use Rattle.yd_script.specs.Lines.{Numbered}

@@ -1,7 +1,7 @@
 -- The first line of a script that is refused, and why (own).
 use Rattle.std.specs.Prelude.{◌≡◌, ◌⊎◌, ℕ, List, None, Result, Ok, Err}
 use Rattle.yd_ids.specs.declared.id.Client.{Client}
-use Rattle.yd_updates.specs.Received.{Received}
+use Rattle.yd_ops.specs.Received.{Received}
 use Rattle.yd_making.specs.declared.fault.EditFault.{EditFault}
 use Rattle.yd_making.specs.declared.fault.EditFault.TheVariants as edits
 use Rattle.yd_script.specs.Lines.{Numbered}

@@ -19,8 +19,7 @@ use yd_any::{Any, AnyList};
 use yd_doc::{EditFault, Replica};
 use yd_ops::{Content, List, Parent, Update};
 use yd_script::Change;
-use yd_text::{delete, embed, format, insert};
-use yd_tree::{child_insert, list_insert, map_remove, map_set};
+use yd_text::{child_insert, delete, embed, format, insert, list_insert, map_remove, map_set};
 
 /// Carries out a change, as one edit of the parent's text, list or map. After a refusal the replica is
 /// as before.

@@ -12,7 +12,7 @@ use yd_doc::Replica;
 use yd_ids::Id;
 use yd_ops::{List, Parent};
 use yd_script::{Target, TargetStep};
-use yd_tree::value_in;
+use yd_text::value_in;
 
 /// The parent to which a target leads, or the number of the first of its steps, from 1, that leads to
 /// no live type. It takes no memory, and for each step the time of reading a list up to an index or of

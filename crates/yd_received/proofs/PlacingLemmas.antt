@@ -6,7 +6,7 @@ use Rattle.yd_words.proofs.EachLemmas.{each_set}
 use Rattle.yd_words.proofs.MemberLemmas.{each_in}
 use Rattle.yd_words.proofs.OptionLemmas.{some_is}
 use Rattle.yd_ops.specs.declared.runs.Run.{Run}
-use Rattle.yd_updates.specs.Law.{ArePaired}
+use Rattle.yd_ops.specs.ReceivedLaw.{ArePaired}
 use Rattle.yd_entries.specs.declared.entry.Entry.{Entry}
 use Rattle.yd_entries.specs.declared.place.Place.{Place}
 use Rattle.yd_entries.specs.declared.place.Place.TheVariants.{Waits}

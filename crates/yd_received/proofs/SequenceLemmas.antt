@@ -14,9 +14,9 @@ use Rattle.yd_ops.specs.Operation.{Operation, operations_of_struct, operations_o
 use Rattle.yd_ops.specs.Value.{RunValue, clocks_of, StructValue, item, gone, BlockValue}
 use Rattle.yd_ops.specs.Valid.{AreStructsFrom}
 use Rattle.yd_ops.specs.View.{struct_value, block_value}
-use Rattle.yd_updates.specs.Received.{with_groups, groups_of_structs, groups_of_blocks}
-use Rattle.yd_updates.proofs.MendingLemmas.{paired_has, mended_whole}
-use Rattle.yd_updates.proofs.TurnLemmas.{with_groups-append}
+use Rattle.yd_ops.specs.Received.{with_groups, groups_of_structs, groups_of_blocks}
+use Rattle.yd_ops.proofs.MendingLemmas.{paired_has, mended_whole}
+use Rattle.yd_ops.proofs.TurnLemmas.{with_groups-append}
 use Rattle.yd_entries.specs.declared.entry.Entry.{Entry}
 use Rattle.yd_entries.specs.Entries.{AreTaken, operations_in, GrowBy}
 use Rattle.yd_received.specs.Structs.{IsStructOf, TakesIn, gone_run}

@@ -7,15 +7,15 @@ use Rattle.yd_words.specs.Member.{IsIn}
 use Rattle.yd_ops.specs.declared.runs.Run.{Run}
 use Rattle.yd_ops.specs.Operation.{Operation, level_of, operations_of_run}
 use Rattle.yd_ops.specs.Value.{RunValue, len_of}
-use Rattle.yd_updates.specs.Received.{has_operation, all_taken, with_group}
-use Rattle.yd_updates.specs.Law.{ArePaired}
-use Rattle.yd_updates.proofs.OneOfLemmas.{operation_with, id_is_there}
-use Rattle.yd_updates.proofs.LevelLemmas.{level_at_most, half_full}
-use Rattle.yd_updates.proofs.PartnerLemmas.{pair_flip, pair_half}
-use Rattle.yd_updates.proofs.MendingLemmas.{HasPartners, paired_has, has_paired, mended_partners}
-use Rattle.yd_updates.proofs.TakingLemmas.{pair_is}
-use Rattle.yd_updates.proofs.AddingLemmas.{with_group_alone}
-use Rattle.yd_updates.proofs.RunLemmas.{run_partners, run_written}
+use Rattle.yd_ops.specs.Received.{has_operation, all_taken, with_group}
+use Rattle.yd_ops.specs.ReceivedLaw.{ArePaired}
+use Rattle.yd_ops.proofs.OneOfLemmas.{operation_with, id_is_there}
+use Rattle.yd_ops.proofs.LevelLemmas.{level_at_most, half_full}
+use Rattle.yd_ops.proofs.PartnerLemmas.{pair_flip, pair_half}
+use Rattle.yd_ops.proofs.MendingLemmas.{HasPartners, paired_has, has_paired, mended_partners}
+use Rattle.yd_ops.proofs.TakingLemmas.{pair_is}
+use Rattle.yd_ops.proofs.AddingLemmas.{with_group_alone}
+use Rattle.yd_ops.proofs.RunLemmas.{run_partners, run_written}
 use Rattle.yd_entries.specs.declared.entry.Entry.{Entry}
 use Rattle.yd_entries.specs.Entries.{AreTaken, operations_in}
 use Rattle.yd_entries.specs.Lowering.{is_among, lowered_with, level_of_content, level_from, SaysMore, Lowers}

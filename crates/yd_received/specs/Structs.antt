@@ -7,7 +7,7 @@ use Rattle.yd_ops.specs.declared.runs.Run.{Run}
 use Rattle.yd_ops.specs.Operation.{Operation}
 use Rattle.yd_ops.specs.Value.{deleted, clocks_of, RunValue, StructValue}
 use Rattle.yd_ops.specs.Valid.{IsStructAt}
-use Rattle.yd_updates.specs.Received.{with_groups}
+use Rattle.yd_ops.specs.Received.{with_groups}
 use Rattle.yd_received.specs.declared.brought.Brought.{Brought}
 use Rattle.yd_received.specs.declared.brought.Brought.TheVariants.{Nothing, Added, Lowered}
 use Rattle.yd_entries.specs.declared.entry.Entry.{Entry}

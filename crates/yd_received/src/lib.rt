@@ -1,6 +1,6 @@
 //! What was received: runs, and of each the units that were taken, since their ids were new.
 //!
-//! Taking in an update gives what `yd_updates` defines: operations with new ids are added, what
+//! Taking in an update gives what `yd_ops` defines: operations with new ids are added, what
 //! says less lowers what was there to deleted or gone, and a half whose partner is not there is
 //! U+FFFD ([`Received::take`]). What is kept are entries in the order of writing (`yd_entries`), so an
 //! id is found by bisection ([`Received::entry_of`], [`Received::entry_at`]). Where an update lowers

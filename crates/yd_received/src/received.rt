@@ -6,7 +6,7 @@ ghost use Rattle.std.specs.Global.{Global as Allocator};
 ghost use Rattle.yd_words.specs.Each.{Each};
 ghost use Rattle.yd_ops.specs.Valid.{IsValidUpdate};
 ghost use Rattle.yd_ops.specs.View.{update_value};
-ghost use Rattle.yd_updates.specs.Received.{with_groups, groups_of};
+ghost use Rattle.yd_ops.specs.Received.{with_groups, groups_of};
 ghost use Rattle.yd_entries.specs.Entries.{covers, GrowBy};
 ghost use Rattle.yd_received.specs.Received.{IsReceived, taken_of, brings, IsBrought, GetsPlace, put_back, put_back_entries};
 ghost use Rattle.yd_entries.specs.Taking.{is_covered, BringsOperation};

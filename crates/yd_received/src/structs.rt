@@ -8,7 +8,7 @@ ghost use Rattle.yd_ops.specs.Operation.{operations_of_run, operations_of_struct
 ghost use Rattle.yd_ops.specs.Operation.{operations_of_structs, operations_of_blocks};
 ghost use Rattle.yd_ops.specs.Valid.{IsValidBlock, AreStructsFrom};
 ghost use Rattle.yd_ops.specs.View.{content_value, run_value, struct_value, block_value};
-ghost use Rattle.yd_updates.specs.Received.{groups_of_structs, groups_of_blocks};
+ghost use Rattle.yd_ops.specs.Received.{groups_of_structs, groups_of_blocks};
 ghost use Rattle.yd_entries.specs.Entries.{AreTaken, operations_in, GrowBy};
 ghost use Rattle.yd_entries.specs.Lowering.{level_of_content, IsBacked};
 ghost use Rattle.yd_entries.specs.Taking.{BringsOne, AreUnchanged, IsRun, operations_from_run};

@@ -3,7 +3,7 @@
 ghost use Rattle.std.specs.Prelude.{◌≡◌, ◌↔◌, filter, IsTrue, OnOk, OnErr, IfOk};
 ghost use Rattle.yd_ops.specs.Valid.{IsValidUpdate};
 ghost use Rattle.yd_ops.specs.View.{update_value};
-ghost use Rattle.yd_updates.specs.Received.{groups_of};
+ghost use Rattle.yd_ops.specs.Received.{groups_of};
 ghost use Rattle.yd_entries.specs.Entries.{AreTaken, operations_in, is_of_first, GrowBy};
 ghost use Rattle.yd_entries.specs.Taking.{BringsOperation, AreUnchanged};
 ghost use Rattle.yd_received.specs.Received.{brings, IsBrought};

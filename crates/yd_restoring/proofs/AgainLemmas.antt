@@ -3,7 +3,7 @@ use Rattle.std.proofs.Common.{◌≡◌, ℕ, ◌<◌, ◌&&◌, ◌||◌, Bool,
 use Rattle.std.specs.Prelude.{if◌then◌else◌}
 use Rattle.yd_words.specs.Each.{Each}
 use Rattle.yd_ops.specs.Operation.{UnitContent, text_unit, any_unit, json_unit, bytes, embedded, mark, nested_type, deleted_unit, gone_unit, units_of_content, units_of_trees}
-use Rattle.yd_updates.specs.Pairs.{is_high, is_low}
+use Rattle.yd_ops.specs.Pairs.{is_high, is_low}
 use Rattle.yd_copying.specs.Content.{can_be_made, kind_of, alone, whole_units, texts_in, trees_in, values_in, content_of}
 use Rattle.yd_restoring.specs.Again.{plain, IsAgain, AreAgain}
 

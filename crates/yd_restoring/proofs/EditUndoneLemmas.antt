@@ -19,9 +19,9 @@ use Rattle.yd_ops.specs.declared.lists.List.{List as DocList}
 use Rattle.yd_ops.specs.Operation.{Operation, operations_of_run}
 use Rattle.yd_ops.specs.Valid.{IsValidUpdate}
 use Rattle.yd_ops.specs.Value.{UpdateValue, len_of}
-use Rattle.yd_updates.specs.Received.{has_operation, Received}
-use Rattle.yd_updates.proofs.OneOfLemmas.{operation_with, id_there}
-use Rattle.yd_updates.proofs.ReceivedLemmas.{after_is_received}
+use Rattle.yd_ops.specs.Received.{has_operation, Received}
+use Rattle.yd_ops.proofs.OneOfLemmas.{operation_with, id_there}
+use Rattle.yd_ops.proofs.ReceivedLemmas.{after_is_received}
 use Rattle.yd_meaning.specs.Deleted.{is_deleted}
 use Rattle.yd_meaning.specs.Document.{document_of}
 use Rattle.yd_meaning.specs.Held.{held_set, held_clock, is_named}

@@ -19,7 +19,7 @@ use Rattle.yd_ops.specs.declared.lists.Parent.{Parent}
 use Rattle.yd_ops.specs.Operation.{Operation}
 use Rattle.yd_ops.specs.Valid.{IsValidUpdate}
 use Rattle.yd_origins.specs.Deleted.{last_of}
-use Rattle.yd_updates.specs.Received.{has_operation, Received}
+use Rattle.yd_ops.specs.Received.{has_operation, Received}
 use Rattle.yd_meaning.specs.Deleted.{is_deleted}
 use Rattle.yd_meaning.specs.Document.{document_of}
 use Rattle.yd_meaning.specs.Held.{held_set, held_clock, standing, is_named}

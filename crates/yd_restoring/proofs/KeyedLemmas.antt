@@ -17,7 +17,7 @@ use Rattle.yd_ops.specs.declared.lists.List.{List as DocList}
 use Rattle.yd_ops.specs.declared.lists.Parent.{Parent}
 use Rattle.yd_ops.specs.Operation.{UnitContent, text_unit, any_unit, json_unit, bytes, embedded, mark, nested_type, deleted_unit, gone_unit, Operation, units_of_content, operations_from}
 use Rattle.yd_ops.specs.Value.{ContentValue}
-use Rattle.yd_updates.specs.Received.{has_operation, Received}
+use Rattle.yd_ops.specs.Received.{has_operation, Received}
 use Rattle.yd_meaning.specs.Deleted.{is_deleted}
 use Rattle.yd_meaning.specs.Document.{document_of, document_with}
 use Rattle.yd_meaning.specs.Held.{held_set, held_clock, standing, is_named}

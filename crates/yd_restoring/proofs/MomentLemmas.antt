@@ -5,10 +5,10 @@ use Rattle.yd_words.proofs.EachLemmas.{each_weaker}
 use Rattle.yd_ops.specs.declared.lists.List.{List as DocList}
 use Rattle.yd_ops.specs.Valid.{IsValidUpdate}
 use Rattle.yd_ops.specs.Value.{UpdateValue}
-use Rattle.yd_updates.specs.Received.{received_after}
+use Rattle.yd_ops.specs.Received.{received_after}
 use Rattle.yd_meaning.specs.Document.{Document, document_of}
-use Rattle.yd_growing.specs.Replica.{IsReplicaDocument}
-use Rattle.yd_standing.specs.Standing.{stands_in, list_where}
+use Rattle.yd_meaning.specs.Replica.{IsReplicaDocument}
+use Rattle.yd_making.specs.Standing.{stands_in, list_where}
 use Rattle.yd_making.specs.Steps.{IsProper}
 use Rattle.yd_editing.specs.Basis.{Basis, basis_over, basis_of}
 use Rattle.yd_editing.specs.Law.{MakesContent, after_edit, EditIsHeld}

@@ -16,8 +16,8 @@ use Rattle.yd_ops.specs.declared.lists.List.{List as DocList}
 use Rattle.yd_ops.specs.Operation.{Operation}
 use Rattle.yd_ops.specs.Valid.{IsValidUpdate}
 use Rattle.yd_ops.specs.Value.{UpdateValue}
-use Rattle.yd_updates.specs.Received.{has_operation, all_taken, Received}
-use Rattle.yd_updates.proofs.OneOfLemmas.{operation_with, id_is_there, id_there}
+use Rattle.yd_ops.specs.Received.{has_operation, all_taken, Received}
+use Rattle.yd_ops.proofs.OneOfLemmas.{operation_with, id_is_there, id_there}
 use Rattle.yd_meaning.specs.Document.{document_of}
 use Rattle.yd_meaning.specs.Held.{held_set, held_clock, standing, is_named}
 use Rattle.yd_meaning.specs.ListNames.{same_list_decides}

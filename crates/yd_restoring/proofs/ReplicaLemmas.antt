@@ -10,10 +10,10 @@ use Rattle.yd_ops.specs.declared.lists.List.{List as DocList}
 use Rattle.yd_ops.specs.Operation.{Operation}
 use Rattle.yd_ops.specs.Valid.{IsValidUpdate}
 use Rattle.yd_ops.specs.Value.{UpdateValue}
-use Rattle.yd_updates.specs.Received.{Received}
+use Rattle.yd_ops.specs.Received.{Received}
 use Rattle.yd_meaning.specs.Document.{Document, document_of}
 use Rattle.yd_meaning.specs.Text.{live_units}
-use Rattle.yd_growing.specs.Replica.{IsReplicaDocument}
+use Rattle.yd_meaning.specs.Replica.{IsReplicaDocument}
 use Rattle.yd_editing.specs.Basis.{basis_of}
 use Rattle.yd_editing.specs.Law.{MakesContent, after_edit}
 use Rattle.yd_editing.specs.Made.{update_of_edit}

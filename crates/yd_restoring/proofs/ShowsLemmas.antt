@@ -11,7 +11,7 @@ use Rattle.yd_ids.specs.declared.id.Id.{Id}
 use Rattle.yd_ids.specs.Set.{HasId}
 use Rattle.yd_ops.specs.declared.lists.List.{List as DocList}
 use Rattle.yd_ops.specs.Operation.{Operation}
-use Rattle.yd_updates.specs.Received.{has_operation, Received}
+use Rattle.yd_ops.specs.Received.{has_operation, Received}
 use Rattle.yd_meaning.specs.Document.{document_of}
 use Rattle.yd_meaning.specs.Held.{held_set, held_clock, standing, is_named}
 use Rattle.yd_meaning.specs.Names.{item_of_list}
@@ -31,7 +31,7 @@ use Rattle.yd_editing.proofs.NamedLemmas.{has_named, named_has}
 use Rattle.yd_editing.proofs.OwnListLemmas.{taken, is_held, live_evolved, units_apart, unit_received}
 use Rattle.yd_editing.proofs.TakenLemmas.{honest_held}
 use Rattle.yd_editing.proofs.UnitLemmas.{in_list, unit_ids, held_id}
-use Rattle.yd_standing.specs.Standing.{stands_in, list_where}
+use Rattle.yd_making.specs.Standing.{stands_in, list_where}
 use Rattle.yd_undo.specs.declared.entry.Entry.{Entry}
 use Rattle.yd_undo.specs.Remade.{Seen, is_place, steps_of_groups, steps_of_keys}
 use Rattle.yd_undo.specs.Steps.{is_live, undo_steps}

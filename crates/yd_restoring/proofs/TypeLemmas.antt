@@ -5,7 +5,7 @@ use Rattle.yd_words.specs.Member.{IsIn}
 use Rattle.yd_ids.specs.declared.id.Id.{Id}
 use Rattle.yd_ids.proofs.IdLemmas.{same_says}
 use Rattle.yd_ops.specs.Operation.{Operation}
-use Rattle.yd_updates.specs.Received.{has_operation}
+use Rattle.yd_ops.specs.Received.{has_operation}
 use Rattle.yd_editing.specs.Basis.{is_type, has_type_item}
 
 -- the operation with the id is a type

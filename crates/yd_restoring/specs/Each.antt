@@ -8,7 +8,7 @@ use Rattle.yd_ids.specs.Set.{HasId, AreMaximal}
 use Rattle.yd_ops.specs.declared.lists.List.{List as DocList}
 use Rattle.yd_ops.specs.Operation.{Operation}
 use Rattle.yd_ops.specs.Value.{UpdateValue}
-use Rattle.yd_updates.specs.Received.{Received, has_operation}
+use Rattle.yd_ops.specs.Received.{Received, has_operation}
 use Rattle.yd_meaning.specs.Deleted.{is_deleted}
 use Rattle.yd_meaning.specs.Held.{held_set, standing, is_named}
 use Rattle.yd_meaning.specs.Names.{item_of_list}

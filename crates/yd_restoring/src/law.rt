@@ -80,7 +80,7 @@ pub fn keys_are_undone(before: &Replica, between: &Replica, after: &Replica)
     received_can_be_grouped(between);
 }
 
-/// After `map_set` of `yd_tree` and its undo the key shows what it showed before both, if what was
+/// After `map_set` of `yd_text` and its undo the key shows what it showed before both, if what was
 /// live there was no type, and the map is still live.
 pub fn settings_are_undone(before: &Replica, between: &Replica, after: &Replica)
     ensures { SettingsAreUndone before.now between.now after.now }

@@ -1,7 +1,7 @@
 -- What a replica answers in a loop.
 use Rattle.std.proofs.Common.{◌≡◌, ℕ, List, [], ◌∷◌, refl, sym, subst}
 use Rattle.yd_ids.specs.declared.id.Client.{Client}
-use Rattle.yd_updates.specs.Received.{Received}
+use Rattle.yd_ops.specs.Received.{Received}
 use Rattle.yd_sync.specs.MessageReading.{message_reading}
 use Rattle.yd_sync.specs.MessageWriting.{bytes_of_message}
 use Rattle.yd_doc.specs.Kept.{Kept, own_deletes, received_of}

@@ -6,7 +6,7 @@ use Rattle.std.specs.Result.{IsErrAnd}
 use Rattle.yd_ops.specs.declared.updates.Update.{Update}
 use Rattle.yd_ops.specs.Value.{UpdateValue}
 use Rattle.yd_ops.specs.View.{update_value}
-use Rattle.yd_updates.specs.Received.{Received}
+use Rattle.yd_ops.specs.Received.{Received}
 use Rattle.yd_hub.specs.Hub.{HubState}
 use Rattle.yd_hub.specs.Peer.{PeerState}
 use Rattle.yd_hub.specs.Serving.{Turn, told_served}

@@ -5,7 +5,7 @@ use Rattle.yd_ids.specs.Vector.{clock_of}
 use Rattle.yd_ops.specs.declared.updates.Update.{Update}
 use Rattle.yd_ops.specs.Value.{UpdateValue}
 use Rattle.yd_ops.specs.View.{update_value}
-use Rattle.yd_updates.specs.Received.{Received, received_set}
+use Rattle.yd_ops.specs.Received.{Received, received_set}
 use Rattle.yd_grouping.specs.Merged.{reply_of}
 use Rattle.yd_hub.specs.Hub.{HubState}
 use Rattle.yd_hub.specs.OwnAnswers.{AreOwnDeletes}

@@ -3,7 +3,7 @@
 ghost use Rattle.std.specs.Prelude.{◌≡◌, ◌∷◌, [], IfOk, IfSome};
 ghost use Rattle.yd_ops.specs.Valid.{IsValidUpdate};
 ghost use Rattle.yd_ops.specs.View.{update_value};
-ghost use Rattle.yd_updates.specs.Received.{received_set};
+ghost use Rattle.yd_ops.specs.Received.{received_set};
 ghost use Rattle.yd_doc.specs.Kept.{received_of};
 ghost use Rattle.yd_serving.specs.Board.{HasEvents, board_of};
 ghost use Rattle.yd_serving.specs.Serving.{IsLinked};

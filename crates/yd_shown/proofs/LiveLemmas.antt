@@ -9,10 +9,10 @@ use Rattle.yd_ids.specs.declared.id.Span.{Span}
 use Rattle.yd_ids.specs.Set.{HasId}
 use Rattle.yd_ops.specs.declared.lists.List.{List as DocList}
 use Rattle.yd_ops.specs.Operation.{Operation, level_of}
-use Rattle.yd_updates.specs.Received.{Received, has_operation}
-use Rattle.yd_updates.specs.Law.{IsReceived}
-use Rattle.yd_updates.proofs.LevelLemmas.{level_at_most}
-use Rattle.yd_updates.proofs.OneOfLemmas.{id_is_there}
+use Rattle.yd_ops.specs.Received.{Received, has_operation}
+use Rattle.yd_ops.specs.ReceivedLaw.{IsReceived}
+use Rattle.yd_ops.proofs.LevelLemmas.{level_at_most}
+use Rattle.yd_ops.proofs.OneOfLemmas.{id_is_there}
 use Rattle.yd_meaning.specs.Held.{held_set, standing, is_named, is_in_span}
 use Rattle.yd_meaning.specs.Order.{AreHonest}
 use Rattle.yd_meaning.specs.Deleted.{is_in_delete_set}
@@ -21,8 +21,8 @@ use Rattle.yd_meaning.specs.Text.{live_units}
 use Rattle.yd_meaning.proofs.HeldLemmas.{held_in}
 use Rattle.yd_meaning.proofs.StandingLemmas.{standing_in}
 use Rattle.yd_meaning.proofs.VectorLemmas.{held_written}
-use Rattle.yd_growing.specs.Replica.{IsReplicaDocument}
-use Rattle.yd_growing.proofs.ReplicaLemmas.{named_are_deleted}
+use Rattle.yd_meaning.specs.Replica.{IsReplicaDocument}
+use Rattle.yd_meaning.proofs.ReplicaLemmas.{named_are_deleted}
 
 not_true : (t : Bool) → not t ≡ true → t ≡ false
 not_true true e = absurd (true≢false (sym e))

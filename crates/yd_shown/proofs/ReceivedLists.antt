@@ -4,12 +4,12 @@ use Rattle.yd_ids.specs.declared.id.Id.{Id}
 use Rattle.yd_ops.specs.declared.lists.List.{List as DocList}
 use Rattle.yd_ops.specs.Operation.{Operation}
 use Rattle.yd_words.specs.Member.{IsIn}
-use Rattle.yd_updates.specs.Received.{Received}
-use Rattle.yd_updates.proofs.OneOfLemmas.{id_is_there}
+use Rattle.yd_ops.specs.Received.{Received}
+use Rattle.yd_ops.proofs.OneOfLemmas.{id_is_there}
 use Rattle.yd_meaning.specs.Held.{held_set, standing}
 use Rattle.yd_meaning.specs.Order.{list_of}
 use Rattle.yd_meaning.specs.Document.{Document}
-use Rattle.yd_growing.specs.Replica.{IsReplicaDocument}
+use Rattle.yd_meaning.specs.Replica.{IsReplicaDocument}
 
 -- an operation's id is one of the ids
 id_in : (os : List Operation) (o : Operation) → IsIn o os → IsIn o.id (map (λ (p : Operation). p.id) os)

@@ -3,7 +3,7 @@ use Rattle.std.proofs.Common.{◌≡◌, ℕ, Bool, true, false, List, [], ◌�
 use Rattle.yd_ids.specs.declared.id.Id.{Id}
 use Rattle.yd_ops.specs.declared.lists.List.{List as DocList}
 use Rattle.yd_ops.specs.Operation.{UnitContent, text_unit, any_unit, json_unit, bytes, embedded, mark, nested_type, deleted_unit, gone_unit, Operation}
-use Rattle.yd_updates.specs.Pairs.{as_torn}
+use Rattle.yd_ops.specs.Pairs.{as_torn}
 use Rattle.yd_meaning.specs.Text.{is_lone, shown_before, shown_units}
 use Rattle.yd_shown.specs.Seen.{without_lone, text_before, text_units}
 

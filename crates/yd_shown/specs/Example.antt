@@ -11,7 +11,7 @@ use Rattle.yd_ops.specs.declared.lists.Parent.TheVariants.{Root, Item}
 use Rattle.yd_ops.specs.Value.{json, binary, string, nested, any, format, item, StructValue, UpdateValue, ContentValue}
 use Rattle.yd_ops.specs.Valid.{IsValidUpdate}
 use Rattle.yd_ops.specs.Operation.{Operation, nested_type, later_id}
-use Rattle.yd_updates.specs.Received.{Received, received_set}
+use Rattle.yd_ops.specs.Received.{Received, received_set}
 use Rattle.yd_meaning.specs.Example.{first_id, first_update, under_key, in_root}
 use Rattle.yd_meaning.specs.Collected.{unit_id, span_of, array_made, five_put, five_gone}
 use Rattle.yd_meaning.specs.Document.{Document, document_of}

@@ -14,15 +14,15 @@ use Rattle.yd_ops.specs.declared.lists.Parent.{Parent}
 use Rattle.yd_ops.specs.Value.{UpdateValue}
 use Rattle.yd_ops.specs.Valid.{IsValidUpdate}
 use Rattle.yd_ops.specs.Operation.{Operation, level_of}
-use Rattle.yd_updates.specs.Received.{Received, received_set}
-use Rattle.yd_updates.specs.Agreement.{operations_of_all, AreAlike, Agree, HaveSameContents, SayTheSame}
-use Rattle.yd_updates.specs.Law.{IsReceived}
+use Rattle.yd_ops.specs.Received.{Received, received_set}
+use Rattle.yd_ops.specs.Agreement.{operations_of_all, AreAlike, Agree, HaveSameContents, SayTheSame}
+use Rattle.yd_ops.specs.ReceivedLaw.{IsReceived}
 use Rattle.yd_meaning.specs.Held.{held_set, is_named}
 use Rattle.yd_meaning.specs.Order.{AreHonest}
 use Rattle.yd_meaning.specs.Deleted.{is_in_delete_set}
 use Rattle.yd_meaning.specs.Document.{Document}
 use Rattle.yd_meaning.specs.Text.{live_units, shown_text}
-use Rattle.yd_growing.specs.Replica.{IsReplicaDocument}
+use Rattle.yd_meaning.specs.Replica.{IsReplicaDocument}
 use Rattle.yd_shown.specs.Seen.{seen_units, text_units}
 use Rattle.yd_any.specs.Same.{same_tree, same_fields}
 use Rattle.yd_shown.specs.Pieces.{Piece, with_attribute, attributes_of_piece, delta_pieces, list_pieces}

@@ -11,9 +11,9 @@ use Rattle.yd_ids.specs.Ids.{is_same, is_written_before}
 use Rattle.yd_ids.proofs.SetLemmas.{once}
 use Rattle.yd_ids.proofs.IdLemmas.{same_is}
 use Rattle.yd_ops.specs.Operation.{Operation}
-use Rattle.yd_updates.specs.Received.{has_operation, IsWritten}
+use Rattle.yd_ops.specs.Received.{has_operation, IsWritten}
 use Rattle.yd_meaning.specs.Held.{held_set, held_clock, is_in_span, is_named, named_count}
-use Rattle.yd_updates.proofs.OneOfLemmas.{operation_with}
+use Rattle.yd_ops.proofs.OneOfLemmas.{operation_with}
 use Rattle.yd_meaning.proofs.VectorLemmas.{held_below, held_written}
 use Rattle.yd_state.specs.Deleting.{span_below}
 use Rattle.yd_state.proofs.NamedLemmas.{is_in_span-is, named_has}

@@ -1,17 +1,14 @@
 -- Whether spans name an id, as a test and as a fact; and the part of a span below a clock.
-use Rattle.std.proofs.Common.{◌≡◌, ℕ, ◌<◌, Bool, true, false, ◌||◌, List, [], ◌∷◌, ◌++◌, inl, inr, refl, sym, ap, ◌∙◌, subst, arith, tests, true≢false}
-use Rattle.std.specs.Prelude.{◌↔◌, Decides}
+use Rattle.std.proofs.Common.{◌≡◌, ℕ, Bool, true, false, ◌||◌, List, [], ◌∷◌, ◌++◌, inl, inr, refl, sym, ap, ◌∙◌, subst, arith, tests, true≢false}
+use Rattle.std.specs.Prelude.{Decides}
 use Rattle.std.proofs.lemmas.Bool.{or_left, or_right}
-use Rattle.yd_ids.specs.declared.id.Client.{Client}
 use Rattle.yd_ids.specs.declared.id.Id.{Id}
 use Rattle.yd_ids.specs.declared.id.Span.{Span}
 use Rattle.yd_ids.specs.Id.{IsSpan}
 use Rattle.yd_ids.specs.Span.{InSpan}
-use Rattle.yd_ids.specs.Set.{HasId, AreMaximal, AddsSpan}
-use Rattle.yd_ids.specs.Vector.{clock_of}
-use Rattle.yd_ids.proofs.SetLemmas.{has_front, has_either}
+use Rattle.yd_ids.specs.Set.{HasId, AreMaximal}
 use Rattle.yd_meaning.specs.Held.{is_in_span, is_named}
-use Rattle.yd_state.specs.Deleting.{span_below, HasHeld}
+use Rattle.yd_state.specs.Deleting.{span_below}
 
 -- ---- one span
 
@@ -22,13 +19,6 @@ pub is_in_span-is : (span : Span) (x : Id) → is_in_span span x ≡ true → In
 is_in_span-is span x e = (grind (arith, tests), grind (arith, tests), grind (arith, tests))
 
 -- ---- the part of a span below a clock
-
--- it has those of the span's ids that are below the clock
-in_part : (span : Span) (clock : ℕ) (x : Id) → InSpan (span_below span clock) x ↔ (InSpan span x × (x.clock < clock))
-in_part span clock x = (
-  (λ i. ((i.0, i.1, omega (arith, i)), omega (arith, i))),
-  (λ b. (b.0.0, b.0.1, omega (arith, b.0.1, b.0.2, b.1))),
-)
 
 pub part_is : (span : Span) (clock : ℕ) → IsSpan span → IsSpan (span_below span clock)
 part_is span clock is = record { client = is.client; end = omega (arith, is.end) }
@@ -61,22 +51,3 @@ span_among (first ∷ front) span back m = span_among front span back m.3
 -- the next of maximal spans is a span
 pub span_next : (spans front back rest : List Span) (span : Span) → AreMaximal spans → front ++ back ≡ spans → back ≡ span ∷ rest → IsSpan span
 span_next spans front back rest span m all next = span_among front span rest (subst AreMaximal (sym all ∙ ap (λ (behind : List Span). front ++ behind) next) m)
-
--- one span more, of which the part below its client's clock is added
-pub held_more : (vector : List (Client × ℕ)) (front : List Span) (span : Span) (old new : List Span) → HasHeld vector front old →
-    AddsSpan old new (span_below span (clock_of vector span.client.0)) → HasHeld vector (front ++ span ∷ []) new
-held_more vector front span old new held adds x = (to, from)
-  where
-    to : HasId new x → HasId (front ++ span ∷ []) x × (x.clock < clock_of vector x.client.0)
-    to i = elim ((adds x).0 i) [
-      | inl j ↦ let b = (held x).0 j in (has_either front (span ∷ []) x (inl b.0), b.1)
-      | inr j ↦ let b = (in_part span (clock_of vector span.client.0) x).0 j in
-          (has_either front (span ∷ []) x (inr (inl b.0)), subst (λ c. x.clock < clock_of vector c) b.0.0 b.1)
-    ]
-
-    from : HasId (front ++ span ∷ []) x × (x.clock < clock_of vector x.client.0) → HasId new x
-    from b = elim (has_front front (span ∷ []) x b.0) [
-      | inl j ↦ (adds x).1 (inl ((held x).1 (j, b.1)))
-      | inr (inl j) ↦ (adds x).1 (inr ((in_part span (clock_of vector span.client.0) x).1 (j, subst (λ c. x.clock < clock_of vector c) (sym j.0) b.1)))
-      | inr (inr j) ↦ absurd j
-    ]

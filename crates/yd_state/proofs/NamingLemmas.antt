@@ -9,7 +9,7 @@ use Rattle.yd_ops.specs.declared.updates.Block.{Block}
 use Rattle.yd_ops.specs.Valid.{AreStructsFrom}
 use Rattle.yd_ops.specs.Value.{clocks_of}
 use Rattle.yd_ops.specs.View.{struct_value, block_value}
-use Rattle.yd_updates.specs.Deletes.{struct_spans, structs_spans, blocks_spans}
+use Rattle.yd_ops.specs.Deletes.{struct_spans, structs_spans, blocks_spans}
 
 -- spans are added one part after the other
 pub union_of-append : (front back set : List Span) → union_of (front ++ back) set ≡ union_of back (union_of front set)

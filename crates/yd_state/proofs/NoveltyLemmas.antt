@@ -6,7 +6,7 @@ use Rattle.yd_words.proofs.MemberLemmas.{each_in, in_right_part}
 use Rattle.yd_ids.specs.declared.id.Id.{Id}
 use Rattle.yd_ids.specs.declared.id.Span.{Span}
 use Rattle.yd_ids.specs.Id.{IsId, IsSpan}
-use Rattle.yd_ids.specs.Set.{HasId}
+use Rattle.yd_ids.specs.Set.{HasId, AreMaximal}
 use Rattle.yd_ids.specs.Span.{InSpan}
 use Rattle.yd_ids.proofs.IdLemmas.{same_numbers}
 use Rattle.yd_state.specs.Novelty.{IsKnown, first_of, id_behind}
@@ -85,3 +85,12 @@ first_is span is = record { client = is.client; clock = omega (arith, is.end) }
 
 pub behind_is : (span : Span) → IsSpan span → IsId (id_behind span)
 behind_is span is = record { client = is.client; clock = is.end }
+
+-- maximal spans are spans
+span_among : (front : List Span) (span : Span) (back : List Span) → AreMaximal (front ++ span ∷ back) → IsSpan span
+span_among [] span back m = m.0
+span_among (first ∷ front) span back m = span_among front span back m.3
+
+-- the next of maximal spans is a span
+pub span_next : (spans front back rest : List Span) (span : Span) → AreMaximal spans → front ++ back ≡ spans → back ≡ span ∷ rest → IsSpan span
+span_next spans front back rest span m all next = span_among front span rest (subst AreMaximal (sym all ∙ ap (λ (behind : List Span). front ++ behind) next) m)

@@ -5,10 +5,10 @@ use Rattle.yd_ids.specs.Set.{union_of}
 use Rattle.yd_ops.specs.Operation.{Operation}
 use Rattle.yd_ops.specs.Valid.{IsValidUpdate}
 use Rattle.yd_ops.specs.Value.{UpdateValue}
-use Rattle.yd_updates.specs.Deletes.{deletes_of}
-use Rattle.yd_updates.specs.Law.{IsReceived}
-use Rattle.yd_updates.specs.Received.{Received, with_groups, groups_of, received_after}
-use Rattle.yd_updates.proofs.ReceivedLemmas.{after_is_received}
+use Rattle.yd_ops.specs.Deletes.{deletes_of}
+use Rattle.yd_ops.specs.ReceivedLaw.{IsReceived}
+use Rattle.yd_ops.specs.Received.{Received, with_groups, groups_of, received_after}
+use Rattle.yd_ops.proofs.ReceivedLemmas.{after_is_received}
 
 -- what was taken of an update, and named by it, is what is received after it
 pub received_is : (r : Received) (update : UpdateValue) (operations : List Operation) (deletes : List Span) →

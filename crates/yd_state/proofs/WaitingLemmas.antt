@@ -15,7 +15,7 @@ use Rattle.yd_ids.specs.Vector.{clock_of}
 use Rattle.yd_ops.specs.declared.runs.Run.{Run}
 use Rattle.yd_ops.specs.Operation.{Operation, later_id, gone_from}
 use Rattle.yd_ops.proofs.OperationLemmas.{length-operations_from}
-use Rattle.yd_updates.specs.Received.{IsWritten}
+use Rattle.yd_ops.specs.Received.{IsWritten}
 use Rattle.yd_meaning.specs.Held.{held_set, held_clock, count_of_ids, named_count}
 use Rattle.yd_entries.specs.declared.entry.Entry.{Entry}
 use Rattle.yd_entries.specs.Entries.{units_of, list_at, operations_told, operations_of_taken, operations_in, TellsRight, IsTakenOf, is_held}

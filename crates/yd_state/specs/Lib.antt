@@ -1,9 +1,14 @@
+pub mod Above
+pub mod Back
 pub mod Brings
+pub mod Coming
 pub mod Deleting
-pub mod Lending
+pub mod Grown
+pub mod Law
 pub mod Lent
 pub mod Novelty
-pub mod Ordered
+pub mod Placing
+pub mod PlacingLaw
+pub mod Settling
 pub mod State
-pub mod Stretches
 pub mod Waiting

@@ -47,12 +47,22 @@ impl From<yd_ids::NoMemory> for NoMemory {
     }
 }
 
-impl From<yd_stretches::NoMemory> for NoMemory {
+impl From<yd_ops::NoMemory> for NoMemory {
     ghost use Rattle.std.specs.Prelude.{◌≡◌};
 
     ghost from_gives = { λ _ e. e ≡ record {} };
 
-    fn from(_error: yd_stretches::NoMemory) -> NoMemory {
+    fn from(_error: yd_ops::NoMemory) -> NoMemory {
+        NoMemory
+    }
+}
+
+impl From<yd_merge::NoMemory> for NoMemory {
+    ghost use Rattle.std.specs.Prelude.{◌≡◌};
+
+    ghost from_gives = { λ _ e. e ≡ record {} };
+
+    fn from(_error: yd_merge::NoMemory) -> NoMemory {
         NoMemory
     }
 }

@@ -1,7 +1,14 @@
-//! The state of a replica: what it received, what is held of it, in which order, and what is deleted.
+//! The state of a replica whose lists grow by the integration scan, in a store.
 //!
-//! All that it tells is what the received operations and deletions define (`yd_meaning`), whatever
-//! the order in which they came ([`State`]). A `take` that finds no memory has changed nothing.
+//! It has what was received and is held, a store with just what is held, and what is deleted
+//! ([`State`]). Each update that is taken lets the lists grow by the scans of what became held, for
+//! every set of operations. Its document is told by the store: by its own lists, and what is deleted
+//! by their order (`specs/State.antt`). Where the edit rules are kept, it is the document that the
+//! received operations and deletions define ([`law`]). A `take` that finds no memory has changed
+//! nothing.
+//!
+//! What became held goes into the store entry by entry, in the order in which it did; where memory
+//! ends, all that was put in is taken out again (`specs/Placing.antt`).
 //!
 //! ```rust
 //! let mut state = State::new(alloc);
@@ -10,19 +17,23 @@
 //! ```
 #![tactic(auto)]
 
-mod deleting;
+mod back;
+mod coming;
+mod counting;
+mod entry;
 mod fault;
-mod last;
+pub mod law;
+mod lengths;
 mod listing;
-mod lost;
 mod naming;
 mod novelty;
 mod numbered;
-mod ordering;
+mod placing;
 mod receiving;
+mod sets;
 mod settling;
 mod state;
-mod swapping;
+mod uniting;
 mod waiting;
 
 pub use fault::NoMemory;

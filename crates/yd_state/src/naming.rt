@@ -6,7 +6,7 @@ ghost use Rattle.yd_ids.specs.Set.{union_of};
 ghost use Rattle.yd_ops.specs.Valid.{IsStructAt, IsValidBlock, IsValidUpdate};
 ghost use Rattle.yd_ops.specs.Value.{len_of, clocks_of};
 ghost use Rattle.yd_ops.specs.View.{content_value, struct_value, block_value, update_value};
-ghost use Rattle.yd_updates.specs.Deletes.{deletes_of, content_spans, struct_spans, structs_spans};
+ghost use Rattle.yd_ops.specs.Deletes.{deletes_of, content_spans, struct_spans, structs_spans};
 
 use crate::fault::NoMemory;
 use yd_ids::{Client, Id, IdSet, Span};

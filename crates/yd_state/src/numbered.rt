@@ -10,6 +10,7 @@ ghost use Rattle.yd_state.specs.Lent.{lent_units, units_left};
 
 use crate::listing::ListView;
 use crate::state::State;
+use yd_listing::list as units_of;
 use yd_ops::{List, Parent};
 
 impl State {
@@ -22,16 +23,15 @@ impl State {
         self.held.names()
     }
 
-    /// The units of the list with a number, in order, deleted ones too. It takes no time to find it.
+    /// The units of the list with a number, in order, deleted ones too. It takes time with the
+    /// logarithm of how many lists there are.
     pub fn list_at(&self, n: usize) -> ListView<'_>
         requires { n < length self.now.held.names }
         ensures { IfSome (slice_get self.now.held.names n)
             (λ name. units_left result ≡ lent_units (document_in self.now) name) }
     {
         ListView {
-            received: self.held.received(),
-            deletes: &self.deletes,
-            order: &self.orders[n],
+            units: units_of(&self.kept, &self.held.names()[n]),
         }
     }
 

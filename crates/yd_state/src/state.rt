@@ -1,45 +1,50 @@
 //! The state of a replica, as one value.
 
-ghost use Rattle.std.specs.Prelude.{◌≡◌, ◌↔◌, ◌∷◌, [], ℕ, IsTrue, IfOk, OnOk, OnErr};
+ghost use Rattle.std.specs.Prelude.{◌≡◌, ◌↔◌, ℕ, IsTrue, IfOk, OnOk, OnErr};
 ghost use Rattle.yd_words.specs.Member.{IsIn};
 ghost use Rattle.yd_ids.specs.Vector.{clock_of};
 ghost use Rattle.yd_ops.specs.Valid.{IsValidUpdate};
 ghost use Rattle.yd_ops.specs.Operation.{Operation};
 ghost use Rattle.yd_ops.specs.View.{update_value};
-ghost use Rattle.yd_updates.specs.Received.{nothing_received, received_after};
+ghost use Rattle.yd_ops.specs.Received.{nothing_received, received_after};
+ghost use Rattle.yd_ops.specs.ReceivedLaw.{ArePaired};
 ghost use Rattle.yd_meaning.specs.Held.{held_set, held_clock, waiting_counts};
-ghost use Rattle.yd_meaning.specs.Order.{order_of};
 ghost use Rattle.yd_meaning.specs.Document.{AreDeletedIn};
-ghost use Rattle.yd_updates.specs.Law.{ArePaired};
-ghost use Rattle.yd_state.specs.State.{received_in, listed_of, document_in, IsSound};
-ghost use Rattle.yd_state.specs.Brings.{BringsSomething, BringsUnknown};
+ghost use Rattle.yd_listing.specs.Falling.{IsTold};
+ghost use Rattle.yd_listing.specs.Listing.{Tells};
+ghost use Rattle.yd_state.specs.State.{received_in, document_in, IsSound};
+ghost use Rattle.yd_state.specs.Brings.{BringsUnknown};
 ghost use Rattle.yd_state.specs.Lent.{lent_units, units_left, last_unit};
 
+use crate::counting::{count_ids, count_units};
 use crate::fault::NoMemory;
 use crate::listing::ListView;
 use crate::naming::named_by;
 use crate::novelty::brings_deletion;
-use crate::settling::settle;
-use crate::waiting::{count_ids, count_units};
+use crate::sets::Sets;
+use crate::settling::{Settled, settle};
+use crate::uniting::{grown_by, put};
 use std::alloc::Global;
 use std::marker::Model;
 use yd_held::Held;
 use yd_ids::{Id, IdSet, Vector};
+use yd_kept::Kept;
+use yd_listing::{last_of, list as units_of};
 use yd_ops::{List, Update};
 use yd_received::Received;
 
-/// What was received and is held, the lists of what stands of it in order, and what is deleted.
+/// What was received and is held, a store with just what is held, and what is named, waits and is
+/// deleted. Contracts see the ids of each list in place of the store.
 #[derive(Drop)]
 pub struct State {
     pub(crate) held: Held,
-    pub(crate) named: IdSet,
-    pub(crate) orders: Vec<Vec<Id>>,
-    pub(crate) deletes: IdSet,
+    pub(crate) kept: Kept,
+    pub(crate) sets: Sets,
 }
 
 impl Model for State {
-    ghost use Rattle.yd_state.specs.State.{StateValue, IsSound};
-    ghost use Rattle.yd_state.specs.Ordered.{order_lists};
+    ghost use Rattle.yd_state.specs.State.{StateValue};
+    ghost use Rattle.yd_state.specs.Grown.{seen_of, IsWhole};
     ghost use Rattle.yd_any.specs.contracts.any_value.AnyList as any_list;
     ghost use Rattle.yd_any.specs.contracts.json_value.Json as json;
     ghost use Rattle.std.specs.Coded.{codes};
@@ -48,18 +53,20 @@ impl Model for State {
 
     ghost coded = { Prim.hlevel (codes, json.the_row.coded, any_list.the_row.coded) };
 
-    ghost view = { λ it. record {
+    ghost view = { λ it. seen_of (record {
       held = it.held;
-      named = it.named;
-      orders = order_lists it.orders.items;
-      deletes = it.deletes;
-    } };
+      named = it.sets.named;
+      waiting = it.sets.waiting;
+      kept = it.kept;
+      deletes = it.sets.deletes;
+    }) };
 
-    ghost invariant = { λ it. IsSound (record {
+    ghost invariant = { λ it. IsWhole (record {
       held = it.held;
-      named = it.named;
-      orders = order_lists it.orders.items;
-      deletes = it.deletes;
+      named = it.sets.named;
+      waiting = it.sets.waiting;
+      kept = it.kept;
+      deletes = it.sets.deletes;
     }) };
 }
 
@@ -69,40 +76,64 @@ impl State {
         ensures received { received_in result ≡ nothing_received }
         ensures sound { IsSound result }
     {
+        let held = Held::new(alloc);
+        let kept = Kept::new(alloc);
+        // That both are sound says that nothing is held.
+        let _ = held.received();
+        let _ = kept.store();
         State {
-            held: Held::new(alloc),
-            named: IdSet::new(alloc),
-            orders: Vec::new(alloc),
-            deletes: IdSet::new(alloc),
+            held,
+            kept,
+            sets: Sets {
+                named: IdSet::new(alloc),
+                waiting: IdSet::new(alloc),
+                deletes: IdSet::new(alloc),
+            },
         }
     }
 
-    /// Receives an update, and holds and deletes all that can be then. It answers whether the
-    /// update brought something. Where it says less of something that was received, all lists are put
-    /// in order anew. Where memory ends nothing has changed.
+    /// Receives an update, holds what can be held then, and puts it into its lists, where the
+    /// integration scan puts it. It answers whether the update brought something. It looks at what
+    /// came, at what waits, and at what is deleted besides, and at what is known by look-ups alone;
+    /// a set that grows is copied. Where the update says less of something that was received, all
+    /// lists grow anew. Where memory ends, nothing has changed that is told.
     pub fn take(&mut self, update: &Update) -> Result<bool, NoMemory>
         requires { IsValidUpdate (update_value update.now) }
         ensures received { OnOk result (received_in self.new
             ≡ received_after (received_in self.old) (update_value update.now)) }
         ensures brings { IfOk result (λ brings. IsTrue brings
-            ↔ BringsSomething (update_value update.now) (received_in self.old)) }
-        ensures unknown { IfOk result (λ brings. IsTrue brings
             ↔ BringsUnknown (update_value update.now) (received_in self.old) self.old.deletes) }
         ensures sound { IsSound self.new }
         ensures unchanged { OnErr result (self.new ≡ self.old) }
     {
-        let mut named = self.named.copy()?;
+        // What is held says what holds before the first growth.
+        let _ = self.held.received();
         let more = named_by(update)?;
-        let deletes = brings_deletion(&self.named, &self.deletes, &more);
-        named.union(&more)?;
+        let deletes = brings_deletion(&self.sets.named, &self.sets.deletes, &more);
+        let named = grown_by(&self.sets.named, &more)?;
         let taken = self.held.take(update)?;
-        match settle(&self.held, &named, &mut self.orders, &taken.stale) {
-            Ok(deleted) => {
-                self.named = named;
-                self.deletes = deleted;
+        match settle(
+            &mut self.kept,
+            &self.held,
+            taken.anew,
+            &taken.order,
+            &self.sets,
+            &more,
+        ) {
+            Ok(
+                Settled {
+                    waiting,
+                    deletes: grown,
+                },
+            ) => {
+                put(&mut self.sets.named, named);
+                put(&mut self.sets.deletes, grown);
+                self.sets.waiting = waiting;
                 Ok(taken.brings || deletes)
             }
             Err(NoMemory) => {
+                // That the store is sound says that its lists tell units still.
+                let _ = self.kept.store();
                 self.held.put_back(taken.before);
                 Err(NoMemory)
             }
@@ -138,14 +169,14 @@ impl State {
         ensures deleted { AreDeletedIn result.now (document_in self.now) }
         ensures own { result.now ≡ self.now.deletes }
     {
-        &self.deletes
+        &self.sets.deletes
     }
 
     /// The ids that received updates delete by name, held or not.
     pub fn named(&self) -> &IdSet
         ensures { result.now ≡ self.now.named }
     {
-        &self.named
+        &self.sets.named
     }
 
     /// The units of a list in order, deleted ones too; lost ones are in no list. It takes time with the
@@ -157,9 +188,7 @@ impl State {
         ensures whole { ArePaired (received_in self.now).operations }
     {
         ListView {
-            received: self.held.received(),
-            deletes: &self.deletes,
-            order: self.order(list),
+            units: units_of(&self.kept, list),
         }
     }
 
@@ -168,7 +197,7 @@ impl State {
     pub fn last_of(&self, list: &List) -> Option<Id>
         ensures { result ≡ last_unit (document_in self.now) list.now }
     {
-        self.order(list).last().copied()
+        last_of(&self.kept, list)
     }
 
     /// How many units were received that are not held. It takes time with the number of entries.
@@ -182,17 +211,14 @@ impl State {
     pub fn waiting_ids(&self) -> u128
         ensures { result ≡ (waiting_counts (received_in self.now)).deletes }
     {
-        count_ids(self.held.vector(), &self.named)
+        count_ids(self.held.vector(), &self.sets.named)
     }
 
-    /// The ids of a list in the order that their origins give.
-    fn order(&self, list: &List) -> &[Id]
-        ensures order { result.now ≡ order_of (listed_of self.now) list.now }
-        ensures sound { IsSound self.now }
+    /// The store with just what is held, and the names of its lists; a list may have no unit there.
+    pub fn kept(&self) -> &Kept
+        ensures tells { Tells result.now (document_in self.now) }
+        ensures told { IsTold result.now }
     {
-        match self.held.number_of(list) {
-            Some(number) => &self.orders[number],
-            None => &[],
-        }
+        &self.kept
     }
 }

@@ -1,35 +1,55 @@
-//! How much waits.
+//! What waits: ids that are deleted by name and not held.
 
-ghost use Rattle.std.specs.Prelude.{◌≡◌};
-ghost use Rattle.std.specs.List.{sum_by};
-ghost use Rattle.yd_ids.specs.Set.{AreMaximal};
-ghost use Rattle.yd_state.specs.Waiting.{waiting_units, waiting_ids};
+ghost use Rattle.std.specs.Prelude.{◌≡◌, ◌↔◌, ◌⊎◌, ◌≤◌, ◌++◌, IfOk, OnOk};
+ghost use Rattle.yd_ids.specs.declared.id.Id.{Id};
+ghost use Rattle.yd_ids.specs.Id.{IsSpan};
+ghost use Rattle.yd_ids.specs.Set.{HasId, AreMaximal};
+ghost use Rattle.yd_ids.specs.Vector.{clock_of};
+ghost use Rattle.yd_state.specs.Above.{span_above, spans_above};
 
-use crate::deleting::part_below;
-use yd_ids::{IdSet, Vector};
-use yd_received::{Entry, Place};
+use crate::fault::NoMemory;
+use std::alloc::Global;
+use yd_ids::{IdSet, Span, Vector};
 
-/// How many units are not held.
-pub(crate) fn count_units(entries: &[Entry]) -> u128
-    ensures { result ≡ sum_by waiting_units entries.now }
+/// The ids of two sets that are not below their clients' clocks. It takes a look-up for each span.
+pub(crate) fn part_above(
+    alloc: Global,
+    waiting: &IdSet,
+    more: &IdSet,
+    vector: &Vector,
+) -> Result<IdSet, NoMemory>
+    ensures { IfOk result (λ left. (x : Id) → HasId left x
+        ↔ ((HasId waiting.now x ⊎ HasId more.now x) × (clock_of vector.now x.client.0 ≤ x.clock))) }
 {
-    let mut count: u128 = 0;
-    for units in entries {
-        if let Place::Waits = units.place {
-            count += units.len as u128;
-        }
-    }
-    count
+    let mut spans = Vec::new(alloc);
+    push_above(&mut spans, waiting, vector)?;
+    push_above(&mut spans, more, vector)?;
+    let left = IdSet::of_spans(alloc, spans)?;
+    Ok(left)
 }
 
-/// How many ids of the spans are not below the clocks that are reached.
-pub(crate) fn count_ids(vector: &Vector, named: &IdSet) -> u128
-    ensures { result ≡ sum_by (waiting_ids vector.now) named.now }
+/// Pushes the parts of a set's spans that are not below their clients' clocks.
+fn push_above(spans: &mut Vec<Span>, set: &IdSet, vector: &Vector) -> Result<(), NoMemory>
+    ensures pushed { OnOk result (spans.new.items
+        ≡ spans.old.items ++ spans_above (clock_of vector.now) set.now) }
+    ensures maximal { OnOk result (AreMaximal set.now) }
 {
-    let mut count: u128 = 0;
-    for span in named.spans() {
-        let held = part_below(span, vector.get(span.client));
-        count += (span.len - held.len) as u128;
+    for span in set.spans() {
+        spans.push(span_above(span, vector))?;
     }
-    count
+    Ok(())
+}
+
+/// The part of a span from its client's clock on.
+fn span_above(span: Span, vector: &Vector) -> Span
+    requires { IsSpan span }
+    ensures { result ≡ span_above (clock_of vector.now) span }
+{
+    let end = span.clock + span.len;
+    let clock = end.min(span.clock.max(vector.get(span.client)));
+    Span {
+        client: span.client,
+        clock,
+        len: end - clock,
+    }
 }

@@ -16,9 +16,9 @@ use Rattle.yd_scan.specs.Stretches.{stretch_at, no_stretch, units_of}
 use Rattle.yd_index.proofs.HoldingLemmas.{below_or_last}
 use Rattle.yd_arena.specs.Lists.{AreLists}
 use Rattle.yd_arena.specs.Arena.{Placed, runs_of, count_of, places_in, next_clock, IsSame, AddsLoose}
-use Rattle.yd_marks.specs.declared.mark.Mark.{Mark}
-use Rattle.yd_marks.specs.Marks.{Marked, IsMarked, IsBorder}
-use Rattle.yd_marks.proofs.MarkLemmas.{adds_keep_marks}
+use Rattle.yd_arena.specs.declared.mark.Mark.{Mark}
+use Rattle.yd_arena.specs.Marks.{Marked, IsMarked, IsBorder}
+use Rattle.yd_arena.proofs.MarkLemmas.{adds_keep_marks}
 use Rattle.yd_store.specs.Contents.{Contented, told, told_of, run_at}
 use Rattle.yd_store.specs.Store.{Stored, IsStore, stretch_of, AddsRun, AddsOutside}
 use Rattle.yd_store.specs.Units.{operations_told, operations_at, HasOperation, AddsUnits, AddsApart}

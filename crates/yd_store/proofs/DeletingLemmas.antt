@@ -2,8 +2,8 @@
 use Rattle.std.proofs.Common.{◌≡◌, ◌+◌, ◌≤◌, inl, inr, sym, subst, arith}
 use Rattle.yd_ids.specs.declared.id.Span.{Span}
 use Rattle.yd_arena.specs.Arena.{Placed, IsArena, runs_of, next_clock}
-use Rattle.yd_marks.specs.Marks.{IsBorder, MarksSpan}
-use Rattle.yd_marks.proofs.MarkLemmas.{marks_are_units}
+use Rattle.yd_arena.specs.Marks.{IsBorder, MarksSpan}
+use Rattle.yd_arena.proofs.MarkLemmas.{marks_are_units}
 use Rattle.yd_store.specs.Contents.{Contented}
 use Rattle.yd_store.specs.Store.{Stored}
 use Rattle.yd_store.specs.Units.{KeepsUnits}

@@ -14,8 +14,8 @@ use Rattle.yd_scan.proofs.UnitLemmas.{in_units, units_in}
 use Rattle.yd_index.proofs.RowLemmas.{from_says, from_in}
 use Rattle.yd_arena.specs.Lists.{AreLists}
 use Rattle.yd_arena.specs.Arena.{Placed, IsArena, HasUnit, runs_of, count_of, places_in, next_clock}
-use Rattle.yd_marks.specs.Marks.{IsBorder}
-use Rattle.yd_marks.proofs.BorderLemmas.{begins_border, next_border_of}
+use Rattle.yd_arena.specs.Marks.{IsBorder}
+use Rattle.yd_arena.proofs.BorderLemmas.{begins_border, next_border_of}
 use Rattle.yd_store.specs.Store.{Stored, StandsIn, AddsRun, stretch_of}
 use Rattle.yd_store.specs.Units.{KeepsUnits, AddsUnits}
 use Rattle.yd_store.specs.Integrating.{IsBorderAt, IsPlaceOf}

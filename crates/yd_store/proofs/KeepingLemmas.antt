@@ -20,9 +20,9 @@ use Rattle.yd_index.proofs.CuttingLemmas.{cut_len, cut_front, cut_rest, cut_othe
 use Rattle.yd_arena.specs.Lists.{AreLists}
 use Rattle.yd_arena.specs.Arena.{runs_of, count_of, places_in, CutsRun}
 use Rattle.yd_arena.proofs.CutLemmas.{cuts_keep_rows, same_has_rows}
-use Rattle.yd_marks.specs.Marks.{mark_at}
-use Rattle.yd_marks.proofs.MarkLemmas.{cuts_keep_marks}
-use Rattle.yd_marks.proofs.BorderLemmas.{cut_border}
+use Rattle.yd_arena.specs.Marks.{mark_at}
+use Rattle.yd_arena.proofs.MarkLemmas.{cuts_keep_marks}
+use Rattle.yd_arena.proofs.BorderLemmas.{cut_border}
 use Rattle.yd_store.specs.Contents.{told_of, run_at, told_before, told_behind, cut_runs}
 use Rattle.yd_store.specs.Store.{Stored, IsRunOf, AreTold, IsStore, IsKept}
 use Rattle.yd_store.specs.Units.{operations_told, operations_at, operations_in, HasOperation, KeepsUnits}

@@ -15,8 +15,8 @@ use Rattle.yd_scan.specs.declared.stretch.Stretch.{Stretch}
 use Rattle.yd_scan.specs.Stretches.{stretch_at}
 use Rattle.yd_arena.specs.Arena.{IsArena, runs_of, places_in}
 use Rattle.yd_arena.proofs.ArenaLemmas.{units_stand_once}
-use Rattle.yd_marks.specs.declared.mark.Mark.{Mark}
-use Rattle.yd_marks.specs.Marks.{mark_at, live_at, total}
+use Rattle.yd_arena.specs.declared.mark.Mark.{Mark}
+use Rattle.yd_arena.specs.Marks.{mark_at, live_at, total}
 use Rattle.yd_store.specs.Contents.{told_of, run_at, counts, is_lowered}
 use Rattle.yd_store.specs.Store.{Stored, IsRunOf, AreTold, IsNoted, AreNoted}
 use Rattle.yd_store.specs.Units.{operations_told, operations_at}

@@ -7,7 +7,7 @@ use Rattle.yd_words.specs.Member.{IsIn}
 use Rattle.yd_ops.specs.Operation.{Operation}
 use Rattle.yd_arena.specs.Lists.{AreLists}
 use Rattle.yd_arena.specs.Arena.{Placed, runs_of, places_in}
-use Rattle.yd_marks.specs.Marks.{Marked, IsBorder}
+use Rattle.yd_arena.specs.Marks.{Marked, IsBorder}
 use Rattle.yd_store.specs.declared.level.Level.{Level}
 use Rattle.yd_store.specs.Contents.{Contented, told_of}
 use Rattle.yd_store.specs.Store.{Stored, AreTold}

@@ -19,9 +19,9 @@ use Rattle.yd_index.specs.Line.{Lined}
 use Rattle.yd_index.proofs.LineLemmas.{lt_says}
 use Rattle.yd_index.proofs.LinesLemmas.{eq_says}
 use Rattle.yd_arena.specs.Arena.{IsArena}
-use Rattle.yd_marks.specs.declared.mark.Mark.{Mark}
-use Rattle.yd_marks.specs.Marks.{mark_at, BeginsIn, IsBorder}
-use Rattle.yd_marks.proofs.BorderLemmas.{only_begins}
+use Rattle.yd_arena.specs.declared.mark.Mark.{Mark}
+use Rattle.yd_arena.specs.Marks.{mark_at, BeginsIn, IsBorder}
+use Rattle.yd_arena.proofs.BorderLemmas.{only_begins}
 use Rattle.yd_store.specs.declared.level.Level.{Level}
 use Rattle.yd_store.specs.declared.level.Level.TheVariants.{Gone, Deleted}
 use Rattle.yd_store.specs.Contents.{run_at}

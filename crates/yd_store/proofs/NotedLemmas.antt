@@ -6,8 +6,8 @@ use Rattle.yd_ops.specs.Cutting.{content_before, content_behind}
 use Rattle.yd_scan.specs.declared.stretch.Stretch.{Stretch}
 use Rattle.yd_index.proofs.LinesLemmas.{eq_says}
 use Rattle.yd_index.proofs.HoldingLemmas.{below_or_last}
-use Rattle.yd_marks.specs.declared.mark.Mark.{Mark}
-use Rattle.yd_marks.specs.Marks.{no_mark, mark_at, MarksClocks}
+use Rattle.yd_arena.specs.declared.mark.Mark.{Mark}
+use Rattle.yd_arena.specs.Marks.{no_mark, mark_at, MarksClocks}
 use Rattle.yd_store.specs.Contents.{counts, is_lowered, run_at, told_before, told_behind, cut_runs}
 use Rattle.yd_store.specs.Store.{IsNoted, AreNoted}
 use Rattle.yd_store.specs.Halves.{IsString, HoldsText, told_as}

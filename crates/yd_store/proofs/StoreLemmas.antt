@@ -26,9 +26,9 @@ use Rattle.yd_index.proofs.CuttingLemmas.{cut_len, cut_front, cut_rest, cut_othe
 use Rattle.yd_arena.specs.Lists.{Linked, list_at, AreLists}
 use Rattle.yd_arena.specs.Arena.{Placed, IsArena, HasUnit, runs_of, places_in, IsSame, CutsRun, GrowsByRun, AddsLoose}
 use Rattle.yd_arena.proofs.ArenaLemmas.{unit_id, own_unit, unit_below, units_stand_once}
-use Rattle.yd_marks.specs.declared.mark.Mark.{Mark}
-use Rattle.yd_marks.specs.Marks.{Marked, mark_at, live_of, live_at, total, with_more}
-use Rattle.yd_marks.proofs.CountLemmas.{counted_cut, counted_added, counted_loose}
+use Rattle.yd_arena.specs.declared.mark.Mark.{Mark}
+use Rattle.yd_arena.specs.Marks.{Marked, mark_at, live_of, live_at, total, with_more}
+use Rattle.yd_arena.proofs.CountLemmas.{counted_cut, counted_added, counted_loose}
 use Rattle.yd_store.specs.Contents.{Contented, told, told_of, counts, CanBeCut, run_at, told_before, told_behind, cut_runs, CanCut}
 use Rattle.yd_store.specs.Store.{IsRunOf, AreTold, IsNoted, IsStore, StandsIn, IsKeptRight, AddsRun}
 use Rattle.yd_store.proofs.NotedLemmas.{noted_cut, noted_more}

@@ -15,10 +15,10 @@ use Rattle.yd_index.proofs.LinesLemmas.{eq_says}
 use Rattle.yd_arena.specs.Lists.{AreLists}
 use Rattle.yd_arena.specs.Arena.{Placed, IsArena, runs_of, count_of, places_in, next_clock, TakesLast}
 use Rattle.yd_arena.proofs.TakingLemmas.{still_in}
-use Rattle.yd_marks.specs.declared.mark.Mark.{Mark}
-use Rattle.yd_marks.specs.Marks.{mark_at, live_of, live_at, total, BeginsIn, IsBorder, MarksSpan}
-use Rattle.yd_marks.proofs.MarkLemmas.{marks_are_units}
-use Rattle.yd_marks.proofs.TotalLemmas.{total_append, total_same}
+use Rattle.yd_arena.specs.declared.mark.Mark.{Mark}
+use Rattle.yd_arena.specs.Marks.{mark_at, live_of, live_at, total, BeginsIn, IsBorder, MarksSpan}
+use Rattle.yd_arena.proofs.MarkLemmas.{marks_are_units}
+use Rattle.yd_arena.proofs.TotalLemmas.{total_append, total_same}
 use Rattle.yd_store.specs.Contents.{Contented, told_of, run_at}
 use Rattle.yd_store.specs.Store.{Stored, IsRunOf, IsStore}
 use Rattle.yd_store.specs.Taking.{is_id_left, is_left, IsLeft, TakesBack, AreDead}

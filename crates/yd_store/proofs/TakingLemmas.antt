@@ -24,8 +24,8 @@ use Rattle.yd_arena.specs.Arena.{IsArena, HasUnit, runs_of, count_of, places_in,
 use Rattle.yd_arena.specs.Rows.{rows_of_run, rows_in}
 use Rattle.yd_arena.proofs.ArenaLemmas.{unit_below}
 use Rattle.yd_arena.proofs.RowLemmas.{ids-from}
-use Rattle.yd_marks.specs.Marks.{IsBorder, IsMarked}
-use Rattle.yd_marks.proofs.BorderLemmas.{one_run}
+use Rattle.yd_arena.specs.Marks.{IsBorder, IsMarked}
+use Rattle.yd_arena.proofs.BorderLemmas.{one_run}
 use Rattle.yd_store.specs.Contents.{told_of, run_at}
 use Rattle.yd_store.specs.Store.{Stored, AreTold}
 use Rattle.yd_store.specs.Units.{operations_told, operations_at, operations_in, HasOperation}

@@ -20,7 +20,7 @@ use Rattle.yd_index.proofs.LinesLemmas.{eq_says}
 use Rattle.yd_arena.specs.Arena.{runs_of, IsArena, HasUnit}
 use Rattle.yd_arena.specs.Lists.{AreLists}
 use Rattle.yd_arena.proofs.ArenaLemmas.{units_stand_once}
-use Rattle.yd_marks.specs.Marks.{IsBorder}
+use Rattle.yd_arena.specs.Marks.{IsBorder}
 use Rattle.yd_store.specs.Contents.{told_of, run_at}
 use Rattle.yd_store.specs.Store.{Stored, IsRunOf, AreTold}
 use Rattle.yd_store.specs.Units.{operations_told, operations_at, KeepsUnits}

@@ -5,7 +5,7 @@ use Rattle.yd_ids.specs.Id.{IsClock}
 use Rattle.yd_ops.specs.Value.{RunValue, len_of}
 use Rattle.yd_arena.specs.Lists.{AreLists}
 use Rattle.yd_arena.specs.Arena.{Placed, runs_of, next_clock, HasUnit}
-use Rattle.yd_marks.specs.Marks.{IsBorder}
+use Rattle.yd_arena.specs.Marks.{IsBorder}
 use Rattle.yd_store.specs.Store.{Stored, StandsIn, AddsRun}
 use Rattle.yd_store.specs.Units.{KeepsUnits}
 

@@ -6,7 +6,7 @@ use Rattle.yd_words.specs.Member.{IsIn}
 use Rattle.yd_ops.specs.Operation.{UnitContent, mark, deleted_unit, gone_unit, Operation, level_of}
 use Rattle.yd_arena.specs.Lists.{AreLists}
 use Rattle.yd_arena.specs.Arena.{IsArena, runs_of, count_of, next_clock}
-use Rattle.yd_marks.specs.Marks.{AreCounted}
+use Rattle.yd_arena.specs.Marks.{AreCounted}
 use Rattle.yd_store.specs.Contents.{told_of}
 use Rattle.yd_store.specs.Store.{Stored, AreTold, AreNoted}
 use Rattle.yd_store.specs.Units.{operations_in, HasOperation, HasMarked, AddsUnits}

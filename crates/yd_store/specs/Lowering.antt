@@ -9,7 +9,7 @@ use Rattle.yd_scan.specs.declared.stretch.Stretch.{Stretch}
 use Rattle.yd_scan.specs.Stretches.{stretch_at}
 use Rattle.yd_arena.specs.Arena.{runs_of, count_of, units_in, next_clock}
 use Rattle.yd_arena.specs.Rows.{rows_in}
-use Rattle.yd_marks.specs.Marks.{BeginsIn, IsBorder}
+use Rattle.yd_arena.specs.Marks.{BeginsIn, IsBorder}
 use Rattle.yd_store.specs.declared.level.Level.{Level}
 use Rattle.yd_store.specs.declared.level.Level.TheVariants.{Gone, Deleted}
 use Rattle.yd_store.specs.Contents.{run_at}

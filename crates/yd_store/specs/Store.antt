@@ -1,5 +1,5 @@
 -- A store: runs in an arena, their marks of deletion, and what they hold (Yjs 13, the struct store).
-use Rattle.std.specs.Prelude.{◌≡◌, ◌⊎◌, ◌<◌, ◌++◌, ◌∷◌, [], ℕ, true, false, List, Option, Some, None, IfSome, min, length}
+use Rattle.std.specs.Prelude.{◌≡◌, ◌⊎◌, ◌<◌, ◌+◌, ◌^◌, ◌++◌, ◌∷◌, [], ℕ, true, false, List, Option, Some, None, IfSome, min, length, get_or}
 use Rattle.yd_ids.specs.declared.id.Id.{Id}
 use Rattle.yd_ids.specs.declared.id.Span.{Span}
 use Rattle.yd_words.specs.Member.{IsIn}
@@ -7,8 +7,8 @@ use Rattle.yd_ops.specs.Value.{len_of, RunValue}
 use Rattle.yd_scan.specs.declared.stretch.Stretch.{Stretch}
 use Rattle.yd_scan.specs.Stretches.{stretch_at}
 use Rattle.yd_arena.specs.Arena.{Placed, runs_of, places_in, room_for, HasUnit, IsSame, CutsAt, GrowsByRun, AddsLoose}
-use Rattle.yd_marks.specs.declared.mark.Mark.{Mark}
-use Rattle.yd_marks.specs.Marks.{Marked, mark_at, live_of, with_more, AreCounted}
+use Rattle.yd_arena.specs.declared.mark.Mark.{Mark}
+use Rattle.yd_arena.specs.Marks.{Marked, mark_at, live_of, with_more, AreCounted}
 use Rattle.yd_store.specs.Contents.{Contented, told_of, run_at, cut_runs, counts, is_lowered}
 
 -- the runs with their lists and their index, the marks, and what the runs hold
@@ -47,6 +47,10 @@ pub record IsStore (placed : Placed) (marks : Marked) (contents : Contented) : T
 -- how many more runs of a client cannot fail
 abbrev pub spare_of : Stored → ℕ → ℕ
 spare_of it client = min (room_for it.placed client) (min it.marks.room it.contents.room)
+
+-- the list has fewer than 2^64 live units with those of a run
+abbrev pub CanCount : Stored → ℕ → RunValue → Type 0
+CanCount it list run = get_or it.marks.live list 0 + len_of run.content < 2 ^ 64
 
 -- all is as before but the room
 pub record IsKept (old new : Stored) : Type 0 where

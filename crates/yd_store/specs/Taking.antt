@@ -6,7 +6,7 @@ use Rattle.yd_scan.specs.Stretches.{stretch_at}
 use Rattle.yd_origins.specs.Table.{Row}
 use Rattle.yd_arena.specs.Arena.{runs_of, count_of, next_clock}
 use Rattle.yd_arena.specs.Rows.{rows_in}
-use Rattle.yd_marks.specs.Marks.{mark_at, BeginsIn, IsBorder}
+use Rattle.yd_arena.specs.Marks.{mark_at, BeginsIn, IsBorder}
 use Rattle.yd_store.specs.Store.{Stored}
 use Rattle.yd_store.specs.Units.{operations_in, HasOperation, HasMarked}
 

@@ -8,7 +8,7 @@ use Rattle.yd_scan.specs.declared.stretch.Stretch.{Stretch}
 use Rattle.yd_scan.specs.Stretches.{stretch_at, units_of}
 use Rattle.yd_arena.specs.Arena.{runs_of, count_of, places_in, units_in, next_clock}
 use Rattle.yd_arena.specs.Rows.{rows_in}
-use Rattle.yd_marks.specs.Marks.{IsMarked, IsBorder}
+use Rattle.yd_arena.specs.Marks.{IsMarked, IsBorder}
 use Rattle.yd_store.specs.Contents.{told_of, run_at}
 use Rattle.yd_store.specs.Store.{Stored}
 

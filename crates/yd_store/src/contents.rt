@@ -2,7 +2,7 @@
 
 ghost use Rattle.std.specs.Prelude.{◌≡◌, ◌<◌, ◌≤◌, ◌+◌, ◌++◌, ◌∷◌, [], None, slice_set, length, IfOk, OnOk, OnErr, IsOk, option_copied};
 ghost use Rattle.yd_arena.specs.Arena.{runs_of, next_clock};
-ghost use Rattle.yd_marks.specs.Marks.{IsBorder};
+ghost use Rattle.yd_arena.specs.Marks.{IsBorder};
 ghost use Rattle.yd_store.specs.Contents.{told, told_of, run_at, CanCut, CutsTold, KeepsTold};
 ghost use Rattle.yd_store.specs.Lowering.{told_down, LowersSpan};
 ghost use Rattle.yd_store.specs.Halves.{told_as};

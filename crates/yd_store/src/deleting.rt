@@ -2,7 +2,7 @@
 
 ghost use Rattle.std.specs.Prelude.{◌≤◌, ◌+◌, OnOk, OnErr};
 ghost use Rattle.yd_arena.specs.Arena.{runs_of, next_clock};
-ghost use Rattle.yd_marks.specs.Marks.{IsBorder};
+ghost use Rattle.yd_arena.specs.Marks.{IsBorder};
 ghost use Rattle.yd_store.specs.Units.{KeepsUnits};
 ghost use Rattle.yd_store.specs.Deleting.{DeletesUnits};
 

@@ -7,9 +7,8 @@ ghost use Rattle.yd_store.specs.Store.{KeepsParts, KeepsRuns};
 
 use crate::contents::Contents;
 use std::alloc::AllocError;
-use yd_arena::{Arena, Found};
+use yd_arena::{Arena, Found, Marks};
 use yd_ids::{Client, Id};
-use yd_marks::Marks;
 
 /// Makes room for so many runs of a client in all parts, or finds no memory for it.
 pub fn reserve_parts(

@@ -9,9 +9,9 @@ ghost use Rattle.yd_ops.specs.View.{content_value, run_value};
 ghost use Rattle.yd_scan.specs.Stretches.{IsNoLater, EndsLeft};
 ghost use Rattle.yd_arena.specs.Lists.{AreLists, IsLoose};
 ghost use Rattle.yd_arena.specs.Arena.{runs_of, count_of, places_in, next_clock, HasUnit, IsArena};
-ghost use Rattle.yd_marks.specs.Marks.{AreCounted, mark_at, IsBorder, MarksSpan};
+ghost use Rattle.yd_arena.specs.Marks.{AreCounted, mark_at, IsBorder, MarksSpan};
 ghost use Rattle.yd_store.specs.Contents.{told, told_of, run_at};
-ghost use Rattle.yd_store.specs.Store.{spare_of, AreTold, AreNoted, IsKept, KeepsRuns, SplitsAt, StandsIn, AddsRun};
+ghost use Rattle.yd_store.specs.Store.{spare_of, AreTold, AreNoted, CanCount, IsKept, KeepsRuns, SplitsAt, StandsIn, AddsRun};
 ghost use Rattle.yd_store.specs.Units.{KeepsUnits, AddsUnits};
 ghost use Rattle.yd_store.specs.Taking.{TakesBack, AreDead};
 
@@ -25,9 +25,8 @@ use crate::parts::{add_list_parts, reserve_parts, seek};
 use crate::rights::{kept_right, stands_in};
 use std::alloc::Global;
 use std::marker::Model;
-use yd_arena::{Arena, Found};
+use yd_arena::{Arena, Found, Mark, Marks};
 use yd_ids::{Client, Id, Span};
-use yd_marks::{Mark, Marks};
 use yd_ops::{NoMemory, Run};
 use yd_scan::Stretch;
 
@@ -192,7 +191,7 @@ impl Store {
     /// How many units of a list are live: those that counted in lengths when they were added, and
     /// are not marked as deleted. `lower` marks none: who spells units deleted marks them besides.
     /// Then it is the number of the list's live operations (`law::live_is_counted`).
-    pub fn live(&self, list: usize) -> u128
+    pub fn live(&self, list: usize) -> u64
         requires { list < count_of self.now.placed }
         ensures { result ≡ get_or self.now.marks.live list 0 }
     {
@@ -256,8 +255,8 @@ impl Store {
     /// Adds the next run of its client to a list, live, where the integration scan of its first
     /// unit puts it. Its left origin ends the run at `after`, or is absent at the front, and its
     /// right origin begins a run, if it stands in the list. Its place is answered. While the client
-    /// has spare, this takes no memory; where it finds none, the run comes back, and nothing has
-    /// changed.
+    /// has spare, this takes no memory; where it finds none, or the list would have 2^64 live units or
+    /// more, the run comes back, and nothing has changed.
     pub fn add_run(
         &mut self,
         run: Run,
@@ -278,8 +277,12 @@ impl Store {
         ensures value_returned { IfErr result (λ fault. run_value fault.0 ≡ run_value run) }
         ensures unchanged { OnErr result (IsKept self.old self.new) }
         ensures spares { (client : ℕ) → spare_of self.old client ≤ spare_of self.new client + 1 }
-        ensures succeeds { 0 < spare_of self.old run.id.client.0 → IsOk result }
+        ensures succeeds { 0 < spare_of self.old run.id.client.0 →
+            CanCount self.old list (run_value run) → IsOk result }
     {
+        if !self.can_count(list, &run) {
+            return Err(Unplaced(run));
+        }
         let right = kept_right(&self.arena, list, run.right);
         let room = reserve_parts(
             &mut self.arena,
@@ -309,6 +312,15 @@ impl Store {
         self.marks.add(Some(list), len, mark);
         self.contents.add(Some(run));
         Ok(place)
+    }
+
+    /// A list has fewer than 2^64 live units with those of a run.
+    fn can_count(&self, list: usize, run: &Run) -> bool
+        requires { list < count_of self.now.placed }
+        ensures fits { result ≡ true → CanCount self.now list (run_value run.now) }
+        ensures full { result ≡ false → CanCount self.now list (run_value run.now) → ⊥ }
+    {
+        self.marks.live(list) <= u64::MAX - run.len()
     }
 
     /// Marks the units of a span as deleted, run by run. The span is held, and parts no run: see

@@ -2,7 +2,7 @@
 
 ghost use Rattle.std.specs.Prelude.{◌≡◌, ◌<◌, ◌≤◌, ℕ};
 ghost use Rattle.yd_arena.specs.Arena.{runs_of, next_clock};
-ghost use Rattle.yd_marks.specs.Marks.{IsBorder};
+ghost use Rattle.yd_arena.specs.Marks.{IsBorder};
 ghost use Rattle.yd_store.specs.Store.{spare_of};
 ghost use Rattle.yd_store.specs.Taking.{TakesBack, AreDead};
 

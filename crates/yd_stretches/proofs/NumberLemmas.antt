@@ -10,7 +10,7 @@ use Rattle.yd_ids.specs.Id.{IsId, IsSpan}
 use Rattle.yd_ops.specs.declared.lists.List.{List as DocList}
 use Rattle.yd_ops.specs.Operation.{Operation}
 use Rattle.yd_origins.specs.Table.{IsTable}
-use Rattle.yd_updates.specs.Received.{has_operation, IsWritten}
+use Rattle.yd_ops.specs.Received.{has_operation, IsWritten}
 use Rattle.yd_meaning.specs.Names.{item_of_list}
 use Rattle.yd_meaning.specs.Order.{rows_of, list_of}
 use Rattle.yd_meaning.proofs.StandingTableLemmas.{standing_table}

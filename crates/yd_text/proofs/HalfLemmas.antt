@@ -8,9 +8,9 @@ use Rattle.yd_ids.specs.Ids.{is_same, is_same_neighbour}
 use Rattle.yd_ids.proofs.IdLemmas.{same_is, same_itself, written_differs}
 use Rattle.yd_ops.specs.declared.lists.List.{List as DocList}
 use Rattle.yd_ops.specs.Operation.{Operation, later_id}
-use Rattle.yd_updates.specs.Law.{ArePaired}
-use Rattle.yd_updates.specs.Pairs.{is_high, is_low, is_text_and, are_partners}
-use Rattle.yd_updates.specs.Received.{IsWritten}
+use Rattle.yd_ops.specs.ReceivedLaw.{ArePaired}
+use Rattle.yd_ops.specs.Pairs.{is_high, is_low, is_text_and, are_partners}
+use Rattle.yd_ops.specs.Received.{IsWritten}
 use Rattle.yd_meaning.specs.Document.{Document}
 use Rattle.yd_meaning.specs.Text.{live_units}
 use Rattle.yd_shown.specs.Shown.{is_counted}

@@ -1,8 +1,11 @@
 pub mod AlikeLemmas
 pub mod HalfLemmas
+pub mod KeyShowingLemmas
+pub mod LastLemmas
 pub mod MarkLemmas
 pub mod RangeLemmas
 pub mod RefusalLemmas
 pub mod RowLemmas
 pub mod ShowingLemmas
+pub mod StepLemmas
 pub mod ValueLemmas

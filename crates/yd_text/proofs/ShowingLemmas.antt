@@ -2,11 +2,11 @@
 use Rattle.std.proofs.Common.{◌≡◌, List, ◌++◌, take, drop, None, sym, ap, ap₂, ◌∙◌, subst}
 use Rattle.yd_ops.specs.Operation.{Operation}
 use Rattle.yd_ops.specs.Value.{UpdateValue}
-use Rattle.yd_updates.specs.Received.{Received, received_after}
+use Rattle.yd_ops.specs.Received.{Received, received_after}
 use Rattle.yd_meaning.specs.Document.{Document, document_of}
 use Rattle.yd_meaning.specs.Held.{held_set}
 use Rattle.yd_meaning.specs.Order.{AreHonest}
-use Rattle.yd_growing.specs.Replica.{IsReplicaDocument}
+use Rattle.yd_meaning.specs.Replica.{IsReplicaDocument}
 use Rattle.yd_editing.specs.Basis.{Basis, basis_of, basis_over}
 use Rattle.yd_editing.specs.Law.{IsHonestHeld, after_edit, made_by}
 use Rattle.yd_editing.specs.Made.{update_of_edit}

@@ -1,15 +1,17 @@
-//! What each edit of a text shows, each law the contract of a function that does nothing.
+//! What each edit of a text or a map shows, each law the contract of a function that does nothing.
 //!
 //! Each is about a replica before an edit and after it (`IsEdit` of `yd_doc`, which `insert`,
 //! `embed`, `delete` and `format` ensure), where the text is quiet before: what is received is
 //! honest, nothing waits, no deletion either, and the list's parent is a root or live
-//! (`IsQuietText` of `yd_editing`).
+//! (`IsQuietText` of `yd_editing`); a map is quiet where the list of its key is. Of `list_insert` and
+//! `child_insert` it is [`insertions_show`].
 
 ghost use Rattle.yd_text.specs.Law.{InsertionsShow, DeletionsShow, FormatsShow};
+ghost use Rattle.yd_text.specs.TreeLaw.{SettingsShow, RemovalsShow};
 
 use yd_doc::Replica;
 use yd_doc::law::own_document_is_replicas;
-use yd_editing::law::{deletes_stand, formats_stand, inserts_stand};
+use yd_editing::law::{deletes_stand, formats_stand, inserts_stand, sets_stand, unsets_stand};
 
 /// After an insertion or an embed the live counted units are the old ones with the new ones at the
 /// index.
@@ -38,4 +40,22 @@ pub fn formats_show(before: &Replica, after: &Replica)
     own_document_is_replicas(before);
     own_document_is_replicas(after);
     formats_stand();
+}
+
+/// After a value or a type is set under a key it stands there, and all else is as before.
+pub fn settings_show(before: &Replica, after: &Replica)
+    ensures { SettingsShow before.now after.now }
+{
+    own_document_is_replicas(before);
+    own_document_is_replicas(after);
+    sets_stand();
+}
+
+/// After what stands under a key is removed the key has no value, and all else is as before.
+pub fn removals_show(before: &Replica, after: &Replica)
+    ensures { RemovalsShow before.now after.now }
+{
+    own_document_is_replicas(before);
+    own_document_is_replicas(after);
+    unsets_stand();
 }

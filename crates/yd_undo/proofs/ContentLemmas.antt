@@ -7,8 +7,8 @@ use Rattle.yd_units.proofs.HalfLemmas.{WholeAfter, after_whole}
 use Rattle.yd_ops.specs.Operation.{UnitContent, text_unit, any_unit, json_unit, bytes, embedded, mark, nested_type, deleted_unit, gone_unit}
 use Rattle.yd_ops.specs.Valid.{IsValidUnit, AreValidTrees, IsValidContent}
 use Rattle.yd_ops.specs.Value.{ContentValue, len_of}
-use Rattle.yd_updates.specs.Pairs.{is_high, is_low}
-use Rattle.yd_updates.proofs.PartnerLemmas.{high_unit, low_unit}
+use Rattle.yd_ops.specs.Pairs.{is_high, is_low}
+use Rattle.yd_ops.proofs.PartnerLemmas.{high_unit, low_unit}
 use Rattle.yd_grouping.specs.Groupable.{IsValidUnitContent}
 use Rattle.yd_editing.specs.Law.{IsMakeable}
 use Rattle.yd_copying.specs.Content.{can_be_made, alone, whole_units, texts_in, trees_in, values_in, content_of}

@@ -20,7 +20,7 @@ use Rattle.yd_meaning.specs.Names.{item_of_parent, has_key}
 use Rattle.yd_meaning.proofs.HeldLemmas.{held_in}
 use Rattle.yd_meaning.proofs.StandingLemmas.{standing_in}
 use Rattle.yd_meaning.proofs.VectorLemmas.{held_written}
-use Rattle.yd_growing.specs.Replica.{IsReplicaDocument}
+use Rattle.yd_meaning.specs.Replica.{IsReplicaDocument}
 use Rattle.yd_grouping.specs.Groupable.{IsValidUnitContent, IsValidOperation, AreGroupable}
 use Rattle.yd_state.specs.Lent.{Lent, lent, last_unit}
 use Rattle.yd_editing.specs.Basis.{is_type, has_type_item}

@@ -12,7 +12,7 @@ use Rattle.yd_ops.specs.declared.lists.List.{List as DocList}
 use Rattle.yd_ops.specs.Operation.{later_id}
 use Rattle.yd_meaning.specs.Names.{item_of_list, has_key}
 use Rattle.yd_state.specs.Lent.{Lent, lent_units, last_unit}
-use Rattle.yd_standing.specs.Standing.{list_where, stands_in}
+use Rattle.yd_making.specs.Standing.{list_where, stands_in}
 use Rattle.yd_editing.specs.Basis.{Basis}
 use Rattle.yd_editing.specs.Step.{Step, make}
 use Rattle.yd_doc.specs.Editing.{own_basis}

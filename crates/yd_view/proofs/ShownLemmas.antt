@@ -8,11 +8,11 @@ use Rattle.yd_ids.specs.Ids.{is_same, is_same_neighbour}
 use Rattle.yd_ids.proofs.IdLemmas.{same_numbers, same_is, same_itself}
 use Rattle.yd_ops.specs.declared.lists.List.{List as DocList}
 use Rattle.yd_ops.specs.Operation.{UnitContent, text_unit, any_unit, json_unit, bytes, embedded, mark, nested_type, deleted_unit, gone_unit, Operation, later_id}
-use Rattle.yd_updates.specs.Pairs.{is_high, is_low, is_text_and, are_partners}
+use Rattle.yd_ops.specs.Pairs.{is_high, is_low, is_text_and, are_partners}
 use Rattle.yd_meaning.specs.Document.{Document}
 use Rattle.yd_meaning.specs.Text.{live_units, has_partner_before, has_partner_behind, shown_before, shown_units, shown_text}
-use Rattle.yd_updates.specs.Law.{ArePaired}
-use Rattle.yd_updates.proofs.PartnerLemmas.{partners_decide}
+use Rattle.yd_ops.specs.ReceivedLaw.{ArePaired}
+use Rattle.yd_ops.proofs.PartnerLemmas.{partners_decide}
 use Rattle.yd_state.specs.Lent.{lent, lent_units}
 use Rattle.yd_view.specs.declared.halves.Seen.{Seen}
 use Rattle.yd_view.specs.Halves.{is_unit_and, joins, joins_first, shown_seen, text_of_seen, text_unit_of, live_seen}

@@ -13,7 +13,7 @@ use Rattle.yd_ops.specs.Operation.{UnitContent, text_unit, json_unit, units_of_t
 use Rattle.yd_ops.specs.View.{unit_value, content_value}
 use Rattle.yd_ops.proofs.OperationLemmas.{length-units_of_content}
 use Rattle.yd_any.specs.AnyView.{any_trees}
-use Rattle.yd_updates.specs.Pairs.{is_high}
+use Rattle.yd_ops.specs.Pairs.{is_high}
 use Rattle.yd_state.specs.declared.listing.RunView.{RunView}
 use Rattle.yd_state.specs.Lent.{Lent, lent_from, units_of_view, IsWithin}
 use Rattle.yd_view.specs.declared.halves.Seen.{Seen}

@@ -3,7 +3,7 @@ use Rattle.std.specs.Prelude.{◌≡◌, ℕ, Bool, false, ◌&&◌, ◌||◌, n
 use Rattle.yd_ids.specs.declared.id.Id.{Id}
 use Rattle.yd_ids.specs.Ids.{is_same}
 use Rattle.yd_ops.specs.Operation.{UnitContent, text_unit, any_unit, json_unit, bytes, embedded, mark, nested_type, deleted_unit, gone_unit, later_id}
-use Rattle.yd_updates.specs.Pairs.{is_high, is_low}
+use Rattle.yd_ops.specs.Pairs.{is_high, is_low}
 use Rattle.yd_state.specs.Lent.{Lent}
 use Rattle.yd_view.specs.declared.halves.Seen.{Seen}
 use Rattle.yd_view.specs.declared.halves.Halves.{Halves}

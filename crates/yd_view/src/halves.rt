@@ -3,7 +3,7 @@
 ghost use Rattle.std.specs.Prelude.{◌≡◌, ◌∷◌, ◌++◌, [], false, List, IfOk, OnOk};
 ghost use Rattle.yd_ids.specs.Ids.{is_same};
 ghost use Rattle.yd_ops.specs.Operation.{later_id};
-ghost use Rattle.yd_updates.specs.Pairs.{is_high as is_high_unit, is_low as is_low_unit};
+ghost use Rattle.yd_ops.specs.Pairs.{is_high as is_high_unit, is_low as is_low_unit};
 ghost use Rattle.yd_view.specs.declared.halves.Seen.{Seen as SeenUnit};
 ghost use Rattle.yd_view.specs.Halves.{is_unit_and, joins as are_joined, joins_after, shown_last, shown_seen, text_left, text_of_seen, TakesIn, StepsBy};
 

@@ -7,7 +7,7 @@ use Rattle.yd_playing.specs.Stopped.{StopsAt}
 use Rattle.yd_causes.specs.declared.cause.LineCause.{LineCause}
 use Rattle.yd_ending.specs.Script.{refused_script_line}
 use Rattle.yd_script.specs.Lines.{Numbered, script_lines}
-use Rattle.yd_updates.specs.Received.{received_set}
+use Rattle.yd_ops.specs.Received.{received_set}
 use Rattle.yd_files.specs.Verdict.{Inputs}
 use Rattle.yd_app.specs.Commands.Merge.{MergedStandsAgain, merged_output}
 use Rattle.yd_asking.specs.declared.format.Format.TheVariants.{V1}

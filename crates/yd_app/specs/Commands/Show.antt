@@ -1,12 +1,12 @@
 -- What `show` writes of updates (own).
 use Rattle.std.specs.Prelude.{◌≡◌, ℕ, List, [], ◌∷◌, ◌++◌}
 use Rattle.yd_meaning.specs.Document.{Document}
-use Rattle.yd_growing.specs.Replica.{IsReplicaDocument}
+use Rattle.yd_meaning.specs.Replica.{IsReplicaDocument}
 use Rattle.yd_modes.specs.Modes.{mode_of}
 use Rattle.yd_modes.specs.declared.mode.Mode.{Mode}
 use Rattle.yd_ops.specs.declared.lists.Parent.TheVariants.{Root}
 use Rattle.yd_ops.specs.Value.{UpdateValue}
-use Rattle.yd_updates.specs.Received.{received_set}
+use Rattle.yd_ops.specs.Received.{received_set}
 use Rattle.yd_shown.specs.Shown.{printed_text, shown}
 
 -- what the root shows in a mode in a document, as it is printed, and a line feed

@@ -11,8 +11,8 @@ ghost use Rattle.yd_store.specs.Units.{AddsApart};
 use crate::fault::Unplaced;
 use crate::parts::reserve_parts;
 use crate::store::Store;
+use yd_arena::Mark;
 use yd_ids::{Id, Span};
-use yd_marks::Mark;
 use yd_ops::{NoMemory, Run};
 use yd_scan::Stretch;
 

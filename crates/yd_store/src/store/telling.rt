@@ -3,7 +3,7 @@
 ghost use Rattle.std.specs.Prelude.{◌≡◌, ◌<◌, ◌≤◌, ◌+◌, ◌∷◌, [], ℕ, length, slice_set, IfOk};
 ghost use Rattle.yd_scan.specs.Stretches.{stretch_at};
 ghost use Rattle.yd_arena.specs.Arena.{runs_of, next_clock};
-ghost use Rattle.yd_marks.specs.Marks.{IsBorder};
+ghost use Rattle.yd_arena.specs.Marks.{IsBorder};
 ghost use Rattle.yd_store.specs.Contents.{told_of, run_at};
 ghost use Rattle.yd_store.specs.Store.{spare_of, AreTold};
 ghost use Rattle.yd_store.specs.Lowering.{LowersSpan};

@@ -1,4 +1,4 @@
-use Rattle.yd_updates.proofs.RunLemmas.{run_written}
+use Rattle.yd_ops.proofs.RunLemmas.{run_written}
 use Rattle.yd_agreement.specs.Differing.{content_of, place_of}
 use Rattle.yd_agreement.proofs.ApartLemmas.{contents_apart, places_apart}
 use Rattle.yd_agreement.proofs.SweepLemmas.{next_first}

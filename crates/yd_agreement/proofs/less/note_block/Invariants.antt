@@ -1,7 +1,7 @@
 use Rattle.std.proofs.Common.{◌≡◌, ◌++◌, map, drop}
 use Rattle.yd_ops.specs.Valid.{AreStructsFrom}
 use Rattle.yd_ops.specs.View.{struct_value}
-use Rattle.yd_updates.specs.Deletes.{structs_spans}
+use Rattle.yd_ops.specs.Deletes.{structs_spans}
 use Rattle.yd_agreement.proofs.less.note_block.Given as goal
 
 -- the structs that are left begin at the clock, and with those of them all of the structs are noted

@@ -5,7 +5,7 @@ use Rattle.yd_meaning.specs.Document.{AreDeletedIn}
 use Rattle.yd_meaning.specs.Held.{count_of_ids, held_set}
 use Rattle.yd_meaning.proofs.VectorLemmas.{held_written}
 use Rattle.yd_entries.proofs.WrittenLemmas.{taken_written}
-use Rattle.yd_growing.proofs.ReplicaLemmas.{deleted_are_held}
+use Rattle.yd_meaning.proofs.ReplicaLemmas.{deleted_are_held}
 use Rattle.yd_state.specs.State.{received_in, document_in}
 use Rattle.yd_state.proofs.LentLemmas.{document_replica}
 use Rattle.yd_checking.proofs.SpanCountLemmas.{ids_pass}

@@ -1,5 +1,5 @@
 use Rattle.std.proofs.Common.{◌∙◌, ap, sym, ◌&&◌, arith, get_or, ◌+◌}
-use Rattle.yd_updates.specs.Pairs.{is_low}
+use Rattle.yd_ops.specs.Pairs.{is_low}
 use Rattle.yd_copying.proofs.MendingLemmas.{no_pair, pair_at}
 use Rattle.yd_copying.proofs.mending.is_pair_at.Goals as goal
 

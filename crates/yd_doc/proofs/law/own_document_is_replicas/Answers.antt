@@ -1,5 +1,5 @@
 use Rattle.std.proofs.Common.{subst}
-use Rattle.yd_growing.specs.Replica.{IsReplicaDocument}
+use Rattle.yd_meaning.specs.Replica.{IsReplicaDocument}
 use Rattle.yd_doc.specs.Kept.{received_of, own_document}
 use Rattle.yd_state.proofs.LentLemmas.{document_replica}
 use Rattle.yd_doc.proofs.law.own_document_is_replicas.Goals as goal

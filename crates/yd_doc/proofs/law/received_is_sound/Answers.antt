@@ -1,5 +1,5 @@
 use Rattle.std.proofs.Common.{subst}
-use Rattle.yd_updates.specs.Law.{IsReceived}
+use Rattle.yd_ops.specs.ReceivedLaw.{IsReceived}
 use Rattle.yd_doc.specs.Kept.{Kept, received_of}
 use Rattle.yd_doc.proofs.law.received_is_sound.Goals as goal
 

@@ -1,6 +1,6 @@
 use Rattle.std.proofs.Common.{subst}
 use Rattle.yd_ids.specs.Vector.{clock_of}
-use Rattle.yd_updates.specs.Law.{IsReceived}
+use Rattle.yd_ops.specs.ReceivedLaw.{IsReceived}
 use Rattle.yd_grouping.specs.Groupable.{AreGroupable}
 use Rattle.yd_grouping.proofs.ReplyLemmas.{reply_completes}
 use Rattle.yd_doc.specs.Kept.{own_deletes, received_of}

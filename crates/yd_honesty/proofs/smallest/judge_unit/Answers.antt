@@ -1,5 +1,5 @@
 use Rattle.std.proofs.Common.{Some, inl, inr, sym, ap, ◌∙◌, true≢false}
-use Rattle.yd_updates.proofs.OneOfLemmas.{operation_with}
+use Rattle.yd_ops.proofs.OneOfLemmas.{operation_with}
 use Rattle.yd_honesty.proofs.BestLemmas.{best_same, best_more}
 use Rattle.yd_honesty.proofs.JudgeLemmas.{id_is_listed}
 use Rattle.yd_honesty.proofs.smallest.judge_unit.Goals as goal

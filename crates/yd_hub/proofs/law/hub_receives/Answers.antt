@@ -1,5 +1,5 @@
 use Rattle.std.proofs.Common.{ap, sym, ◌∙◌}
-use Rattle.yd_updates.specs.Received.{nothing_received, received_more}
+use Rattle.yd_ops.specs.Received.{nothing_received, received_more}
 use Rattle.yd_hub.specs.Hub.{updates_taken}
 use Rattle.yd_hub.proofs.HubLemmas.{events_bring, more_appended}
 use Rattle.yd_hub.proofs.law.hub_receives.Goals as goal

@@ -1,7 +1,7 @@
 -- What comes is no update.
 use Rattle.std.proofs.Common.{◌≡◌, ◌≢◌, Result, Ok, Err, [], inl, inr, refl, ap, ◌∙◌}
 use Rattle.yd_ops.specs.Value.{UpdateValue}
-use Rattle.yd_updates.specs.Received.{received_more}
+use Rattle.yd_ops.specs.Received.{received_more}
 use Rattle.yd_world.specs.declared.event.What.TheVariants.{Received as Heard}
 use Rattle.yd_sync.specs.Message.{MessageValue, step1, step2, change, aware, auth, query}
 use Rattle.yd_sync.specs.declared.fault.MessageFault.{MessageFault}

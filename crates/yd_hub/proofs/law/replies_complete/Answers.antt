@@ -1,7 +1,7 @@
 -- The peer has received more, and then the reply.
 use Rattle.std.proofs.Common.{subst, sym, ap, ◌∙◌}
 use Rattle.yd_ids.specs.Vector.{clock_of}
-use Rattle.yd_updates.specs.Received.{received_after, received_more}
+use Rattle.yd_ops.specs.Received.{received_after, received_more}
 use Rattle.yd_meaning.specs.Law.{IsCompleted}
 use Rattle.yd_hub.specs.Hub.{updates_of_reading}
 use Rattle.yd_hub.specs.Peer.{received, peer_after_all, peer_updates}

@@ -2,7 +2,7 @@ use Rattle.std.proofs.Common.{◌≡◌, ◌∙◌, ◌<◌, ◌++◌, List, [],
 use Rattle.yd_ids.specs.declared.id.Id.{Id}
 use Rattle.yd_arena.specs.Arena.{count_of}
 use Rattle.yd_store.specs.Store.{Stored}
-use Rattle.yd_lending.specs.Lending.{Lent, lent_in, units_of_run, HasNoGone}
+use Rattle.yd_listing.specs.Lending.{Lent, lent_in, units_of_run, HasNoGone}
 use Rattle.yd_listing.proofs.ListingLemmas.{last_named, none_last, no_last, last_ranged}
 use Rattle.yd_listing.proofs.last.last_of.Goals as goal
 

@@ -2,7 +2,7 @@ use Rattle.std.proofs.Common.{◌<◌, ◌∙◌, sym, ap, subst}
 use Rattle.yd_words.specs.Each.{Each}
 use Rattle.yd_arena.specs.Arena.{count_of}
 use Rattle.yd_store.specs.Store.{Stored}
-use Rattle.yd_lending.specs.Lending.{lent_in, HasNoGone}
+use Rattle.yd_listing.specs.Lending.{lent_in, HasNoGone}
 use Rattle.yd_listing.specs.Listing.{HasRoom}
 use Rattle.yd_listing.proofs.ListingLemmas.{named_lent, list_ranged}
 use Rattle.yd_listing.proofs.listing.list_at.Goals as goal

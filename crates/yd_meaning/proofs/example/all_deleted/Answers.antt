@@ -6,8 +6,8 @@ use Rattle.yd_ops.specs.Operation.{Operation}
 use Rattle.yd_ops.specs.Value.{string, deleted}
 use Rattle.yd_origins.specs.Before.{is_before}
 use Rattle.yd_origins.specs.Operations.{table_of_all}
-use Rattle.yd_updates.specs.Received.{received_set}
-use Rattle.yd_updates.proofs.OneOfLemmas.{operation_with}
+use Rattle.yd_ops.specs.Received.{received_set}
+use Rattle.yd_ops.proofs.OneOfLemmas.{operation_with}
 use Rattle.yd_meaning.specs.Held.{needs, held_set, standing}
 use Rattle.yd_meaning.specs.Order.{operation_set, IsPast, of_need, of_past, MeetsRules, AreHonest}
 use Rattle.yd_meaning.specs.Example.{in_root}

@@ -3,7 +3,7 @@ use Rattle.yd_words.specs.Member.{IsIn}
 use Rattle.yd_ids.specs.declared.id.Id.{Id}
 use Rattle.yd_ops.specs.Value.{string}
 use Rattle.yd_ops.specs.Operation.{text_unit, Operation}
-use Rattle.yd_updates.specs.Received.{received_set}
+use Rattle.yd_ops.specs.Received.{received_set}
 use Rattle.yd_meaning.specs.Held.{needs, held_set}
 use Rattle.yd_meaning.specs.Order.{IsPast, of_need, of_past, MeetsRules, AreHonest}
 use Rattle.yd_meaning.specs.Example.{first_id, in_root, origin_put, follower_put}

@@ -8,7 +8,7 @@ use Rattle.yd_meaning.specs.Held.{held_set}
 use Rattle.yd_meaning.specs.Order.{AreHonest}
 use Rattle.yd_meaning.specs.Example.{first_id, in_array}
 use Rattle.yd_meaning.specs.Collected.{span_of, list_gone, array_made, five_gone}
-use Rattle.yd_updates.proofs.AgreementLemmas.{received_written}
+use Rattle.yd_ops.proofs.AgreementLemmas.{received_written}
 use Rattle.yd_meaning.proofs.VectorLemmas.{held_written}
 use Rattle.yd_meaning.proofs.ExampleLemmas.{lone_honest, first_is_id, first_valid, gone_valid}
 use Rattle.yd_meaning.proofs.example.list_gone.Goals as goal

@@ -1,6 +1,6 @@
 use Rattle.std.proofs.Common.{map, ◌∙◌}
 use Rattle.yd_ops.specs.View.{update_value}
-use Rattle.yd_updates.specs.Received.{received_set}
+use Rattle.yd_ops.specs.Received.{received_set}
 use Rattle.yd_entries.specs.Entries.{operations_in}
 use Rattle.yd_merge.proofs.MergingLemmas.{received_is}
 use Rattle.yd_merge.proofs.merging.merge_taken.Goals as goal

@@ -1,6 +1,6 @@
 use Rattle.std.proofs.Common.{◌≡◌, map, drop}
 use Rattle.yd_ops.specs.View.{update_value}
-use Rattle.yd_updates.specs.Received.{received_set}
+use Rattle.yd_ops.specs.Received.{received_set}
 use Rattle.yd_received.specs.Received.{taken_of}
 use Rattle.yd_merge.proofs.MergingLemmas.{with_updates}
 use Rattle.yd_merge.proofs.merging.received_of.Given as goal

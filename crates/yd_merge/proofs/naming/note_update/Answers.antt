@@ -2,7 +2,7 @@ use Rattle.std.proofs.Common.{length, get_or, map, refl, ap, ◌∙◌, arith}
 use Rattle.yd_ops.specs.Valid.{IsValidBlock}
 use Rattle.yd_ops.specs.View.{block_value, struct_value}
 use Rattle.yd_ops.proofs.EachLemmas.{each_read}
-use Rattle.yd_updates.specs.Deletes.{blocks_spans, structs_spans}
+use Rattle.yd_ops.specs.Deletes.{blocks_spans, structs_spans}
 use Rattle.yd_merge.proofs.NamedLemmas.{note_next}
 use Rattle.yd_merge.proofs.naming.note_update.Goals as goal
 

@@ -1,6 +1,6 @@
 use Rattle.std.proofs.Common.{◌≡◌, ◌++◌, map, drop}
 use Rattle.yd_ops.specs.View.{block_value}
-use Rattle.yd_updates.specs.Deletes.{blocks_spans}
+use Rattle.yd_ops.specs.Deletes.{blocks_spans}
 use Rattle.yd_merge.proofs.naming.note_update.Given as goal
 
 -- with those of the blocks that are left, all of the blocks are noted

@@ -2,7 +2,7 @@ use Rattle.std.proofs.Common.{◌≡◌, ◌+◌, ◌-◌, length, ap, subst, sy
 use Rattle.yd_state.specs.Lent.{units_left, units_of_view}
 use Rattle.yd_doc.specs.Counted.{counted_ids, ids_from}
 use Rattle.yd_doc.specs.Kept.{own_document}
-use Rattle.yd_doc.proofs.CountedLemmas.{fewer_left}
+use Rattle.yd_doc.proofs.CountedLemmas.{fewer_left, length-counted}
 use Rattle.yd_places.specs.Lent.{front_of, lent_to}
 use Rattle.yd_places.proofs.CountLemmas.{count_is, count_within, in_piece, past_piece}
 use Rattle.yd_places.proofs.counting.count_to.Goals as goal
@@ -15,7 +15,9 @@ overflow_add-result c = omega (
       (c.has_id.ensures.0 c.if-has_id.true) (subst (λ n. counted_ids (units_of_view (front_of c.in-Some.piece ((c.args.id.clock - c.in-Some.piece.id.clock) + n))) ≡ ids_from c.in-Some.piece.id c.front_len.result)
       c.one_if.ensures c.front_len.ensures.ids),
   count_within c.args.with_it c.args.id (units_left c.list-view.result),
-  c.len-units.ensures,
+  ap (λ us. length (counted_ids us)) c.list-view.ensures.units,
+  length-counted (own_document c.args.replica.now) c.args.list.now,
+  c.length-units.ensures,
 )
 
 pub returns-then-has_id : goal.returns-then-has_id
@@ -36,7 +38,9 @@ overflow_add-count c = omega (
   past_piece c.in-Some.piece c.in-Some.ensures.within c.args.with_it c.args.id (units_left c.loop-piece.view) (units_left c.next.new.self) c.counted_len-count.result c.in-Some.ensures.lends
       c.counted_len-count.ensures.ids (λ inside. true≢false (sym (c.has_id.ensures.1 inside) ∙ c.if-has_id.false)),
   count_within c.args.with_it c.args.id (units_left c.list-view.result),
-  c.len-units.ensures,
+  ap (λ us. length (counted_ids us)) c.list-view.ensures.units,
+  length-counted (own_document c.args.replica.now) c.args.list.now,
+  c.length-units.ensures,
 )
 
 pub loop-piece-smaller : goal.loop-piece-smaller

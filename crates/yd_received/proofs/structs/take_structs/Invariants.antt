@@ -1,7 +1,7 @@
 use Rattle.std.proofs.Common.{◌≡◌, ◌+◌, length, map, take}
 use Rattle.yd_ops.specs.Operation.{operations_of_structs}
 use Rattle.yd_ops.specs.View.{struct_value}
-use Rattle.yd_updates.specs.Received.{groups_of_structs}
+use Rattle.yd_ops.specs.Received.{groups_of_structs}
 use Rattle.yd_entries.specs.Lowering.{IsBacked}
 use Rattle.yd_received.proofs.SequenceLemmas.{IsTakenIn, clocks_of_all}
 use Rattle.yd_received.proofs.structs.take_structs.Given as goal

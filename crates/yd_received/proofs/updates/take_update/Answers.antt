@@ -1,6 +1,6 @@
 use Rattle.std.proofs.Common.{arith}
 use Rattle.yd_ops.specs.View.{update_value}
-use Rattle.yd_updates.specs.Received.{groups_of}
+use Rattle.yd_ops.specs.Received.{groups_of}
 use Rattle.yd_received.proofs.EndLemmas.{end_takes, end_brings, end_brought, end_back}
 use Rattle.yd_received.proofs.updates.take_update.Goals as goal
 

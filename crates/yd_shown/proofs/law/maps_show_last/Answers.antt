@@ -4,10 +4,10 @@ use Rattle.yd_any.specs.Tree.{AnyTree}
 use Rattle.yd_any.specs.Keys.{first_at}
 use Rattle.yd_ops.specs.declared.lists.Parent.{Parent}
 use Rattle.yd_ops.specs.Operation.{Operation}
-use Rattle.yd_updates.specs.Received.{Received}
+use Rattle.yd_ops.specs.Received.{Received}
 use Rattle.yd_meaning.specs.Held.{held_set, standing}
 use Rattle.yd_meaning.specs.Document.{Document}
-use Rattle.yd_growing.specs.Replica.{IsReplicaDocument}
+use Rattle.yd_meaning.specs.Replica.{IsReplicaDocument}
 use Rattle.yd_shown.specs.Shown.{key_list, last_unit, value_under, fields_under, map_fields}
 use Rattle.yd_shown.specs.Law.{is_among, FieldsAscend}
 use Rattle.yd_shown.proofs.KeyLemmas.{has_key_there}

@@ -1,9 +1,9 @@
 use Rattle.std.proofs.Common.{◌≡◌, ap, sym, subst}
-use Rattle.yd_updates.specs.Received.{Received}
-use Rattle.yd_updates.proofs.AgreementLemmas.{received_one, received_merged}
+use Rattle.yd_ops.specs.Received.{Received}
+use Rattle.yd_ops.proofs.AgreementLemmas.{received_one, received_merged}
 use Rattle.yd_meaning.specs.Document.{Document}
-use Rattle.yd_growing.specs.Replica.{IsReplicaDocument}
-use Rattle.yd_growing.proofs.ReplicaLemmas.{documents_are_one}
+use Rattle.yd_meaning.specs.Replica.{IsReplicaDocument}
+use Rattle.yd_meaning.proofs.ReplicaLemmas.{documents_are_one}
 use Rattle.yd_shown.specs.Law.{ViewsAreAlike}
 use Rattle.yd_shown.specs.Shown.{shown}
 use Rattle.yd_shown.proofs.law.views_converge.Goals as goal

@@ -2,7 +2,7 @@ use Rattle.std.proofs.Common.{◌≡◌, map, drop}
 use Rattle.yd_ids.specs.Set.{union_of}
 use Rattle.yd_ops.specs.Valid.{AreStructsFrom}
 use Rattle.yd_ops.specs.View.{struct_value}
-use Rattle.yd_updates.specs.Deletes.{structs_spans}
+use Rattle.yd_ops.specs.Deletes.{structs_spans}
 use Rattle.yd_state.proofs.naming.add_block.Given as goal
 
 -- the structs that are left begin at the clock, and adding what they spell gives all of it

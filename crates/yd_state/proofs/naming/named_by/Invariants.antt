@@ -1,7 +1,7 @@
 use Rattle.std.proofs.Common.{◌≡◌, map, drop}
 use Rattle.yd_ids.specs.Set.{union_of}
 use Rattle.yd_ops.specs.View.{block_value, update_value}
-use Rattle.yd_updates.specs.Deletes.{blocks_spans, deletes_of}
+use Rattle.yd_ops.specs.Deletes.{blocks_spans, deletes_of}
 use Rattle.yd_state.proofs.naming.named_by.Given as goal
 
 -- adding what the blocks that are left spell gives all of it

@@ -1,7 +1,6 @@
 use Rattle.std.proofs.Common.{sym, ◌∙◌, arith, true≢false}
 use Rattle.yd_state.specs.Novelty.{IsKnown, id_behind}
-use Rattle.yd_state.proofs.NamedLemmas.{span_next}
-use Rattle.yd_state.proofs.NoveltyLemmas.{each_next, behind_is}
+use Rattle.yd_state.proofs.NoveltyLemmas.{each_next, behind_is, span_next}
 use Rattle.yd_state.proofs.novelty.are_ends_known.Goals as goal
 
 pub overflow_add-id : goal.overflow_add-id

@@ -1,7 +1,6 @@
 use Rattle.std.proofs.Common.{sym, ◌∙◌, true≢false}
 use Rattle.yd_state.specs.Novelty.{IsKnown, first_of}
-use Rattle.yd_state.proofs.NamedLemmas.{span_next}
-use Rattle.yd_state.proofs.NoveltyLemmas.{each_next, first_is}
+use Rattle.yd_state.proofs.NoveltyLemmas.{each_next, first_is, span_next}
 use Rattle.yd_state.proofs.novelty.are_firsts_known.Goals as goal
 
 pub is_known-requires : goal.is_known-requires

@@ -1,7 +1,7 @@
 use Rattle.std.proofs.Common.{◌∙◌, [], ◌∷◌, ◌++◌, map, ap}
 use Rattle.yd_doc.specs.Kept.{own_document, received_of}
 use Rattle.yd_ops.specs.View.{update_value}
-use Rattle.yd_updates.specs.Received.{received_set}
+use Rattle.yd_ops.specs.Received.{received_set}
 use Rattle.yd_files.specs.Seen.{inputs_of}
 use Rattle.yd_app.proofs.MakingLemmas.{made_of_document}
 use Rattle.yd_app.proofs.commands.show.show.Goals as goal

@@ -2,19 +2,13 @@ use Rattle.std.proofs.Common.{subst}
 use Rattle.std.specs.Prelude.{◌↔◌, IfOk, IsTrue}
 use Rattle.yd_ops.specs.View.{update_value}
 use Rattle.yd_state.specs.State.{StateValue, received_in}
-use Rattle.yd_state.specs.Brings.{BringsSomething, BringsUnknown}
+use Rattle.yd_state.specs.Brings.{BringsUnknown}
 use Rattle.yd_doc.specs.Kept.{Kept, received_of, own_deletes}
 use Rattle.yd_doc.proofs.replica.Replica.apply.Goals as goal
 
 pub returns-clause-brings : goal.returns-clause-brings
 returns-clause-brings c =
     let update = update_value c.args.update.now in
-    subst (λ r. IsTrue c.in_ok-brings.brings ↔ BringsSomething update (received_of r)) c.self.view_is
-    (subst (λ r. IfOk r (λ brings. IsTrue brings ↔ BringsSomething update (received_in c.self.inside.state))) c.in_ok-brings.was c.take-applied.ensures.brings)
-
-pub returns-clause-unknown : goal.returns-clause-unknown
-returns-clause-unknown c =
-    let update = update_value c.args.update.now in
     let state : StateValue = c.self.inside.state in
     subst (λ (r : Kept). IsTrue c.in_ok-brings.brings ↔ BringsUnknown update (received_of r) (own_deletes r)) c.self.view_is
-    (subst (λ r. IfOk r (λ brings. IsTrue brings ↔ BringsUnknown update (received_in state) state.deletes)) c.in_ok-brings.was c.take-applied.ensures.unknown)
+    (subst (λ r. IfOk r (λ brings. IsTrue brings ↔ BringsUnknown update (received_in state) state.deletes)) c.in_ok-brings.was c.take-applied.ensures.brings)

@@ -9,12 +9,12 @@ use Rattle.yd_machines.proofs.hub.Hub.pass_on.Goals as goal
 pub returns-then-not-brings-clause-orders : goal.returns-then-not-brings-clause-orders
 returns-then-not-brings-clause-orders c = λ vector.
     no_news_orders (replica_of_hub c.args.self.now) (hub_state c.args.self.now) c.args.session.0 (update_value c.args.update) c.in_ok-brings.brings
-    c.in_ok-brings.ensures.unknown c.if-not-brings.true vector ∙ sym (c.reserve.ensures.unchanged ∙ c.none-actions.ensures.empty)
+    c.in_ok-brings.ensures.brings c.if-not-brings.true vector ∙ sym (c.reserve.ensures.unchanged ∙ c.none-actions.ensures.empty)
 
 pub returns-clause-orders : goal.returns-clause-orders
 returns-clause-orders c = λ vector.
     news_orders (replica_of_hub c.args.self.now) (hub_state c.args.self.now) c.args.session.0 (update_value c.args.update) c.in_ok-brings.brings
-    c.in_ok-brings.ensures.unknown c.if-not-brings.false vector
+    c.in_ok-brings.ensures.brings c.if-not-brings.false vector
     ∙ sym (c.push_reserved.ensures.pushed
     ∙ ap (λ (l : List ActionValue). l ++ to_each (change (update_value c.args.update)) c.in_ok-others.others) (c.reserve.ensures.unchanged ∙ c.none-actions.ensures.empty)
     ∙ ap (λ to. to_each (change (update_value c.args.update)) to) c.in_ok-others.ensures)

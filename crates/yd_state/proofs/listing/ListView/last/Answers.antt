@@ -1,12 +1,10 @@
-use Rattle.std.proofs.Common.{◌≡◌, ◌-◌, ◌++◌, List, length, subst, arith, length-drop}
-use Rattle.std.proofs.lemmas.List.{take_rest}
-use Rattle.yd_state.specs.Lent.{Lent, units_left, units_of_view}
-use Rattle.yd_state.proofs.LastViewLemmas.{last_lent}
+use Rattle.std.proofs.Common.{subst}
+use Rattle.yd_listing.specs.Lending.{units_of_run}
+use Rattle.yd_listing.specs.Listing.{EndIn, units_to_come}
+use Rattle.yd_state.specs.Lent.{units_left, units_of_view}
+use Rattle.yd_state.proofs.ViewLemmas.{end_both}
 use Rattle.yd_state.proofs.listing.ListView.last.Goals as goal
 
 pub returns-clause-last : goal.returns-clause-last
-returns-clause-last c =
-    let order = c.self.inside.order.now in
-    subst (λ v. (front : List Lent) × (units_left v ≡ front ++ units_of_view c.view_at.result)) c.self.view_is
-    (last_lent c.self.inside.received.now.runs c.self.inside.received.now.entries c.self.inside.deletes.now order (length order - 1) c.view_at.result.len (units_of_view c.view_at.result)
-    (omega (arith, c.view_at.ensures.some, length-drop (length order - 1) order)) (rw take_rest at c.view_at.ensures.lends))
+returns-clause-last c = subst (λ walk. EndIn (units_left walk) (units_of_view c.end_of.result)) c.self.view_is
+    (end_both (units_to_come c.self.inside.units) (units_of_run c.in_ok-run.run') (units_of_view c.end_of.result) c.in_ok-run.ensures.last c.end_of.ensures.last)

@@ -1,30 +1,52 @@
-use Rattle.std.proofs.Common.{◌≡◌, ◌||◌, sym, ap, ap₂, ◌∙◌, subst}
+use Rattle.std.proofs.Common.{◌≡◌, ◌||◌, ap, sym, refl, ◌∙◌, subst}
 use Rattle.std.specs.Prelude.{◌↔◌, ◌⊎◌, IsTrue}
 use Rattle.yd_ids.specs.declared.id.Id.{Id}
 use Rattle.yd_ids.specs.Set.{HasId}
 use Rattle.yd_ops.specs.View.{update_value}
-use Rattle.yd_state.specs.Ordered.{order_lists}
-use Rattle.yd_state.specs.State.{StateValue, received_in}
-use Rattle.yd_state.specs.Brings.{BringsSomething, BringsUnknown}
-use Rattle.yd_state.specs.Stretches.{AreSettled}
-use Rattle.yd_ids.specs.Set.{union_of}
-use Rattle.yd_received.specs.Received.{taken_of}
-use Rattle.yd_state.proofs.BringsLemmas.{unknown_either, brings_either}
-use Rattle.yd_state.proofs.SoundLemmas.{still_received}
-use Rattle.yd_state.proofs.SettledLemmas.{settled_after}
+use Rattle.yd_state.specs.Brings.{BringsUnknown}
+use Rattle.yd_held.specs.Held.{HeldValue}
+use Rattle.yd_state.specs.Grown.{seen_of, IsWhole}
+use Rattle.yd_state.specs.State.{received_in, IsSound}
+use Rattle.yd_state.specs.Settling.{CanSettle, Settles}
+use Rattle.yd_state.proofs.BringsLemmas.{either_tells}
+use Rattle.yd_state.proofs.DocumentLemmas.{seen_sound}
+use Rattle.yd_state.proofs.TakeLemmas.{can_settle, sound_then, still_sound, still_seen}
 use Rattle.yd_state.proofs.state.State.take.Goals.{then-taken, else-taken}
 use Rattle.yd_state.proofs.state.State.take.Goals as goal
 
-pub settle-requires-clause-settled : goal.settle-requires-clause-settled
-settle-requires-clause-settled c =
-    let held = c.take.new.self in
-    let orders = order_lists c.self.inside.orders.items in
-    subst (λ stale. AreSettled stale held.names orders held.received.entries) (sym c.deref.ensures.value)
-    (settled_after c.self.inside.held held orders c.in_ok-taken.taken.stale.items c.in_ok-taken.taken.anew
-    c.self.invariant.holds c.self.invariant.ordered c.in_ok-taken.ensures.told)
+pub settle-requires : goal.settle-requires
+settle-requires c = subst (λ order. CanSettle c.in_ok-taken.taken.anew c.take.new.self order c.self.inside.kept) (sym c.deref.ensures.value)
+    (can_settle c.in_ok-taken.taken.anew c.self.inside.held c.take.new.self c.self.invariant.holds c.in_ok-taken.ensures.holds
+    c.in_ok-taken.taken.order.items c.in_ok-taken.ensures.order c.self.inside.kept c.self.invariant.keeps)
 
-pub returns-after-taken-clause-brings : goal.returns-after-taken-clause-brings
-returns-after-taken-clause-brings c =
+pub invariant_of-self-in-Ok : goal.invariant_of-self-in-Ok
+invariant_of-self-in-Ok c = sound_then
+    (record { held = c.self.inside.held; named = c.self.inside.sets.named; waiting = c.self.inside.sets.waiting; kept = c.self.inside.kept; deletes = c.self.inside.sets.deletes })
+    c.self.invariant (update_value c.args.update.now) c.requires c.take.new.self c.in_ok-taken.ensures.holds c.in_ok-taken.ensures.received
+    c.in_ok-more.more c.put.new.set c.in_ok-more.ensures (c.put.ensures ∙ c.in_ok-named.ensures)
+    c.in_ok-taken.taken.anew c.in_ok-taken.taken.order.items c.in_ok-taken.ensures.order c.self.inside.sets refl refl refl
+    c.settle.new.kept c.in-Ok.field-0.waiting c.put-in-Ok.new.set
+    (subst (Settles c.in_ok-taken.taken.anew c.take.new.self c.self.inside.sets c.in_ok-more.more c.self.inside.kept c.settle.new.kept c.in-Ok.field-0.waiting) (sym c.put-in-Ok.ensures)
+    c.in-Ok.ensures.settled)
+
+pub returns-in-Ok-clause-sound : goal.returns-in-Ok-clause-sound
+returns-in-Ok-clause-sound c = seen_sound (record {
+  held = c.take.new.self;
+  named = c.put.new.set;
+  waiting = c.in-Ok.field-0.waiting;
+  kept = c.settle.new.kept;
+  deletes = c.put-in-Ok.new.set;
+}) (sound_then
+    (record { held = c.self.inside.held; named = c.self.inside.sets.named; waiting = c.self.inside.sets.waiting; kept = c.self.inside.kept; deletes = c.self.inside.sets.deletes })
+    c.self.invariant (update_value c.args.update.now) c.requires c.take.new.self c.in_ok-taken.ensures.holds c.in_ok-taken.ensures.received
+    c.in_ok-more.more c.put.new.set c.in_ok-more.ensures (c.put.ensures ∙ c.in_ok-named.ensures)
+    c.in_ok-taken.taken.anew c.in_ok-taken.taken.order.items c.in_ok-taken.ensures.order c.self.inside.sets refl refl refl
+    c.settle.new.kept c.in-Ok.field-0.waiting c.put-in-Ok.new.set
+    (subst (Settles c.in_ok-taken.taken.anew c.take.new.self c.self.inside.sets c.in_ok-more.more c.self.inside.kept c.settle.new.kept c.in-Ok.field-0.waiting) (sym c.put-in-Ok.ensures)
+    c.in-Ok.ensures.settled))
+
+pub returns-in-Ok-clause-brings : goal.returns-in-Ok-clause-brings
+returns-in-Ok-clause-brings c =
     let update = update_value c.args.update.now in
     let one = c.in_ok-taken.taken.brings in
     let more = c.brings_deletion-deletes.result in
@@ -32,50 +54,69 @@ returns-after-taken-clause-brings c =
       | then-taken w ↦ w.result-is ∙ w.if-taken.true ∙ sym (ap (λ b. b || more) w.if-taken.true)
       | else-taken w ↦ w.result-is ∙ sym (ap (λ b. b || more) w.if-taken.false)
     ] in
-    let state : StateValue =
-    record { held = c.self.inside.held; named = c.self.inside.named; orders = order_lists c.self.inside.orders.items; deletes = c.self.inside.deletes } in
-    subst (λ result. IsTrue result ↔ BringsSomething update (received_in c.args.self.now)) (sym either)
-    (subst (λ s. IsTrue (one || more) ↔ BringsSomething update (received_in s)) c.self.view_is
-    (brings_either update state c.self.invariant (one || more)
-    (unknown_either update state one more c.in_ok-taken.ensures.brings
-    (subst (λ named. IsTrue more ↔ (((x : Id) → HasId named x → HasId c.self.inside.named x ⊎ HasId c.self.inside.deletes x) → ⊥)) c.in_ok-more.ensures
-    c.brings_deletion-deletes.ensures))))
-
-pub returns-after-taken-clause-unknown : goal.returns-after-taken-clause-unknown
-returns-after-taken-clause-unknown c =
-    let update = update_value c.args.update.now in
-    let one = c.in_ok-taken.taken.brings in
-    let more = c.brings_deletion-deletes.result in
-    let either : c.if-taken.result ≡ one || more = elim c.if-taken.branch [
-      | then-taken w ↦ w.result-is ∙ w.if-taken.true ∙ sym (ap (λ b. b || more) w.if-taken.true)
-      | else-taken w ↦ w.result-is ∙ sym (ap (λ b. b || more) w.if-taken.false)
-    ] in
-    let state : StateValue =
-    record { held = c.self.inside.held; named = c.self.inside.named; orders = order_lists c.self.inside.orders.items; deletes = c.self.inside.deletes } in
     subst (λ result. IsTrue result ↔ BringsUnknown update (received_in c.args.self.now) c.args.self.now.deletes) (sym either)
-    (subst (λ (s : StateValue). IsTrue (one || more) ↔ BringsUnknown update (received_in s) s.deletes) c.self.view_is
-    (unknown_either update state one more c.in_ok-taken.ensures.brings
-    (subst (λ named. IsTrue more ↔ (((x : Id) → HasId named x → HasId c.self.inside.named x ⊎ HasId c.self.inside.deletes x) → ⊥)) c.in_ok-more.ensures
+    (subst (λ s. IsTrue (one || more) ↔ BringsUnknown update (received_in s) s.deletes) c.self.view_is
+    (either_tells one more c.in_ok-taken.ensures.brings
+    (subst (λ named. IsTrue more ↔ (((x : Id) → HasId named x → HasId c.self.inside.sets.named x ⊎ HasId c.self.inside.sets.deletes x) → ⊥)) c.in_ok-more.ensures
     c.brings_deletion-deletes.ensures)))
 
-pub invariant_of-self-in-Ok-1 : goal.invariant_of-self-in-Ok-1
-invariant_of-self-in-Ok-1 c = record {
-  received = still_received (record { operations = taken_of c.self.inside.held.received; deletes = c.self.inside.named }) (update_value c.args.update.now)
-      (taken_of c.take.new.self.received) c.union.new.self c.self.invariant.received c.requires c.in_ok-taken.ensures.received
-      (c.in_ok-union.ensures.exact ∙ ap₂ union_of c.in_ok-named.ensures c.in_ok-more.ensures);
-  holds = c.in_ok-taken.ensures.holds;
-  named = c.in_ok-union.ensures.maximal;
-  ordered = c.in-Ok.ensures.ordered;
-  deletes = c.in-Ok.ensures.deletes;
-}
+pub invariant_of-self-in-Err : goal.invariant_of-self-in-Err
+invariant_of-self-in-Err c = subst (λ (h : HeldValue). IsWhole (record {
+  held = h;
+  named = c.self.inside.sets.named;
+  waiting = c.self.inside.sets.waiting;
+  kept = c.settle.new.kept;
+  deletes = c.self.inside.sets.deletes;
+})) (sym (c.put_back.ensures ∙ c.in_ok-taken.ensures.back))
+    (still_sound (record { held = c.self.inside.held; named = c.self.inside.sets.named; waiting = c.self.inside.sets.waiting; kept = c.self.inside.kept; deletes = c.self.inside.sets.deletes })
+    c.self.invariant c.settle.new.kept c.in-Err.ensures.unchanged (record { lists = c.store.ensures.lists; told = c.store.ensures.told }))
 
-pub returns-after-taken-clause-sound : goal.returns-after-taken-clause-sound
-returns-after-taken-clause-sound c = record {
-  received = still_received (record { operations = taken_of c.self.inside.held.received; deletes = c.self.inside.named }) (update_value c.args.update.now)
-      (taken_of c.take.new.self.received) c.union.new.self c.self.invariant.received c.requires c.in_ok-taken.ensures.received
-      (c.in_ok-union.ensures.exact ∙ ap₂ union_of c.in_ok-named.ensures c.in_ok-more.ensures);
-  holds = c.in_ok-taken.ensures.holds;
-  named = c.in_ok-union.ensures.maximal;
-  ordered = c.in-Ok.ensures.ordered;
-  deletes = c.in-Ok.ensures.deletes;
-}
+pub returns-clause-sound : goal.returns-clause-sound
+returns-clause-sound c = seen_sound (record {
+  held = c.put_back.new.self;
+  named = c.self.inside.sets.named;
+  waiting = c.self.inside.sets.waiting;
+  kept = c.settle.new.kept;
+  deletes = c.self.inside.sets.deletes;
+}) (subst (λ (h : HeldValue). IsWhole (record {
+  held = h;
+  named = c.self.inside.sets.named;
+  waiting = c.self.inside.sets.waiting;
+  kept = c.settle.new.kept;
+  deletes = c.self.inside.sets.deletes;
+})) (sym (c.put_back.ensures ∙ c.in_ok-taken.ensures.back))
+    (still_sound (record { held = c.self.inside.held; named = c.self.inside.sets.named; waiting = c.self.inside.sets.waiting; kept = c.self.inside.kept; deletes = c.self.inside.sets.deletes })
+    c.self.invariant c.settle.new.kept c.in-Err.ensures.unchanged (record { lists = c.store.ensures.lists; told = c.store.ensures.told })))
+
+pub returns-clause-unchanged : goal.returns-clause-unchanged
+returns-clause-unchanged c = ap (λ (h : HeldValue). seen_of (record {
+  held = h;
+  named = c.self.inside.sets.named;
+  waiting = c.self.inside.sets.waiting;
+  kept = c.settle.new.kept;
+  deletes = c.self.inside.sets.deletes;
+})) (c.put_back.ensures ∙ c.in_ok-taken.ensures.back)
+    ∙ still_seen (record { held = c.self.inside.held; named = c.self.inside.sets.named; waiting = c.self.inside.sets.waiting; kept = c.self.inside.kept; deletes = c.self.inside.sets.deletes })
+    c.self.invariant c.settle.new.kept c.in-Err.ensures.unchanged
+    ∙ c.self.view_is
+
+pub returns-in_err-more-clause-sound : goal.returns-in_err-more-clause-sound
+returns-in_err-more-clause-sound c = subst IsSound c.self.view_is (seen_sound _ c.self.invariant)
+
+pub returns-in_err-named-clause-sound : goal.returns-in_err-named-clause-sound
+returns-in_err-named-clause-sound c = subst IsSound c.self.view_is (seen_sound _ c.self.invariant)
+
+pub returns-in_err-taken-clause-sound : goal.returns-in_err-taken-clause-sound
+returns-in_err-taken-clause-sound c = seen_sound (record {
+  held = c.take.new.self;
+  named = c.self.inside.sets.named;
+  waiting = c.self.inside.sets.waiting;
+  kept = c.self.inside.kept;
+  deletes = c.self.inside.sets.deletes;
+}) (subst (λ (h : HeldValue). IsWhole (record {
+  held = h;
+  named = c.self.inside.sets.named;
+  waiting = c.self.inside.sets.waiting;
+  kept = c.self.inside.kept;
+  deletes = c.self.inside.sets.deletes;
+})) (sym c.in_err-taken.ensures.unchanged) c.self.invariant)

@@ -4,8 +4,8 @@ use Rattle.yd_scan.specs.declared.stretch.Stretch.{Stretch}
 use Rattle.yd_scan.specs.Stretches.{stretch_at}
 use Rattle.yd_arena.specs.Arena.{runs_of}
 use Rattle.yd_arena.specs.Lists.{Linked}
-use Rattle.yd_marks.specs.Marks.{IsBorder}
-use Rattle.yd_marks.proofs.BorderLemmas.{IsNext, next_run, ends_by, next_border}
+use Rattle.yd_arena.specs.Marks.{IsBorder}
+use Rattle.yd_arena.proofs.BorderLemmas.{IsNext, next_run, ends_by, next_border}
 use Rattle.yd_store.specs.Contents.{told, told_of}
 use Rattle.yd_store.specs.Lowering.{LowersClocks}
 use Rattle.yd_store.proofs.LoweringLemmas.{lowers_more}

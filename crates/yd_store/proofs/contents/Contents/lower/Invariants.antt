@@ -1,6 +1,6 @@
 use Rattle.std.proofs.Common.{◌≡◌, ◌+◌, ◌≤◌, length}
 use Rattle.yd_arena.specs.Arena.{runs_of}
-use Rattle.yd_marks.specs.Marks.{IsBorder}
+use Rattle.yd_arena.specs.Marks.{IsBorder}
 use Rattle.yd_store.specs.Contents.{told_of}
 use Rattle.yd_store.specs.Lowering.{LowersClocks}
 use Rattle.yd_store.proofs.contents.Contents.lower.Given as goal

@@ -1,6 +1,6 @@
 use Rattle.std.proofs.Common.{◌∙◌, ◌++◌, ◌∷◌, [], inr, ap, arith}
 use Rattle.yd_arena.specs.Arena.{runs_of}
-use Rattle.yd_marks.specs.Marks.{mark_at}
+use Rattle.yd_arena.specs.Marks.{mark_at}
 use Rattle.yd_store.proofs.StoreLemmas.{can_cut, store_cut}
 use Rattle.yd_store.proofs.KeepingLemmas.{cut_keeps}
 use Rattle.yd_store.proofs.store.Store.split.Goals as goal

@@ -1,7 +1,7 @@
 use Rattle.std.proofs.Common.{ap, arith, subst, sym}
 use Rattle.yd_arena.specs.Arena.{runs_of, next_clock}
-use Rattle.yd_marks.specs.Marks.{IsBorder}
-use Rattle.yd_marks.proofs.BorderLemmas.{next_border_of}
+use Rattle.yd_arena.specs.Marks.{IsBorder}
+use Rattle.yd_arena.proofs.BorderLemmas.{next_border_of}
 use Rattle.yd_store.proofs.TakenLemmas.{takes_marked, marked_dead}
 use Rattle.yd_store.proofs.store.Store.take_back.Goals as goal
 

@@ -1,6 +1,6 @@
 use Rattle.std.proofs.Common.{◌≡◌, ◌≤◌, ℕ}
 use Rattle.yd_arena.specs.Arena.{runs_of, next_clock}
-use Rattle.yd_marks.specs.Marks.{IsBorder}
+use Rattle.yd_arena.specs.Marks.{IsBorder}
 use Rattle.yd_store.specs.Store.{spare_of}
 use Rattle.yd_store.specs.Taking.{TakesBack, AreDead}
 use Rattle.yd_store.proofs.store.Store.take_dead.Given as goal

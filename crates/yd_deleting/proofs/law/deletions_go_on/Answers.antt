@@ -1,5 +1,0 @@
-use Rattle.yd_deleting.proofs.LawLemmas as lemmas
-use Rattle.yd_deleting.proofs.law.deletions_go_on.Goals as goal
-
-pub returns : goal.returns
-returns c = lemmas.deletions_go_on c.sound_stays.ensures

@@ -1,4 +1,0 @@
-pub mod Closing
-pub mod Falling
-pub mod Law
-pub mod Steps

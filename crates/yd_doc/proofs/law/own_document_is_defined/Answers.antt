@@ -1,8 +1,0 @@
-use Rattle.std.proofs.Common.{subst}
-use Rattle.yd_meaning.specs.Document.{IsDocumentOf}
-use Rattle.yd_doc.specs.Kept.{received_of, own_document}
-use Rattle.yd_state.proofs.LentLemmas.{document_defined}
-use Rattle.yd_doc.proofs.law.own_document_is_defined.Goals as goal
-
-pub returns : goal.returns
-returns c = subst (λ r. IsDocumentOf (own_document r) (received_of r)) c.replica.view_is (document_defined c.replica.inside.state c.replica.invariant.sound)

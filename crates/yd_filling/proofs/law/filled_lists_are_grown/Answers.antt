@@ -1,5 +1,0 @@
-use Rattle.yd_filling.proofs.TellingLemmas.{filled_lists_are_grown}
-use Rattle.yd_filling.proofs.law.filled_lists_are_grown.Goals as goal
-
-pub returns : goal.returns
-returns c = filled_lists_are_grown

@@ -1,5 +1,0 @@
-use Rattle.yd_filling.proofs.FillingLemmas.{filling_goes_on}
-use Rattle.yd_filling.proofs.law.filling_goes_on.Goals as goal
-
-pub returns : goal.returns
-returns c = filling_goes_on

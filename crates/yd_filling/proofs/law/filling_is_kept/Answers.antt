@@ -1,5 +1,0 @@
-use Rattle.yd_filling.proofs.FillingLemmas.{filling_is_kept}
-use Rattle.yd_filling.proofs.law.filling_is_kept.Goals as goal
-
-pub returns : goal.returns
-returns c = filling_is_kept

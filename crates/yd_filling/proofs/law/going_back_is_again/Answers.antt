@@ -1,5 +1,0 @@
-use Rattle.yd_filling.proofs.BackLemmas.{going_back_is_again}
-use Rattle.yd_filling.proofs.law.going_back_is_again.Goals as goal
-
-pub returns : goal.returns
-returns c = going_back_is_again

@@ -1,5 +1,0 @@
-use Rattle.yd_filling.proofs.TellingLemmas.{lists_tell_units}
-use Rattle.yd_filling.proofs.law.lists_tell_units.Goals as goal
-
-pub returns : goal.returns
-returns c = lists_tell_units

@@ -1,4 +1,0 @@
-pub mod Back
-pub mod Filling
-pub mod Placing
-pub mod Telling

@@ -1,6 +1,0 @@
-use Rattle.yd_meaning.proofs.HonestLemmas.{honest_set}
-use Rattle.yd_growing.proofs.HonestLemmas.{grown_is_order}
-use Rattle.yd_growing.proofs.law.grown_is_order.Goals as goal
-
-pub returns : goal.returns
-returns c = record { order = grown_is_order; honest = honest_set }

@@ -1,5 +1,0 @@
-use Rattle.yd_growing.proofs.HeldLemmas.{part_stays_held, received_stays_held}
-use Rattle.yd_growing.proofs.law.held_stays.Goals as goal
-
-pub returns : goal.returns
-returns c = record { parts = part_stays_held; received = received_stays_held }

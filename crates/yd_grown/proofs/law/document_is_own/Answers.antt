@@ -1,5 +1,0 @@
-use Rattle.yd_grown.proofs.LawLemmas.{document_is_own}
-use Rattle.yd_grown.proofs.law.document_is_own.Goals as goal
-
-pub returns : goal.returns
-returns c = document_is_own

@@ -1,9 +1,0 @@
-use Rattle.std.proofs.Common.{subst}
-use Rattle.yd_grown.specs.Settling.{CanSettle}
-use Rattle.yd_grown.proofs.settling.settle.Goals as goal
-
-pub settle_anew-requires : goal.settle_anew-requires
-settle_anew-requires c = subst (λ b. CanSettle b c.args.held.now c.args.order.now c.args.kept.now) c.if-anew.true c.requires
-
-pub settle_on-requires : goal.settle_on-requires
-settle_on-requires c = subst (λ b. CanSettle b c.args.held.now c.args.order.now c.args.kept.now) c.if-anew.false c.requires

@@ -1,0 +1,5 @@
+use Rattle.yd_kept.proofs.FillingLemmas.{filling_adds_list}
+use Rattle.yd_kept.proofs.law.filling_adds_list.Goals as goal
+
+pub returns : goal.returns
+returns c = filling_adds_list

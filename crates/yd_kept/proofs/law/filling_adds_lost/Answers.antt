@@ -1,0 +1,5 @@
+use Rattle.yd_kept.proofs.FillingLemmas.{filling_adds_lost}
+use Rattle.yd_kept.proofs.law.filling_adds_lost.Goals as goal
+
+pub returns : goal.returns
+returns c = filling_adds_lost

@@ -1,5 +1,0 @@
-use Rattle.yd_lending.proofs.LentLemmas as lending
-use Rattle.yd_lending.proofs.law.lists_lend_units.Goals as goal
-
-pub returns : goal.returns
-returns c = lending.lists_lend_units

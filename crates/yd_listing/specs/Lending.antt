@@ -1,0 +1,80 @@
+-- A list of a store as it is lent: its runs from the first place to the last, and their units (own).
+use Rattle.std.specs.Prelude.{◌≡◌, ◌≢◌, ◌↔◌, ◌<◌, ℕ, Bool, true, List, [], ◌∷◌, Option, Some, None, IfSome, map, flat_map}
+use Rattle.yd_words.specs.Member.{IsIn}
+use Rattle.yd_ids.specs.declared.id.Id.{Id}
+use Rattle.yd_ops.specs.Operation.{UnitContent, gone_unit, Operation, later_id, units_of_content}
+use Rattle.yd_ops.specs.View.{content_value}
+use Rattle.yd_chains.specs.Chain.{behind}
+use Rattle.yd_arena.specs.Lists.{AreLists}
+use Rattle.yd_arena.specs.Arena.{runs_of, count_of, places_in, IsArena}
+use Rattle.yd_arena.specs.Marks.{mark_at}
+use Rattle.yd_store.specs.Contents.{told_of}
+use Rattle.yd_store.specs.Store.{Stored, AreTold}
+use Rattle.yd_store.specs.Units.{operations_at, operations_in, HasMarked}
+use Rattle.yd_listing.specs.declared.lent.LentRun.{LentRun}
+
+-- a unit as it is lent: its id, what it holds, and whether it is deleted
+pub record Lent : Type 0 where
+  pub id : Id
+  pub content : UnitContent
+  pub is_deleted : Bool
+
+-- an operation as it is lent, deleted or not
+abbrev pub lent : Bool → Operation → Lent
+lent deleted o = record { id = o.id; content = o.content; is_deleted = deleted }
+
+-- units of a content as they are lent, from an id on
+abbrev pub lent_from : Id → Bool → List UnitContent → List Lent
+lent_from id deleted [] = []
+lent_from id deleted (unit ∷ units) = record { id = id; content = unit; is_deleted = deleted } ∷ lent_from (later_id id 1) deleted units
+
+-- the units that a run lends
+abbrev pub units_of_run : LentRun → List Lent
+units_of_run run = lent_from run.id run.deleted (units_of_content (content_value run.content.now))
+
+-- the operations of the run at a place as they are lent, with the run's mark
+abbrev pub lent_at : Stored → ℕ → List Lent
+lent_at it place = map (lent (mark_at it.marks.rows place).deleted) (operations_at (runs_of it.placed) (told_of it.contents) place)
+
+-- the units of a list as they are lent, in order
+abbrev pub lent_in : Stored → ℕ → List Lent
+lent_in it list = flat_map (lent_at it) (places_in it.placed list)
+
+-- no unit of a list is gone
+abbrev pub HasNoGone : Stored → ℕ → Type 0
+HasNoGone it list = (o : Operation) → IsIn o (operations_in it list) → o.content ≢ gone_unit
+
+-- ---- a walk
+
+-- the store, the list, and the place that is next
+pub record Walk : Type 0 where
+  pub store : Stored
+  pub list : ℕ
+  pub next : Option ℕ
+
+-- a place with all that stands behind it, or nothing
+abbrev pub places_from : Option ℕ → List ℕ → List ℕ
+places_from None places = []
+places_from (Some place) places = place ∷ behind (Some place) places
+
+-- the places that are still to come
+abbrev pub places_left : Walk → List ℕ
+places_left walk = places_from walk.next (places_in walk.store.placed walk.list)
+
+-- and the units that are
+abbrev pub units_left : Walk → List Lent
+units_left walk = flat_map (lent_at walk.store) (places_left walk)
+
+-- the next place is one of the list, of which no unit is gone
+pub record IsWalk (walk : Walk) : Type 0 where
+  pub within : walk.list < count_of walk.store.placed
+  pub on_list : IfSome walk.next (λ place. IsIn place (places_in walk.store.placed walk.list))
+  pub has_no_gone : HasNoGone walk.store walk.list
+
+-- ---- the law
+
+-- what is lent of a list is its operations in their order, each with whether the store has it marked
+abbrev pub ListsLendUnits : Type 0
+ListsLendUnits = (it : Stored) → IsArena it.placed.lines (runs_of it.placed) → AreLists it.placed.linked → AreTold (runs_of it.placed) (told_of it.contents) →
+    (deleted : Id → Bool) → ((id : Id) → (deleted id ≡ true) ↔ HasMarked it id) → (list : ℕ) → list < count_of it.placed →
+    lent_in it list ≡ map (λ (o : Operation). lent (deleted o.id) o) (operations_in it list)

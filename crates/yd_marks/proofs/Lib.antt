@@ -1,4 +1,0 @@
-pub mod TotalLemmas
-pub mod CountLemmas
-pub mod BorderLemmas
-pub mod MarkLemmas

@@ -1,5 +1,0 @@
-use Rattle.yd_marks.proofs.BorderLemmas as borders
-use Rattle.yd_marks.proofs.law.borders_are.Goals as goal
-
-pub returns : goal.returns
-returns c = borders.borders_are

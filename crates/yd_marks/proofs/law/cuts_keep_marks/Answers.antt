@@ -1,5 +1,0 @@
-use Rattle.yd_marks.proofs.MarkLemmas as marks
-use Rattle.yd_marks.proofs.law.cuts_keep_marks.Goals as goal
-
-pub returns : goal.returns
-returns c = marks.cuts_keep_marks

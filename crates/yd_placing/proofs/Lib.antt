@@ -1,9 +1,0 @@
-pub mod EntryLemmas
-pub mod StepLemmas
-pub mod InTurnLemmas
-pub mod OutLemmas
-pub mod PlacingLemmas
-pub mod BackLemmas
-pub mod ErrorLemmas
-pub mod LawLemmas
-pub mod SeenLemmas

@@ -1,5 +1,0 @@
-use Rattle.yd_placing.proofs.LawLemmas.{entries_can_be_placed}
-use Rattle.yd_placing.proofs.law.entries_can_be_placed.Goals as goal
-
-pub returns : goal.returns
-returns c = entries_can_be_placed

@@ -1,0 +1,5 @@
+use Rattle.yd_state.proofs.LawLemmas.{document_is_defined}
+use Rattle.yd_state.proofs.law.document_is_defined.Goals as goal
+
+pub returns : goal.returns
+returns c = document_is_defined

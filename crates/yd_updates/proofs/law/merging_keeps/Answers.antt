@@ -1,5 +1,0 @@
-use Rattle.yd_updates.proofs.MergingLemmas.{merging_keeps}
-use Rattle.yd_updates.proofs.law.merging_keeps.Goals as goal
-
-pub returns : goal.returns
-returns c = merging_keeps

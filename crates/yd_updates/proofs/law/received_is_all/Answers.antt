@@ -1,6 +1,0 @@
-use Rattle.yd_updates.proofs.GroupLemmas.{deletes_of-ids}
-use Rattle.yd_updates.proofs.AgreementLemmas.{received_is, received_deletes}
-use Rattle.yd_updates.proofs.law.received_is_all.Goals as goal
-
-pub returns : goal.returns
-returns c = record { operations = received_is; deletes = λ updates valid. received_deletes updates; named = deletes_of-ids }

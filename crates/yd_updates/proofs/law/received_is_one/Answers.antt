@@ -1,5 +1,0 @@
-use Rattle.yd_updates.proofs.AgreementLemmas.{received_one, received_merged}
-use Rattle.yd_updates.proofs.law.received_is_one.Goals as goal
-
-pub returns : goal.returns
-returns c = record { any_order = received_one; merged = received_merged }

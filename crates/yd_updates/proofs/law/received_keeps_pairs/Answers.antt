@@ -1,5 +1,0 @@
-use Rattle.yd_updates.proofs.ReceivedLemmas.{nothing_is_received, after_is_received}
-use Rattle.yd_updates.proofs.law.received_keeps_pairs.Goals as goal
-
-pub returns : goal.returns
-returns c = record { start = nothing_is_received; step = after_is_received }

@@ -1,5 +1,0 @@
-pub mod Agreement
-pub mod Deletes
-pub mod Law
-pub mod Pairs
-pub mod Received
