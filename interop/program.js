@@ -39,7 +39,6 @@ function run(words) {
 
 /** What came of a case: how it ended, its status and output, and the lines of the error stream. */
 async function answerOf(asked, folder) {
-  asked.files.forEach(({ name, bytes }) => put(path.join(folder, name), bytes));
   const { how, status, output, err } = await run(wordsOf(asked, folder));
   const same = asked.output !== undefined && output.equals(Buffer.from(asked.output));
   return { how, status, output, compared: same ? 'expected' : 'other', lines: err.split('\n') };
@@ -51,6 +50,8 @@ async function answerOf(asked, folder) {
  * that is wanted.
  */
 async function answersOf(cases, folder) {
+  // Cases share files, so all lie there before the first case runs.
+  cases.forEach(({ files }) => files.forEach(({ name, bytes }) => put(path.join(folder, name), bytes)));
   const answers = new Map();
   const left = [...cases];
   const lane = async () => {
