@@ -1,0 +1,5 @@
+//! Calls of `yd_position`: positions read from bytes that were worked by hand.
+#![tactic(auto)]
+
+#[cfg(test)]
+mod bytes;
