@@ -1,0 +1,20 @@
+use Rattle.std.proofs.Common.{◌%◌, arith}
+use Rattle.yd_doc.specs.Kept.{received_of}
+use Rattle.yd_generating.specs.Replicas.{received_by}
+use Rattle.yd_generating.proofs.TurnLemmas.{first_accepted, first_full, first_turned, client_in_range}
+use Rattle.yd_generating.proofs.replicas.take_first.Goals as goal
+
+pub turn-requires-clause-client : goal.turn-requires-clause-client
+turn-requires-clause-client c = client_in_range c.args.replicas.now.first.client 1 c.requires.clients.first (omega arith)
+
+pub returns-in-Ok-clause-turned : goal.returns-in-Ok-clause-turned
+returns-in-Ok-clause-turned c = first_turned (c.args.step % 3) c.args.step c.args.draws (received_by c.args.replicas.now) c.args.replicas.now.first.client
+    (received_of c.turn.new.own) (received_of c.turn.new.next) c.requires.number c.requires.clients.first c.in-Ok.ensures.edited c.in-Ok.ensures.passed
+
+pub returns-in-Ok-clause-accepted : goal.returns-in-Ok-clause-accepted
+returns-in-Ok-clause-accepted c = first_accepted (c.args.step % 3) c.args.draws (received_by c.args.replicas.now) c.args.replicas.now.first.client
+    c.requires.number c.requires.clients.first c.in-Ok.ensures.accepted
+
+pub returns-in-Err-clause-full : goal.returns-in-Err-clause-full
+returns-in-Err-clause-full c = first_full (c.args.step % 3) (received_by c.args.replicas.now) c.args.replicas.now.first.client c.in-Err.fault
+    c.requires.number c.requires.clients.first c.in-Err.ensures.full
