@@ -1,3 +1,0 @@
-mod DrawnLemmas
-mod ReplicaLemmas
-mod TurnLemmas

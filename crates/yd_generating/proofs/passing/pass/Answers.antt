@@ -1,7 +1,0 @@
-use Rattle.std.proofs.Common.{◌∙◌, ap}
-use Rattle.yd_ops.specs.Received.{received_after}
-use Rattle.yd_doc.specs.Kept.{received_of}
-use Rattle.yd_generating.proofs.passing.pass.Goals as goal
-
-pub returns-clause-passed : goal.returns-clause-passed
-returns-clause-passed c = c.in_ok-apply.ensures.received ∙ ap (received_after (received_of c.args.asker.now)) c.in_ok-update.ensures.reply

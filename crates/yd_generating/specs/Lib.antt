@@ -1,4 +1,0 @@
-pub mod Line
-pub mod Replicas
-pub mod Same
-pub mod Stopped
