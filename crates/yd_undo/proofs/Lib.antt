@@ -5,5 +5,6 @@ pub mod InsertedLemmas
 pub mod KeyLemmas
 pub mod LawLemmas
 pub mod ProperLemmas
+pub mod RefusedLemmas
 pub mod RemadeLemmas
 pub mod TurnLemmas
