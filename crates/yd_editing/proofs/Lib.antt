@@ -17,6 +17,7 @@ pub mod PlaceLemmas
 pub mod RefusalLemmas
 pub mod RemovalLemmas
 pub mod RunLemmas
+pub mod ScannedLemmas
 pub mod StepLemmas
 pub mod TableLemmas
 pub mod TakenLemmas

@@ -2,6 +2,7 @@
 
 ghost use Rattle.yd_editing.specs.TextLaw.{QuietTextsStay, InsertsStand, DeletesStand, FormatsStand};
 ghost use Rattle.yd_editing.specs.MapLaw.{SetsStand, UnsetsStand};
+ghost use Rattle.yd_editing.specs.Scanned.{ScanPutsMade};
 ghost use Rattle.yd_editing.specs.Law.{MadeUnitsStand, MadeRunsStand, StepsStand, RemovalsTell};
 ghost use Rattle.yd_editing.specs.Law.{OwnEditsAreTaken, EditsAreTaken, EditsAreHeld, EditsDelete};
 ghost use Rattle.yd_editing.specs.Law.{OwnEditsAreValid, EditsAreValid};
@@ -20,6 +21,12 @@ pub fn made_runs_stand()
 /// So does each step of an edit, and the lists are those that the steps evolve.
 pub fn steps_stand()
     ensures { StepsStand }
+{}
+
+/// For every list, whether the edit rules are kept or not: the integration scan puts a made run
+/// directly behind the unit behind which it is made.
+pub fn scan_puts_made()
+    ensures { ScanPutsMade }
 {}
 
 /// A removal that is refused names the smallest id that is not held.

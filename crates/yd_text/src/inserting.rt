@@ -1,7 +1,6 @@
 //! Insertions and embeds.
 
 ghost use Rattle.std.specs.Prelude.{◌≡◌, None, IfOk, IfErr, OnOk, OnErr, IsTrue};
-ghost use Rattle.yd_words.specs.Each.{Each};
 ghost use Rattle.yd_units.specs.Text.{units_of};
 ghost use Rattle.yd_any.specs.JsonView.{json_tree};
 ghost use Rattle.yd_any.specs.Valid.{is_valid_json};
@@ -9,9 +8,9 @@ ghost use Rattle.yd_ops.specs.Valid.{IsValidContent, IsParent};
 ghost use Rattle.yd_ops.specs.Value.{string, embed as embed_value};
 ghost use Rattle.yd_ops.specs.View.{content_value, update_value};
 ghost use Rattle.yd_editing.specs.Law.{IsMakeable};
+ghost use Rattle.yd_editing.specs.Refused.{refusal_of};
 ghost use Rattle.yd_editing.specs.TextEdit.{insert_steps, insert_refusal};
-ghost use Rattle.yd_making.specs.Steps.{steps_value, IsProper, IsCause};
-ghost use Rattle.yd_making.specs.declared.fault.EditFault.TheVariants.{NoMemory as NoRoom};
+ghost use Rattle.yd_making.specs.Steps.{IsCause};
 ghost use Rattle.yd_doc.specs.Editing.{own_basis, IsEdit};
 ghost use Rattle.yd_doc.specs.Kept.{own_document};
 
@@ -19,7 +18,7 @@ use crate::placing::place_at;
 use crate::refusing::{list_fault, place_fault};
 use std::alloc::Global;
 use yd_any::Json;
-use yd_doc::{EditFault, Replica, Step, StepList};
+use yd_doc::{EditFault, Replica, StepList};
 use yd_ops::{Content, List, Update};
 use yd_units::Units;
 
@@ -101,39 +100,40 @@ pub fn insert_content(
     if let Some(fault) = place_fault(replica, list, index) {
         return Err(fault);
     }
-    let steps = steps_at(alloc, replica, list, index, content)?;
-    match replica.edit(steps) {
+    match put_at(alloc, replica, list, index, content) {
         Ok(update) => Ok(update),
         Err(fault) => Err(fault),
     }
 }
 
-/// The steps of an insertion: one, or none where there is nothing to make.
-fn steps_at(
+/// Makes a content behind the unit before the index, or at the front; one without units is an edit
+/// of no steps.
+fn put_at(
     alloc: Global,
-    replica: &Replica,
+    replica: &mut Replica,
     list: &List,
     index: u64,
     content: Content,
-) -> Result<StepList, EditFault>
+) -> Result<Update, EditFault>
     requires parent { IsParent list.now.parent }
     requires valid { IsValidContent (content_value content) }
     requires makeable { IsMakeable (content_value content) }
-    ensures steps { IfOk result (λ steps. steps_value steps
-        ≡ insert_steps (own_document replica.now) list.now index (content_value content)) }
-    ensures proper { IfOk result (λ steps. Each IsProper (steps_value steps)) }
-    ensures memory { IfErr result (λ fault. fault ≡ NoRoom) }
+    ensures done { IfOk result (λ update. IsEdit replica.old replica.new
+        (insert_steps (own_document replica.old) list.now index (content_value content))
+        (update_value update)) }
+    ensures refused { IfErr result (λ fault. IsCause fault (refusal_of (own_basis replica.old)
+        (insert_steps (own_document replica.old) list.now index (content_value content)))) }
+    ensures unchanged { OnErr result (replica.new ≡ replica.old) }
 {
-    let mut steps = StepList::new(alloc);
     if content.len() == 0 {
-        return Ok(steps);
+        return match replica.edit(StepList::new(alloc)) {
+            Ok(update) => Ok(update),
+            Err(fault) => Err(fault),
+        };
     }
     let after = place_at(replica, list, index);
-    let list = list.copy()?;
-    steps.push(Step::Make {
-        list,
-        after,
-        content,
-    })?;
-    Ok(steps)
+    match replica.make(list, after, content) {
+        Ok(update) => Ok(update),
+        Err(fault) => Err(fault),
+    }
 }
