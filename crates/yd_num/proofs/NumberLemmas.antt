@@ -74,3 +74,7 @@ unfolding unsigned_at
 unsigned_only field v rest spells =
     let small : grouped_value field < 2 ^ 53 = rw spells.value spells.in_range in
     rw (groups_again 8 field rest spells.terminated spells.in_eight, lt-ltb (grouped_value field) (2 ^ 53) small) (ap (λ (n : ℕ). Ok (n, rest)) spells.value)
+
+-- a byte below 128 at the front is a number by itself
+pub one_byte : (b : ℕ) (rest : List ℕ) → b < 128 → unsigned_at (b ∷ rest) ≡ Ok (b, rest)
+one_byte b rest lt = unsigned_only (b ∷ []) b rest (record { terminated = lt; in_eight = omega arith; value = grind arith; in_range = omega arith })

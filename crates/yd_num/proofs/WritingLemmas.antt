@@ -8,6 +8,10 @@ pub groups-last : (most v : ℕ) → v < 128 → shortest_groups (suc most) v �
 unfolding shortest_groups
 groups-last most v lt = rw (lt-ltb v 128 lt) refl
 
+pub shortest_one : (v : ℕ) → v < 128 → shortest v ≡ v ∷ []
+unfolding shortest
+shortest_one v lt = groups-last 7 v lt
+
 pub groups-more : (most v : ℕ) → 128 ≤ v → shortest_groups (suc most) v ≡ (v % 128 + 128) ∷ shortest_groups most (v / 128)
 unfolding shortest_groups
 groups-more most v le = rw (le-ltb v 128 le) refl

@@ -76,11 +76,18 @@ impl Bytes {
 
     /// Writes an unsigned number, at most 2^53-1, in the fewest bytes, which are 1 to 8 (lib0,
     /// writeVarUint; the limit is own).
+    #[inline(always)]
+    #[tactic(auto, using(crate::proofs::WritingLemmas::shortest_one))]
     pub fn push_unsigned(&mut self, v: u64) -> Result<(), NoMemory>
         requires { v < 2 ^ 53 }
         ensures appended { OnOk result (self.new ≡ self.old ++ shortest v) }
         ensures unchanged { OnErr result (self.new ≡ self.old) }
     {
+        // Most numbers are below 128, which is one byte.
+        if v < 128 {
+            self.bytes.push(v as u8)?;
+            return Ok(());
+        }
         let start = self.bytes.len();
         if write_unsigned(&mut self.bytes, v).is_err() {
             self.bytes.truncate(start);

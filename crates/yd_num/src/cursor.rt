@@ -70,6 +70,7 @@ impl<'a> Cursor<'a> {
     }
 
     /// Reads one byte.
+    #[inline(always)]
     pub fn byte(&mut self) -> Result<u8, NumFault>
         ensures { Reads (λ b. b) self.old self.new result (byte_at self.old.unread) }
     {
@@ -83,6 +84,7 @@ impl<'a> Cursor<'a> {
 
     /// Reads an unsigned number, at most 2^53-1, in the shortest form or padded to at most 8 bytes
     /// (lib0, readVarUint; the limits are own).
+    #[inline(always)]
     pub fn unsigned(&mut self) -> Result<u64, NumFault>
         ensures { Reads (λ v. v) self.old self.new result (unsigned_at self.old.unread) }
     {

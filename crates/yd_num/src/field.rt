@@ -13,9 +13,24 @@ use simdutf8::basic::from_utf8;
 /// The greatest unsigned number, 2^53-1, the last up to which JavaScript counts exactly.
 pub const MOST: u64 = (1 << 53) - 1;
 
-/// An unsigned number.
-#[tactic(auto, unfolding(crate::specs::Number::unsigned_at))]
+/// An unsigned number. Most are below 128, which is one byte.
+#[inline(always)]
+#[tactic(auto, using(crate::proofs::NumberLemmas::one_byte))]
 pub fn unsigned_of(bytes: &[u8], place: usize) -> Result<(u64, usize), NumFault>
+    ensures { StandsAtFront (λ v. v) bytes.now place result (unsigned_at bytes.now) }
+{
+    if let Some((first, _)) = bytes.split_first() {
+        if *first < 128 {
+            return Ok((u64::from(*first), 1));
+        }
+    }
+    any_unsigned_of(bytes, place)
+}
+
+// An unsigned number of any length.
+#[inline(never)]
+#[tactic(auto, unfolding(crate::specs::Number::unsigned_at))]
+fn any_unsigned_of(bytes: &[u8], place: usize) -> Result<(u64, usize), NumFault>
     ensures { StandsAtFront (λ v. v) bytes.now place result (unsigned_at bytes.now) }
 {
     match groups_of(bytes, 8) {

@@ -7,6 +7,7 @@ use crate::fault::NoMemory;
 use crate::signed::Signed;
 
 /// Writes an unsigned number; where memory ends, some of its bytes stand there.
+#[inline(never)]
 pub fn write_unsigned(bytes: &mut Vec<u8>, v: u64) -> Result<(), NoMemory>
     requires { v < 2 ^ 56 }
     ensures written { OnOk result (bytes.new.items ≡ bytes.old.items ++ shortest v) }
