@@ -1,5 +1,5 @@
 -- The ids of units in a range of indexes, as they are gathered piece by piece.
-use Rattle.std.proofs.Common.{◌≡◌, ◌⊎◌, ◌↔◌, ◌<◌, ◌≤◌, ◌+◌, ◌-◌, ◌^◌, ℕ, zero, suc, List, [], ◌∷◌, ◌++◌, map, take, drop, inl, inr, refl, sym, ap, ap₂, ◌∙◌, subst, arith}
+use Rattle.std.proofs.Common.{◌≡◌, ◌⊎◌, ◌↔◌, ◌<◌, ◌≤◌, ◌+◌, ◌-◌, ◌^◌, ℕ, zero, suc, List, [], ◌∷◌, ◌++◌, map, take, drop, inl, inr, refl, sym, ap, ap₂, ◌∙◌, subst, arith, length, append-nil}
 use Rattle.std.proofs.lemmas.List.{take-map, drop-map}
 use Rattle.yd_words.specs.Each.{Each}
 use Rattle.yd_words.specs.Member.{IsIn}
@@ -19,7 +19,7 @@ use Rattle.yd_editing.specs.TextEdit.{counted_units, ids_of_units}
 use Rattle.yd_state.specs.Lent.{Lent, lent_units}
 use Rattle.yd_doc.specs.Counted.{counted_ids, ids_from}
 use Rattle.yd_doc.proofs.CountedLemmas.{counted_lent}
-use Rattle.yd_text.specs.Ranges.{TakesRange}
+use Rattle.yd_text.specs.Ranges.{TakesRange, TakesPart}
 
 -- ---- ids in a row
 
@@ -205,3 +205,113 @@ nothing_left ids left e skip want x P so_far = ((λ h. so_far.0 (inl h)), (λ p.
     empty zero (suc w) i = i
     empty (suc s) zero i = i
     empty (suc s) (suc w) i = i
+
+-- where no more is wanted, all is had
+pub nothing_wanted : (ids : List Span) (left : List Id) (skip want : ℕ) → want ≡ 0 → (x : Id) (P : Type 0) → (HasId ids x ⊎ IsIn x (take want (drop skip left))) ↔ P → HasId ids x ↔ P
+nothing_wanted ids left skip want e x P so_far =
+    ((λ h. so_far.0 (inl h)), (λ p. elim (so_far.1 p) [ inl h ↦ h | inr i ↦ absurd (subst (λ w. IsIn x (take w (drop skip left))) e i) ]))
+
+-- ---- from the back
+
+nothing_of_none : (s w : ℕ) → take {A = Id} w (drop s []) ≡ []
+nothing_of_none zero zero = refl
+nothing_of_none zero (suc w) = refl
+nothing_of_none (suc s) zero = refl
+nothing_of_none (suc s) (suc w) = refl
+
+nothing_past : (ids : List Id) (s w : ℕ) → length ids ≤ s → take w (drop s ids) ≡ []
+nothing_past [] s w le = nothing_of_none s w
+nothing_past (x ∷ xs) zero w le = absurd (omega (arith, le))
+nothing_past (x ∷ xs) (suc s) w le = nothing_past xs s w (omega (arith, le))
+
+-- a range of two parts
+range_parts : (xs row : List Id) (index len : ℕ) →
+    take len (drop index (xs ++ row)) ≡ take len (drop index xs) ++ take (len - (length xs - index)) (drop (index - length xs) row)
+range_parts [] row index len = ap₂ (λ k j. take k (drop j row)) a b ∙ ap (λ ys. ys ++ take (len - (0 - index)) (drop (index - 0) row)) (sym (nothing_of_none index len))
+  where
+    a : len ≡ len - (0 - index)
+    a = omega arith
+
+    b : index ≡ index - 0
+    b = omega arith
+range_parts (x ∷ xs) row zero zero = ap (λ k. take k (drop (0 - suc (length xs)) row)) a
+  where
+    a : 0 ≡ 0 - (suc (length xs) - 0)
+    a = omega arith
+range_parts (x ∷ xs) row zero (suc len) = ap (λ ys. x ∷ ys) (range_parts xs row zero len ∙ ap₂ (λ k j. take len xs ++ take k (drop j row)) a b)
+  where
+    a : len - (length xs - 0) ≡ suc len - (suc (length xs) - 0)
+    a = omega arith
+
+    b : 0 - length xs ≡ 0 - suc (length xs)
+    b = omega arith
+range_parts (x ∷ xs) row (suc index) len = range_parts xs row index len ∙ ap₂ (λ k j. take len (drop index xs) ++ take k (drop j row)) a b
+  where
+    a : len - (length xs - index) ≡ len - (suc (length xs) - suc index)
+    a = omega arith
+
+    b : index - length xs ≡ suc index - suc (length xs)
+    b = omega arith
+
+-- a part of a row
+row_part : (id : Id) (n s k part : ℕ) → part ≤ n - s → part ≤ k → (part ≡ n - s) ⊎ (part ≡ k) → take k (drop s (ids_from id n)) ≡ ids_from (later_id id s) part
+row_part id n s k part a b c = ap (λ ids. take k (drop s ids)) (sym (append-nil (ids_from id n))) ∙ elim (in_or_past s n) [
+  | inl le ↦ ap (take k) (drop_row id n s [] le) ∙ take_row (later_id id s) (n - s) part k [] a b c
+      ∙ ap (λ ys. ids_from (later_id id s) part ++ ys) (nothing_of_none 0 (k - part)) ∙ append-nil (ids_from (later_id id s) part)
+  | inr lt ↦ ap (take k) (pass_row id n s [] (omega (arith, lt))) ∙ nothing_of_none (s - n) k ∙ ap (ids_from (later_id id s)) (none a lt)
+]
+  where
+    in_or_past : (a b : ℕ) → (a ≤ b) ⊎ (b < a)
+    in_or_past zero b = inl (omega arith)
+    in_or_past (suc a) zero = inr (omega arith)
+    in_or_past (suc a) (suc b) = elim (in_or_past a b) [ inl le ↦ inl (omega (arith, le)) | inr lt ↦ inr (omega (arith, lt)) ]
+
+    none : part ≤ n - s → n < s → 0 ≡ part
+    none le lt = omega (arith, le, lt)
+
+module _ (old : List Span) (row : List Id) (id : Id) (n before index len part : ℕ) (e : row ≡ ids_from id n) (a : part ≤ n - (index - before))
+    (b : part ≤ len - (before - index)) (c : (part ≡ n - (index - before)) ⊎ (part ≡ len - (before - index))) where
+  part_is : take (len - (before - index)) (drop (index - before) row) ≡ ids_from (later_id id (index - before)) part
+  part_is = ap (λ r. take (len - (before - index)) (drop (index - before) r)) e ∙ row_part id n (index - before) (len - (before - index)) part a b c
+
+  -- no unit of a piece is in a range
+  pub no_part : part ≡ 0 → TakesPart old old row before index len
+  no_part e0 x = (inl, (λ h. elim h [ inl i ↦ i | inr i ↦ absurd (subst (IsIn x) (part_is ∙ ap (ids_from (later_id id (index - before))) e0) i) ]))
+
+  -- some are
+  pub some_part : (new : List Span) → AddsSpan old new (row_span (later_id id (index - before)) part) → TakesPart old new row before index len
+  some_part new adds x = (
+    (λ h. elim ((adds x).0 h) [ inl i ↦ inl i | inr i ↦ inr (subst (IsIn x) (sym part_is) (in_row (later_id id (index - before)) part x i)) ]),
+    (λ h. elim h [ inl i ↦ (adds x).1 (inl i) | inr i ↦ (adds x).1 (inr (row_has (later_id id (index - before)) part x (subst (IsIn x) part_is i))) ]),
+  )
+
+-- a piece less at the end
+pub part_taken : (old new : List Span) (front row all : List Id) (before index len : ℕ) → all ≡ front ++ row → before ≡ length front → TakesPart old new row before index len →
+    (x : Id) (P : Type 0) → (HasId old x ⊎ IsIn x (take len (drop index all))) ↔ P → (HasId new x ⊎ IsIn x (take len (drop index front))) ↔ P
+part_taken old new front row all before index len e f takes x P so_far = (to, from)
+  where
+    part : List Id
+    part = take (len - (before - index)) (drop (index - before) row)
+
+    same : take len (drop index all) ≡ take len (drop index front) ++ part
+    same = ap (λ ids. take len (drop index ids)) e ∙ range_parts front row index len
+        ∙ ap (λ m. take len (drop index front) ++ take (len - (m - index)) (drop (index - m) row)) (sym f)
+
+    to : HasId new x ⊎ IsIn x (take len (drop index front)) → P
+    to (inl h) = so_far.0 (elim ((takes x).0 h) [ inl i ↦ inl i | inr i ↦ inr (subst (IsIn x) (sym same) (in_right_part x (take len (drop index front)) part i)) ])
+    to (inr i) = so_far.0 (inr (subst (IsIn x) (sym same) (in_left_part x (take len (drop index front)) part i)))
+
+    from : P → HasId new x ⊎ IsIn x (take len (drop index front))
+    from p = elim (so_far.1 p) [
+      | inl h ↦ inl ((takes x).1 (inl h))
+      | inr i ↦ elim (in_parts x (take len (drop index front)) part (subst (IsIn x) same i)) [
+        | inl j ↦ inr j
+        | inr j ↦ inl ((takes x).1 (inr j))
+      ]
+    ]
+
+-- before the range nothing is wanted
+pub nothing_before : (ids : List Span) (left : List Id) (index len : ℕ) → length left ≤ index → (x : Id) (P : Type 0) →
+    (HasId ids x ⊎ IsIn x (take len (drop index left))) ↔ P → HasId ids x ↔ P
+nothing_before ids left index len le x P so_far =
+    ((λ h. so_far.0 (inl h)), (λ p. elim (so_far.1 p) [ inl h ↦ h | inr i ↦ absurd (subst (IsIn x) (nothing_past left index len le) i) ]))

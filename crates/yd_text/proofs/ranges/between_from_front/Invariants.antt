@@ -4,7 +4,7 @@ use Rattle.yd_ids.specs.declared.id.Id.{Id}
 use Rattle.yd_ids.specs.Set.{HasId, AreMaximal}
 use Rattle.yd_state.specs.Lent.{units_left}
 use Rattle.yd_doc.specs.Counted.{counted_ids}
-use Rattle.yd_text.proofs.ranges.units_between.Given as goal
+use Rattle.yd_text.proofs.ranges.between_from_front.Given as goal
 
 -- what is had and what is still wanted is what is wanted of all
 abbrev pub invariant-loop-piece : goal.invariant-loop-piece

@@ -5,8 +5,8 @@ use Rattle.yd_state.specs.Lent.{Lent, lent_units, units_left, units_of_view}
 use Rattle.yd_doc.specs.Counted.{counted_ids}
 use Rattle.yd_doc.specs.Kept.{own_document}
 use Rattle.yd_doc.proofs.CountedLemmas.{fewer_left, counted-append}
-use Rattle.yd_text.proofs.RangeLemmas.{range_is, nothing_left, more_taken, nothing_taken}
-use Rattle.yd_text.proofs.ranges.units_between.Goals as goal
+use Rattle.yd_text.proofs.RangeLemmas.{range_is, nothing_left, nothing_wanted, more_taken, nothing_taken}
+use Rattle.yd_text.proofs.ranges.between_from_front.Goals as goal
 
 pub loop-piece-init : goal.loop-piece-init
 loop-piece-init c = record {
@@ -29,5 +29,12 @@ loop-piece-preserved c = record {
 pub returns : goal.returns
 returns c = range_is c.loop-piece.ids (own_document c.args.replica.now) c.args.list.now c.args.index c.args.len c.loop-piece.invariant.maximal
     (λ x. nothing_left c.loop-piece.ids (units_left c.loop-piece.view) c.in_default.ensures.lends c.loop-piece.want.skip c.loop-piece.want.len x (IsIn x (take c.args.len (drop c.args.index (counted_ids (lent_units (own_document c.args.replica.now) c.args.list.now)))))
+    (subst (λ (us : List Lent). (HasId c.loop-piece.ids x ⊎ IsIn x (take c.loop-piece.want.len (drop c.loop-piece.want.skip (counted_ids (units_left c.loop-piece.view)))))
+    ↔ IsIn x (take c.args.len (drop c.args.index (counted_ids us)))) c.list-view.ensures.units (c.loop-piece.invariant.ids x)))
+
+pub returns-then-want-eq0 : goal.returns-then-want-eq0
+returns-then-want-eq0 c = range_is c.loop-piece.ids (own_document c.args.replica.now) c.args.list.now c.args.index c.args.len c.loop-piece.invariant.maximal
+    (λ x. nothing_wanted c.loop-piece.ids (counted_ids (units_left c.loop-piece.view)) c.loop-piece.want.skip c.loop-piece.want.len c.if-want-eq0.true x
+    (IsIn x (take c.args.len (drop c.args.index (counted_ids (lent_units (own_document c.args.replica.now) c.args.list.now)))))
     (subst (λ (us : List Lent). (HasId c.loop-piece.ids x ⊎ IsIn x (take c.loop-piece.want.len (drop c.loop-piece.want.skip (counted_ids (units_left c.loop-piece.view)))))
     ↔ IsIn x (take c.args.len (drop c.args.index (counted_ids us)))) c.list-view.ensures.units (c.loop-piece.invariant.ids x)))
