@@ -1,5 +1,5 @@
 -- The live counted units of a document's list, among its units as they are lent, and those of a piece.
-use Rattle.std.proofs.Common.{◌≡◌, ℕ, zero, suc, ◌+◌, ◌<◌, ◌≤◌, Bool, true, false, ◌&&◌, not, List, [], ◌∷◌, ◌++◌, Some, length, take, drop, map, refl, sym, ap, ap₂, ◌∙◌, subst, arith, length-append, length-drop}
+use Rattle.std.proofs.Common.{◌≡◌, ℕ, zero, suc, ◌+◌, ◌<◌, ◌≤◌, Bool, true, false, ◌&&◌, not, List, [], ◌∷◌, ◌++◌, None, Some, length, take, drop, map, refl, sym, ap, ap₂, ◌∙◌, subst, arith, length-append, length-drop}
 use Rattle.std.specs.Prelude.{slice_get, filter, if◌then◌else◌}
 use Rattle.std.proofs.lemmas.List.{length-take-le}
 use Rattle.yd_words.specs.Each.{Each}
@@ -219,3 +219,50 @@ fewer_left view old new some within e = omega (arith, ap length e, length-append
     long : length (units_of_view view) ≡ view.len
     long = length-lent view.id view.deleted (take view.len (drop view.offset units)) ∙ length-take-le view.len (drop view.offset units)
         (omega (arith, within.units, length-units_of_content (content_value view.content.now), length-drop view.offset units))
+
+-- ---- pieces from the back
+
+get_behind : (xs ys : List Id) (j k : ℕ) → j ≡ length xs + k → slice_get (xs ++ ys) j ≡ slice_get ys k
+get_behind [] ys j k e = ap (slice_get ys) (omega (arith, e))
+get_behind (x ∷ xs) ys zero k e = absurd (omega (arith, e))
+get_behind (x ∷ xs) ys (suc j) k e = get_behind xs ys j k (omega (arith, e))
+
+get_before : (xs ys : List Id) (j : ℕ) → j < length xs → slice_get (xs ++ ys) j ≡ slice_get xs j
+get_before [] ys j lt = absurd (omega (arith, lt))
+get_before (x ∷ xs) ys zero lt = refl
+get_before (x ∷ xs) ys (suc j) lt = get_before xs ys j (omega (arith, lt))
+
+id_in : (id : Id) (n k : ℕ) → k < n → slice_get (ids_from id n) k ≡ Some (later_id id k)
+id_in id n k lt = sym (get_before (ids_from id n) [] k (omega (arith, lt, length-from id n))) ∙ id_in_row id n k [] lt
+
+module _ (old new piece : List Lent) (id : Id) (n : ℕ) (e : old ≡ new ++ piece) (f : counted_ids piece ≡ ids_from id n) where
+  end_counted : counted_ids old ≡ counted_ids new ++ ids_from id n
+  end_counted = ap counted_ids e ∙ counted-append new piece ∙ ap (λ ids. counted_ids new ++ ids) f
+
+  pub end_length : length (counted_ids old) ≡ length (counted_ids new) + n
+  end_length = ap length end_counted ∙ length-append (counted_ids new) (ids_from id n) ∙ ap (λ k. length (counted_ids new) + k) (length-from id n)
+
+  -- a unit in the last piece, behind which so many stand
+  pub at_in_end : (index left at : ℕ) → index + 1 + left ≡ length (counted_ids old) → left < n → at + left + 1 ≡ n → slice_get (counted_ids old) index ≡ Some (later_id id at)
+  at_in_end index left at count lt g = ap (λ ids. slice_get ids index) end_counted
+      ∙ get_behind (counted_ids new) (ids_from id n) index at (omega (arith, count, lt, g, end_length)) ∙ id_in id n at (omega (arith, g))
+
+  -- and one before it
+  pub at_before_end : (index left rest : ℕ) → index + 1 + left ≡ length (counted_ids old) → n + rest ≡ left →
+      (slice_get (counted_ids old) index ≡ slice_get (counted_ids new) index) × (index + 1 + rest ≡ length (counted_ids new))
+  at_before_end index left rest count g =
+      let fewer : index + 1 + rest ≡ length (counted_ids new) = omega (arith, count, g, end_length) in
+      (ap (λ ids. slice_get ids index) end_counted ∙ get_before (counted_ids new) (ids_from id n) index (omega (arith, fewer)), fewer)
+
+-- before a piece fewer units are left
+pub fewer_before : (view : RunView) (old new : List Lent) → 0 < view.len → IsWithin view → old ≡ new ++ units_of_view view → length new < length old
+fewer_before view old new some within e =
+    let turned : length (units_of_view view ++ new) ≡ length old =
+    length-append (units_of_view view) new ∙ omega (arith, ap length e, length-append new (units_of_view view)) in
+    omega (arith, fewer_left view (units_of_view view ++ new) new some within refl, turned)
+
+-- no unit has an index past the end
+pub none_past : (os : List Operation) (index : ℕ) → length os ≤ index → None ≡ unit_at os index
+none_past [] index le = refl
+none_past (o ∷ os) zero le = absurd (omega (arith, le))
+none_past (o ∷ os) (suc index) le = none_past os index (omega (arith, le))

@@ -30,8 +30,8 @@ impl Replica {
     ///
     /// What waits and can be held after all steps is held then. A received deletion may name a clock
     /// that the client had not reached: the unit that is made there is deleted at once, and no
-    /// refusal says so. It takes time as `apply` of the update does, and for each step that makes
-    /// something as reading its list by pieces does.
+    /// refusal says so. It takes time as `apply` of the update does, and some look-ups for each step
+    /// that makes something.
     pub fn edit(&mut self, steps: StepList) -> Result<Update, EditFault>
         requires { Each IsProper (steps_value steps) }
         ensures done { IfOk result (λ update.

@@ -1,6 +1,6 @@
 //! Indexes of units: how many a list has, and which unit has an index.
 
-ghost use Rattle.std.specs.Prelude.{◌≡◌, ◌≤◌, length, IfSome};
+ghost use Rattle.std.specs.Prelude.{◌≡◌, ◌≤◌, ◌+◌, ℕ, length, IfSome};
 ghost use Rattle.yd_ids.specs.Id.{IsId};
 ghost use Rattle.yd_editing.specs.TextEdit.{counted_units, unit_at};
 ghost use Rattle.yd_ops.specs.View.{content_value};
@@ -24,9 +24,25 @@ impl Replica {
     }
 
     /// The id of the live counted unit with an index, from 0, and none where the index is not below
-    /// the length. It takes time as reading the list by pieces does up to that unit, and copies
-    /// nothing.
+    /// the length. It takes time as reading the list by pieces does between that unit and the nearer
+    /// end of the list, and copies nothing.
     pub fn unit_at(&self, list: &List, index: u64) -> Option<Id>
+        ensures unit { result ≡ unit_at (counted_units (own_document self.now) list.now) index }
+        ensures in_range { IfSome result IsId }
+    {
+        let length = self.length(list);
+        if length <= index {
+            return None;
+        }
+        let behind = length - index - 1;
+        if behind < index {
+            return self.unit_from_back(list, behind);
+        }
+        self.unit_from_front(list, index)
+    }
+
+    /// The id of the live counted unit with an index, found from the front.
+    fn unit_from_front(&self, list: &List, index: u64) -> Option<Id>
         ensures unit { result ≡ unit_at (counted_units (own_document self.now) list.now) index }
         ensures in_range { IfSome result IsId }
     {
@@ -38,6 +54,28 @@ impl Replica {
                 return Some(Id {
                     client: piece.id.client,
                     clock: piece.id.clock + left,
+                });
+            }
+            left -= len;
+        }
+        None
+    }
+
+    /// The id of the live counted unit behind which so many others stand, found from the back.
+    fn unit_from_back(&self, list: &List, behind: u64) -> Option<Id>
+        ensures unit { (index : ℕ)
+            → index + 1 + behind ≡ length (counted_units (own_document self.now) list.now)
+            → result ≡ unit_at (counted_units (own_document self.now) list.now) index }
+        ensures in_range { IfSome result IsId }
+    {
+        let mut view = self.list(list);
+        let mut left = behind;
+        while let Some(piece) = view.next_back() {
+            let len = counted_len(&piece);
+            if left < len {
+                return Some(Id {
+                    client: piece.id.client,
+                    clock: piece.id.clock + (len - left - 1),
                 });
             }
             left -= len;

@@ -9,5 +9,7 @@ mod TakingLemmas
 pub mod LawLemmas
 pub mod LentLemmas
 pub mod ListingLemmas
+pub mod RowLemmas
+pub mod StandingLemmas
 pub mod UnitLemmas
 pub mod WalkLemmas

@@ -191,3 +191,17 @@ pub last_ranged : (it : KeptValue) (n : ℕ) (run : LentRun) → IsTold it → I
     AreTold (runs_of it.store.placed) (told_of it.store.contents) → n < count_of it.store.placed →
     ((front : List Lent) × (lent_in it.store n ≡ front ++ units_of_run run)) → 0 < run.len → run.len ≡ len_of (content_value run.content.now) → IsInRange run
 last_ranged it n run is arena lists told lt parts some len = behind_ranged (lent_in it.store n) run parts some len (list_ranged it n is arena lists told lt)
+
+-- so it is with the last run of a walk that is taken off, and with the units before it
+pub back_ranged : (old new : Walk) (z : Option LentRun) → MatchOption z (units_left old ≡ []) (λ run. units_left old ≡ units_left new ++ units_of_run run) →
+    IfSome z (λ run. 0 < run.len) → IfSome z (λ run. run.len ≡ len_of (content_value run.content.now)) → IfNone z (units_left new ≡ []) →
+    AreInRange (Some old) → IfSome z IsInRange × AreInRange (Some new)
+back_ranged old new None lends some len ended h = (tt, subst (Each HasRoom) (sym ended) tt)
+back_ranged old new (Some run) lends some len ended h = (
+  behind_ranged (units_left old) run (units_left new, lends) some len h,
+  each_before (units_left new) (units_of_run run) (subst (Each HasRoom) lends h),
+)
+  where
+    each_before : (xs ys : List Lent) → Each HasRoom (xs ++ ys) → Each HasRoom xs
+    each_before [] ys g = tt
+    each_before (x ∷ xs) ys g = (g.0, each_before xs ys g.1)

@@ -10,9 +10,8 @@ use Rattle.yd_ids.specs.declared.id.Id.{Id}
 use Rattle.yd_ops.specs.declared.lists.List.{List as DocList}
 use Rattle.yd_ops.specs.Operation.{UnitContent, later_id, units_of_content, operations_from, gone_operation, gone_from}
 use Rattle.yd_ops.specs.Value.{RunValue, len_of}
-use Rattle.yd_chains.specs.Chain.{first_of, last_from, last_of, behind, before}
-use Rattle.yd_chains.proofs.ChainLemmas.{same_place, around, distinct_out, some_last}
-use Rattle.yd_chains.proofs.LinkLemmas.{if_first}
+use Rattle.yd_chains.specs.Chain.{last_from, last_of}
+use Rattle.yd_chains.proofs.ChainLemmas.{some_last}
 use Rattle.yd_scan.specs.declared.stretch.Stretch.{Stretch}
 use Rattle.yd_scan.specs.Stretches.{stretch_at}
 use Rattle.yd_arena.specs.Lists.{AreLists}
@@ -21,28 +20,9 @@ use Rattle.yd_arena.specs.Marks.{mark_at}
 use Rattle.yd_store.specs.Contents.{told_of, run_at}
 use Rattle.yd_store.specs.Store.{Stored, IsRunOf, AreTold}
 use Rattle.yd_store.specs.Units.{operations_told, operations_at}
-use Rattle.yd_listing.specs.Lending.{Lent, lent, lent_from, lent_at, lent_in, places_from, HasNoGone, Walk, IsWalk, units_left}
-
--- ---- places
-
-behind_part : (q : ℕ) (xs ys : List ℕ) → (IsIn q xs → ⊥) → behind (Some q) (xs ++ q ∷ ys) ≡ ys
-behind_part q [] ys out = elim (same_place q q) [ inl e ↦ rw e.0 refl | inr e ↦ absurd (e.1 refl) ]
-behind_part q (x ∷ xs) ys out = elim (same_place x q) [
-  | inl e ↦ absurd (out (inl (sym e.1)))
-  | inr e ↦ rw e.0 (behind_part q xs ys (λ i. out (inr i)))
-]
-
--- from the place behind another on stands what stands behind it
-pub from_next : (places : List ℕ) (p : ℕ) → AreDistinct places → IsIn p places → places_from (first_of (behind (Some p) places)) places ≡ behind (Some p) places
-from_next places p once i = go (behind (Some p) places) (around p places i)
-  where
-    go : (rest : List ℕ) → before p places ++ p ∷ rest ≡ places → places_from (first_of rest) places ≡ rest
-    go [] e = refl
-    go (q ∷ rest) e =
-        let front : List ℕ = before p places ++ p ∷ [] in
-        let all : front ++ q ∷ rest ≡ places = append_assoc (before p places) (p ∷ []) (q ∷ rest) ∙ e in
-        let out : IsIn q front → ⊥ = λ m. distinct_out q front rest (subst AreDistinct (sym all) once) (in_left_part q front rest m) in
-        ap (λ ps. q ∷ ps) (ap (behind (Some q)) (sym all) ∙ behind_part q front rest out)
+use Rattle.yd_listing.specs.declared.row.Ends.{Ends}
+use Rattle.yd_listing.specs.Lending.{Lent, lent, lent_from, lent_at, lent_in, HasNoGone, Walk, units_left, IsRow}
+use Rattle.yd_listing.proofs.RowLemmas.{between_is}
 
 -- ---- units
 
@@ -88,31 +68,36 @@ told_len it place run len told within e f =
 
 -- ---- a walk
 
-abbrev walk_at : Stored → ℕ → Option ℕ → Walk
-walk_at it list next = record { store = it; list = list; next = next }
+abbrev walk_at : Stored → ℕ → Option Ends → Walk
+walk_at it list ends = record { store = it; list = list; ends = ends }
 
-pub next_on_list : (it : Stored) (list : ℕ) (next : Option ℕ) (place : ℕ) → next ≡ Some place → IfSome next (λ p. IsIn p (places_in it.placed list)) → IsIn place (places_in it.placed list)
-next_on_list it list next place e on = subst (λ z. IfSome z (λ p. IsIn p (places_in it.placed list))) e on
+module _ (it : Stored) (list : ℕ) (once : AreDistinct (places_in it.placed list)) where
+  -- what is left is the row
+  pub row_left : (row : List ℕ) (ends : Option Ends) → IsRow it list row ends → units_left (walk_at it list ends) ≡ flat_map (lent_at it) row
+  row_left row ends is = ap (flat_map (lent_at it)) (between_is it list once row ends is)
 
-pub stays_walk : (it : Stored) (list : ℕ) (next : Option ℕ) (place : ℕ) (after : Option ℕ) → IsWalk (walk_at it list next) → IsIn place (places_in it.placed list) →
-    ((k : ℕ) → k < count_of it.placed → IsIn place (places_in it.placed k) → after ≡ first_of (behind (Some place) (places_in it.placed k))) → IsWalk (walk_at it list after)
-stays_walk it list next place after is i value = record {
-  within = is.within;
-  on_list = if_first (places_in it.placed list) after (Some place) (value list is.within i);
-  has_no_gone = is.has_no_gone;
-}
+  -- the first of the units that are to come are those of the first place, and then come the others
+  pub goes_on : (row : List ℕ) (place : ℕ) (ends after : Option Ends) (units : List Lent) → IsRow it list (place ∷ row) ends → IsRow it list row after → units ≡ lent_at it place →
+      units_left (walk_at it list ends) ≡ units ++ units_left (walk_at it list after)
+  goes_on row place ends after units old new u = row_left (place ∷ row) ends old
+      ∙ ap (λ us. us ++ flat_map (lent_at it) row) (sym u) ∙ ap (λ us. units ++ us) (sym (row_left row after new))
 
--- the first of the units that are to come are those of the next place, and then come the others
-pub walk_goes_on : (it : Stored) (list : ℕ) (next : Option ℕ) (place : ℕ) (after : Option ℕ) (units : List Lent) → AreLists it.placed.linked → list < count_of it.placed →
-    next ≡ Some place → IsIn place (places_in it.placed list) →
-    ((k : ℕ) → k < count_of it.placed → IsIn place (places_in it.placed k) → after ≡ first_of (behind (Some place) (places_in it.placed k))) →
-    units ≡ lent_at it place → units_left (walk_at it list next) ≡ units ++ units_left (walk_at it list after)
-walk_goes_on it list next place after units lists lt e i value u =
-    let places : List ℕ = places_in it.placed list in
-    let rest : places_from after places ≡ behind (Some place) places = ap (λ z. places_from z places) (value list lt i) ∙ from_next places place (lists.distinct list lt) i in
-    ap (λ z. flat_map (lent_at it) (places_from z places)) e
-    ∙ ap (λ ps. lent_at it place ++ flat_map (lent_at it) ps) (sym rest)
-    ∙ ap (λ us. us ++ flat_map (lent_at it) (places_from after places)) (sym u)
+  -- the last of them are those of the last place, and before them stand the others
+  pub goes_back : (row : List ℕ) (place : ℕ) (ends after : Option Ends) (units : List Lent) → IsRow it list (row ++ place ∷ []) ends → IsRow it list row after → units ≡ lent_at it place →
+      units_left (walk_at it list ends) ≡ units_left (walk_at it list after) ++ units
+  goes_back row place ends after units old new u = last_left row place ends units old u ∙ ap (λ us. us ++ units) (sym (row_left row after new))
+    where
+      last_left : (row : List ℕ) (place : ℕ) (ends : Option Ends) (units : List Lent) → IsRow it list (row ++ place ∷ []) ends → units ≡ lent_at it place →
+          units_left (walk_at it list ends) ≡ flat_map (lent_at it) row ++ units
+      last_left row place ends units old u = row_left (row ++ place ∷ []) ends old ∙ flat_map-append (lent_at it) row (place ∷ [])
+          ∙ ap (λ us. flat_map (lent_at it) row ++ us) (append-nil (lent_at it place) ∙ sym u)
+
+  pub ends_in : (row : List ℕ) (place : ℕ) (ends : Option Ends) (units : List Lent) → IsRow it list (row ++ place ∷ []) ends → units ≡ lent_at it place →
+      (front : List Lent) × (units_left (walk_at it list ends) ≡ front ++ units)
+  ends_in row place ends units is u = (
+    flat_map (lent_at it) row,
+    row_left (row ++ place ∷ []) ends is ∙ flat_map-append (lent_at it) row (place ∷ []) ∙ ap (λ us. flat_map (lent_at it) row ++ us) (append-nil (lent_at it place) ∙ sym u),
+  )
 
 -- ---- the last place
 
@@ -140,31 +125,3 @@ none_lent it list e = ap (flat_map (lent_at it)) (none (places_in it.placed list
     none : (places : List ℕ) → last_of places ≡ None → places ≡ []
     none [] f = refl
     none (x ∷ xs) f = let some = some_last x xs in (let no : Some some.0 ≡ None = sym some.1 ∙ f in absurd cc)
-
--- ---- the last of what is left
-
--- from a place of a list on, the last place is that of the list
-left_last : (before : Option ℕ) (xs : List ℕ) (p q : ℕ) → IsIn p xs → last_from before xs ≡ Some q → (front : List ℕ) × (p ∷ behind (Some p) xs ≡ front ++ q ∷ [])
-left_last before [] p q i e = absurd i
-left_last before (x ∷ xs) p q i e = elim (same_place x p) [
-  | inl same ↦ rw same.0 (subst (λ k. (front : List ℕ) × (k ∷ xs ≡ front ++ q ∷ [])) same.1 (last_parts x xs q e))
-  | inr other ↦ rw other.0 (left_last (Some x) xs p q (elim i [ inl f ↦ absurd (other.1 (sym f)) | inr j ↦ j ]) e)
-]
-
--- the units of the run at the last place are the last of those that are left, where some are
-pub left_lent : (it : Stored) (list : ℕ) (next : Option ℕ) (first place : ℕ) (units : List Lent) → next ≡ Some first → IsIn first (places_in it.placed list) →
-    last_of (places_in it.placed list) ≡ Some place → units ≡ lent_at it place → (front : List Lent) × (units_left (walk_at it list next) ≡ front ++ units)
-left_lent it list next first place units n i e u = let parts = left_last None (places_in it.placed list) first place i e in (
-  flat_map (lent_at it) parts.0,
-  ap (λ z. flat_map (lent_at it) (places_from z (places_in it.placed list))) n
-      ∙ ap (flat_map (lent_at it)) parts.1 ∙ flat_map-append (lent_at it) parts.0 (place ∷ [])
-      ∙ ap (λ us. flat_map (lent_at it) parts.0 ++ us) (append-nil (lent_at it place) ∙ sym u),
-)
-
--- a list with a place has a last one
-pub some_place : (it : Stored) (list place : ℕ) → IsIn place (places_in it.placed list) → last_of (places_in it.placed list) ≡ None → ⊥
-some_place it list place i e = go (places_in it.placed list) i e
-  where
-    go : (places : List ℕ) → IsIn place places → last_of places ≡ None → ⊥
-    go [] j f = j
-    go (x ∷ xs) j f = let some = some_last x xs in (let no : Some some.0 ≡ None = sym some.1 ∙ f in absurd cc)

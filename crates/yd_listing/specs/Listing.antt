@@ -1,6 +1,7 @@
 -- The lists of a store with names, in the words of the document that it tells (own).
-use Rattle.std.specs.Prelude.{◌≡◌, ◌↔◌, ◌+◌, ◌++◌, true, List, [], Option, Some, None, map}
+use Rattle.std.specs.Prelude.{◌≡◌, ◌≢◌, ◌↔◌, ◌+◌, ◌++◌, true, List, [], Option, Some, None, map}
 use Rattle.yd_words.specs.Each.{Each}
+use Rattle.yd_words.specs.Member.{IsIn}
 use Rattle.yd_ids.specs.declared.id.Id.{Id}
 use Rattle.yd_ids.specs.Id.{IsClient, IsClock}
 use Rattle.yd_ops.specs.declared.lists.List.{List as DocList}
@@ -29,6 +30,12 @@ units_to_come (Some walk) = units_left walk
 -- some units stand behind others, and are the last of all
 abbrev pub EndIn : List Lent → List Lent → Type 0
 EndIn all units = (front : List Lent) × (all ≡ front ++ units)
+
+-- some units stand behind others, none of which has the id
+pub record IsFrom (id : Id) (all units : List Lent) : Type 0 where
+  pub front : List Lent
+  pub parts : all ≡ front ++ units
+  pub apart : (unit : Lent) → IsIn unit front → unit.id ≢ id
 
 -- the id of a unit is in range, and so is the clock behind it
 pub record HasRoom (unit : Lent) : Type 0 where

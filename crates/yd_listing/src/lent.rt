@@ -6,6 +6,7 @@ ghost use Rattle.yd_ops.specs.Value.{len_of};
 ghost use Rattle.yd_scan.specs.Stretches.{stretch_at};
 ghost use Rattle.yd_arena.specs.Arena.{runs_of};
 ghost use Rattle.yd_store.specs.Contents.{told_of, run_at};
+ghost use Rattle.yd_store.specs.Store.{AreTold};
 ghost use Rattle.yd_listing.specs.Lending.{units_of_run, lent_at};
 
 use yd_ids::Id;
@@ -25,15 +26,15 @@ pub struct LentRun<'a> {
     pub content: &'a Content,
 }
 
-/// The run at a place, which is not gone.
+/// The run at a place, which is not gone. It takes a few loads.
 pub(crate) fn lent_run(store: &Store, place: usize) -> LentRun<'_>
     requires place { place < length (runs_of store.now.placed) }
     requires told { run_at (told_of store.now.contents) place ≢ None }
+    requires sound { AreTold (runs_of store.now.placed) (told_of store.now.contents) }
     ensures units { units_of_run result ≡ lent_at store.now place }
     ensures len { result.len ≡ (stretch_at (runs_of store.now.placed) place).len }
     ensures held { result.len ≡ len_of (content_value result.content.now) }
 {
-    store.is_sound();
     let deleted = store.is_deleted(place);
     let Some(run) = store.run_of(place) else {
         unreachable!();

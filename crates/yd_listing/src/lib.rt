@@ -2,8 +2,8 @@
 //!
 //! What is told is said of each document that the store tells: its lists are those of the store,
 //! and its deleted ids those that are marked (`specs/Listing.antt`). A list is found in time with the
-//! logarithm of how many lists there are, and a unit by a bisection. Reading takes a few steps a run
-//! and no memory.
+//! logarithm of how many lists there are, and a unit by a bisection. Reading takes a few loads a run,
+//! from either end, and no memory.
 //!
 //! ```rust
 //! let mut view = list(&kept, &name);
@@ -31,7 +31,9 @@ mod listing;
 mod naming;
 mod outliving;
 mod queue;
+mod row;
 mod spans;
+mod standing;
 mod walking;
 
 pub use came::Came;
@@ -40,6 +42,6 @@ pub use ends::last_run;
 pub use finding::{UnitView, unit};
 pub use last::last_of;
 pub use lent::LentRun;
-pub use listing::{ListView, list, list_at};
+pub use listing::{ListView, list, list_at, list_from};
 pub use walking::{ListWalk, walk};
 pub use yd_ops::NoMemory;

@@ -8,11 +8,14 @@ ghost use Rattle.yd_meaning.specs.Document.{Document};
 ghost use Rattle.yd_arena.specs.Arena.{count_of};
 ghost use Rattle.yd_listing.specs.Lending.{units_of_run, units_left};
 ghost use Rattle.yd_listing.specs.Falling.{IsTold};
-ghost use Rattle.yd_listing.specs.Listing.{Tells, lent_units, units_to_come, EndIn};
+ghost use Rattle.yd_listing.specs.Listing.{Tells, lent_units, units_to_come, EndIn, IsFrom};
 ghost use Rattle.yd_listing.specs.Listing.{AreInRange, IsInRange};
 
+use crate::standing::place_in;
+use crate::walking::walk_from;
 use crate::{LentRun, ListWalk, walk};
 use std::marker::Model;
+use yd_ids::Id;
 use yd_kept::Kept;
 use yd_ops::List;
 
@@ -65,6 +68,36 @@ pub fn list_at(kept: &Kept, n: usize) -> ListView<'_>
     }
 }
 
+/// The units of the list with a name from the run on that has the unit with an id, deleted ones too,
+/// and none where no unit of the list has the id. It takes a bisection, and time with the logarithm of
+/// how many lists there are.
+pub fn list_from<'a>(kept: &'a Kept, name: &List, id: Id) -> ListView<'a>
+    requires { IsTold kept.now }
+    ensures { (document : Document) → Tells kept.now document →
+        IsFrom id (lent_units document name.now) (units_to_come result) }
+{
+    match kept.number_of(name) {
+        Some(number) => list_at_from(kept, number, id),
+        None => ListView { walk: None },
+    }
+}
+
+/// The units of the list with a number from the run on that has the unit with an id, deleted ones too.
+fn list_at_from(kept: &Kept, n: usize, id: Id) -> ListView<'_>
+    requires told { IsTold kept.now }
+    requires within { n < count_of kept.now.store.placed }
+    ensures { (document : Document) → Tells kept.now document → (name : DocList) →
+        slice_get kept.now.names n ≡ Some name →
+        IsFrom id (lent_units document name) (units_to_come result) }
+{
+    match place_in(kept.store(), n, id) {
+        None => ListView { walk: None },
+        Some(place) => ListView {
+            walk: Some(walk_from(kept.store(), n, place)),
+        },
+    }
+}
+
 impl<'a> ListView<'a> {
     /// The next run's units, or none where no unit is left. It takes no memory, and a few steps.
     pub fn next(&mut self) -> Option<LentRun<'a>>
@@ -78,6 +111,22 @@ impl<'a> ListView<'a> {
         match &mut self.walk {
             None => None,
             Some(walk) => next_in_range(walk),
+        }
+    }
+
+    /// The last of the runs that are still to come, which is then not to come any more, or none where
+    /// no unit is left. It takes no memory, and a few steps.
+    pub fn next_back(&mut self) -> Option<LentRun<'a>>
+        ensures lends { MatchOption result (units_to_come self.old ≡ [])
+            (λ run. units_to_come self.old ≡ units_to_come self.new ++ units_of_run run) }
+        ensures some { IfSome result (λ run. 0 < run.len) }
+        ensures len { IfSome result (λ run. run.len ≡ len_of (content_value run.content.now)) }
+        ensures within { IfSome result IsInRange }
+        ensures ended { IfNone result (units_to_come self.new ≡ []) }
+    {
+        match &mut self.walk {
+            None => None,
+            Some(walk) => back_in_range(walk),
         }
     }
 
@@ -121,4 +170,18 @@ fn next_in_range<'a>(walk: &mut ListWalk<'a>) -> Option<LentRun<'a>>
     ensures still { AreInRange (Some walk.new) }
 {
     walk.next()
+}
+
+/// The last run of a walk, taken off, where the ids of all units that are still to come are in range.
+fn back_in_range<'a>(walk: &mut ListWalk<'a>) -> Option<LentRun<'a>>
+    requires { AreInRange (Some walk.old) }
+    ensures lends { MatchOption result (units_left walk.old ≡ [])
+        (λ run. units_left walk.old ≡ units_left walk.new ++ units_of_run run) }
+    ensures some { IfSome result (λ run. 0 < run.len) }
+    ensures len { IfSome result (λ run. run.len ≡ len_of (content_value run.content.now)) }
+    ensures within { IfSome result IsInRange }
+    ensures ended { IfNone result (units_left walk.new ≡ []) }
+    ensures still { AreInRange (Some walk.new) }
+{
+    walk.next_back()
 }

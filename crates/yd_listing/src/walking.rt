@@ -1,12 +1,14 @@
-//! A walk through a list, from its first place to its last.
+//! A walk through a list, from both of its ends.
 
 ghost use Rattle.std.specs.Prelude.{◌≡◌, ◌++◌, ◌<◌, List, [], IfSome, IfNone, MatchOption};
 ghost use Rattle.yd_ops.specs.View.{content_value};
 ghost use Rattle.yd_ops.specs.Value.{len_of};
-ghost use Rattle.yd_arena.specs.Arena.{count_of};
-ghost use Rattle.yd_listing.specs.Lending.{Lent, HasNoGone, units_of_run, lent_in, units_left};
+ghost use Rattle.yd_words.specs.Member.{IsIn};
+ghost use Rattle.yd_arena.specs.Arena.{count_of, places_in};
+ghost use Rattle.yd_listing.specs.Lending.{Lent, HasNoGone, units_of_run, lent_in, lent_from_place, units_left};
 
 use crate::lent::{LentRun, lent_run};
+use crate::row::{Ends, all, all_from, without_first, without_last};
 use std::marker::Model;
 use yd_store::Store;
 
@@ -15,7 +17,7 @@ use yd_store::Store;
 pub struct ListWalk<'a> {
     store: &'a Store,
     list: usize,
-    next: Option<usize>,
+    ends: Option<Ends>,
 }
 
 impl<'a> Model for ListWalk<'a> {
@@ -28,12 +30,12 @@ impl<'a> Model for ListWalk<'a> {
 
     ghost coded = { Prim.hlevel (codes, json.the_row.coded, any_list.the_row.coded) };
 
-    ghost view = { λ it. record { store = it.store.now; list = it.list; next = it.next } };
+    ghost view = { λ it. record { store = it.store.now; list = it.list; ends = it.ends } };
 
     ghost invariant = { λ it. IsWalk (record {
       store = it.store.now;
       list = it.list;
-      next = it.next;
+      ends = it.ends;
     }) };
 }
 
@@ -43,10 +45,26 @@ pub fn walk(store: &Store, list: usize) -> ListWalk<'_>
     requires told { HasNoGone store.now list }
     ensures { units_left result ≡ lent_in store.now list }
 {
+    store.is_sound();
     ListWalk {
         store,
         list,
-        next: store.first(list),
+        ends: all(store, list),
+    }
+}
+
+/// The units of a list, of which none is gone, from a place of it on. It takes a few steps.
+pub(crate) fn walk_from(store: &Store, list: usize, place: usize) -> ListWalk<'_>
+    requires list { list < count_of store.now.placed }
+    requires told { HasNoGone store.now list }
+    requires place { IsIn place (places_in store.now.placed list) }
+    ensures { units_left result ≡ lent_from_place store.now list place }
+{
+    store.is_sound();
+    ListWalk {
+        store,
+        list,
+        ends: all_from(store, list, place),
     }
 }
 
@@ -59,10 +77,24 @@ impl<'a> ListWalk<'a> {
         ensures len { IfSome result (λ run. run.len ≡ len_of (content_value run.content.now)) }
         ensures ended { IfNone result (units_left self.new ≡ []) }
     {
-        let place = self.next?;
-        self.store.is_sound();
-        let run = lent_run(self.store, place);
-        self.next = self.store.next(place);
+        let ends = self.ends?;
+        let run = lent_run(self.store, ends.first);
+        self.ends = without_first(self.store, self.list, ends);
+        Some(run)
+    }
+
+    /// The last of the runs that are still to come, which is then not to come any more, or none where
+    /// no unit is left. It takes no memory, and a few steps.
+    pub fn next_back(&mut self) -> Option<LentRun<'a>>
+        ensures lends { MatchOption result (units_left self.old ≡ [])
+            (λ run. units_left self.old ≡ units_left self.new ++ units_of_run run) }
+        ensures some { IfSome result (λ run. 0 < run.len) }
+        ensures len { IfSome result (λ run. run.len ≡ len_of (content_value run.content.now)) }
+        ensures ended { IfNone result (units_left self.new ≡ []) }
+    {
+        let ends = self.ends?;
+        let run = lent_run(self.store, ends.last);
+        self.ends = without_last(self.store, self.list, ends);
         Some(run)
     }
 
@@ -75,11 +107,7 @@ impl<'a> ListWalk<'a> {
         ensures len { IfSome result (λ run. run.len ≡ len_of (content_value run.content.now)) }
         ensures none { IfNone result (units_left self.now ≡ []) }
     {
-        let _next = self.next?;
-        let Some(place) = self.store.last(self.list) else {
-            return None;
-        };
-        self.store.is_sound();
-        Some(lent_run(self.store, place))
+        let ends = self.ends?;
+        Some(lent_run(self.store, ends.last))
     }
 }

@@ -3,6 +3,7 @@ use Rattle.std.proofs.Common.{◌≡◌, ◌≢◌, ◌⊎◌, ◌<◌, ◌≤�
 use Rattle.std.specs.Prelude.{slice_get, is_some, if◌then◌else◌}
 use Rattle.std.proofs.lemmas.List.{length-take-le}
 use Rattle.yd_words.specs.Each.{Each}
+use Rattle.yd_words.specs.Member.{IsIn}
 use Rattle.yd_words.specs.Test.{is_some_and}
 use Rattle.yd_any.specs.Tree.{AnyTrees, no_trees, tree}
 use Rattle.yd_ids.specs.declared.id.Id.{Id}
@@ -149,6 +150,19 @@ module _ (view : RunView) (within : IsWithin view) where
 -- the unit that an id is, so many behind the first
 pub id_behind : (id x : Id) → x.client.0 ≡ id.client.0 → id.clock ≤ x.clock → later_id id (x.clock - id.clock) ≡ x
 id_behind id x e le = same_numbers (later_id id (x.clock - id.clock)) x (sym e) (omega (arith, le))
+
+-- among units of which none has the id it is not found
+found_behind : (x : Id) (front rest : List Lent) → ((u : Lent) → IsIn u front → u.id ≢ x) → found_in x rest ≡ found_in x (front ++ rest)
+found_behind x [] rest apart = refl
+found_behind x (u ∷ us) rest apart = go (is_same u.id x) refl (found_behind x us rest (λ v i. apart v (inr i)))
+  where
+    go : (t : Bool) → is_same u.id x ≡ t → found_in x rest ≡ found_in x (us ++ rest) →
+        found_in x rest ≡ (if t then Some (record { is_high = is_text_and is_high u.content; next = first_id (us ++ rest) }) else found_in x (us ++ rest))
+    go true e f = absurd (apart u (inl refl) (same_is u.id x e))
+    go false e f = f
+
+pub found_from : (x : Id) (all units front : List Lent) → all ≡ front ++ units → ((u : Lent) → IsIn u front → u.id ≢ x) → found_in x units ≡ found_in x all
+found_from x all units front parts apart = found_behind x front units apart ∙ ap (found_in x) (sym parts)
 
 -- ---- contents
 

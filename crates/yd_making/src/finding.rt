@@ -37,12 +37,13 @@ pub(crate) fn first_of(state: &State, list: &List) -> Option<Id>
     next_id(&mut view)
 }
 
-/// The unit with the id in a list, if it is one of the list's. It takes time as reading the list by
-/// pieces does, up to that unit.
+/// The unit with the id in a list, if it is one of the list's. It takes a bisection, and time with the
+/// logarithm of how many lists there are.
 pub(crate) fn find(state: &State, list: &List, id: Id) -> Option<Found>
     ensures { result ≡ found_in id (lent_units (document_in state.now) list.now) }
 {
-    let mut view = state.list(list);
+    // The view begins with the run that has the unit, or is empty.
+    let mut view = state.list_from(list, id);
     while let Some(piece) = view.next() {
         if has_id(&piece, id) {
             return Some(found_at(&piece, id.clock - piece.id.clock, &mut view));

@@ -27,7 +27,7 @@ impl<'a> Basis<'a> {
     /// Why an edit of these steps is refused, and nothing where it is not. All steps are asked for
     /// one kind of refusal before any is asked for the next: NoPlace, NotHeld, InsidePair,
     /// OwnWaiting, ClockFull. Of one kind the first step that has it answers. It takes no memory, and
-    /// for each step that makes something time as reading its list by pieces does.
+    /// some look-ups for each step that makes something.
     pub fn refusal(&self, steps: &StepList) -> Option<EditFault>
         requires client { IsClient self.now.client }
         requires proper { Each IsProper (steps_value steps.now) }
@@ -212,6 +212,7 @@ impl<'a> Basis<'a> {
 
     /// The smallest clock of the own client that waits, where a step makes something.
     fn waiting_fault(&self, steps: &[Step]) -> Option<EditFault>
+        requires { IsClient self.now.client }
         ensures { result ≡ fault_given
             (first_of_steps (waiting_refusal (basis_of_given self.now)) (steps_value steps.now)) }
     {
@@ -226,9 +227,11 @@ impl<'a> Basis<'a> {
 
     /// The smallest clock of the own client that waits.
     fn own_waiting(&self) -> Option<u64>
+        requires { IsClient self.now.client }
         ensures { result ≡ (basis_of_given self.now).waits }
     {
-        first_clock(self.state.received().entries(), self.client)
+        let reached = self.state.held().vector().get(self.client);
+        first_clock(self.state.received().entries(), self.client, reached)
     }
 
     /// The clock of the first unit that is made.

@@ -21,8 +21,8 @@ use yd_ops::Update;
 impl<'a> Basis<'a> {
     /// The update of an edit of these steps, which is not refused: one item for each step that makes
     /// something, in one block, and the ids that are removed. Contents are moved into it, and none is
-    /// copied. For each step that makes something it takes time as reading its list by pieces does,
-    /// and a look at each earlier step.
+    /// copied. For each step that makes something it takes some look-ups, and a look at each earlier
+    /// step.
     pub fn update(&self, alloc: Global, steps: StepList) -> Result<Update, NoMemory>
         requires client { IsClient self.now.client }
         requires proper { Each IsProper (steps_value steps) }

@@ -61,6 +61,19 @@ impl<'a> ListView<'a> {
         Some(whole(run))
     }
 
+    /// The last units, at least one, which are then not to come any more, or none where no unit is left.
+    /// It takes no memory, and a few steps.
+    pub fn next_back(&mut self) -> Option<RunView<'a>>
+        ensures lends { MatchOption result (units_left self.old ≡ [])
+            (λ view. units_left self.old ≡ units_left self.new ++ units_of_view view) }
+        ensures some { IfSome result (λ view. 0 < view.len) }
+        ensures within { IfSome result IsWithin }
+        ensures ended { IfNone result (units_left self.new ≡ []) }
+    {
+        let run = self.units.next_back()?;
+        Some(whole(run))
+    }
+
     /// The last of the units that are still to come, or none where no unit is left. It takes no memory,
     /// and a few steps.
     pub fn last(&self) -> Option<RunView<'a>>

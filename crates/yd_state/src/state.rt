@@ -11,7 +11,7 @@ ghost use Rattle.yd_ops.specs.ReceivedLaw.{ArePaired};
 ghost use Rattle.yd_meaning.specs.Held.{held_set, held_clock, waiting_counts};
 ghost use Rattle.yd_meaning.specs.Document.{AreDeletedIn};
 ghost use Rattle.yd_listing.specs.Falling.{IsTold};
-ghost use Rattle.yd_listing.specs.Listing.{Tells};
+ghost use Rattle.yd_listing.specs.Listing.{Tells, IsFrom};
 ghost use Rattle.yd_state.specs.State.{received_in, document_in, IsSound};
 ghost use Rattle.yd_state.specs.Brings.{BringsUnknown};
 ghost use Rattle.yd_state.specs.Lent.{lent_units, units_left, last_unit};
@@ -29,7 +29,7 @@ use std::marker::Model;
 use yd_held::Held;
 use yd_ids::{Id, IdSet, Vector};
 use yd_kept::Kept;
-use yd_listing::{last_of, list as units_of};
+use yd_listing::{last_of, list as units_of, list_from as units_from};
 use yd_ops::{List, Update};
 use yd_received::Received;
 
@@ -189,6 +189,17 @@ impl State {
     {
         ListView {
             units: units_of(&self.kept, list),
+        }
+    }
+
+    /// The units of a list in order from the run on that has the unit with an id, deleted ones too, and
+    /// none where no unit of the list has the id. It takes a bisection, and time with the logarithm of
+    /// how many lists there are.
+    pub fn list_from(&self, list: &List, id: Id) -> ListView<'_>
+        ensures { IsFrom id (lent_units (document_in self.now) list.now) (units_left result) }
+    {
+        ListView {
+            units: units_from(&self.kept, list, id),
         }
     }
 

@@ -6,4 +6,4 @@ pub returns-clause-units : goal.returns-clause-units
 returns-clause-units c = told_lent c.args.store.now c.args.place (run_value c.in-Some.run'.now) c.is_deleted-deleted.result c.in-Some.ensures c.is_deleted-deleted.ensures
 
 pub returns-clause-len : goal.returns-clause-len
-returns-clause-len c = told_len c.args.store.now c.args.place (run_value c.in-Some.run'.now) c.len.result c.is_sound.ensures.told c.requires.place c.in-Some.ensures c.len.ensures
+returns-clause-len c = told_len c.args.store.now c.args.place (run_value c.in-Some.run'.now) c.len.result c.requires.sound c.requires.place c.in-Some.ensures c.len.ensures

@@ -2,7 +2,7 @@ use Rattle.std.proofs.Common.{◌≡◌, length}
 use Rattle.std.specs.Prelude.{slice_get}
 use Rattle.yd_state.specs.Lent.{units_left}
 use Rattle.yd_doc.specs.Counted.{counted_ids}
-use Rattle.yd_doc.proofs.replica.Replica.unit_at.Given as goal
+use Rattle.yd_doc.proofs.replica.Replica.unit_from_front.Given as goal
 
 -- the unit is so many behind those that came
 abbrev pub invariant-loop-piece : goal.invariant-loop-piece

@@ -1,0 +1,43 @@
+use Rattle.std.proofs.Common.{◌≡◌, ◌∷◌, ◌++◌, [], Some, arith, sym, subst}
+use Rattle.yd_listing.specs.Lending.{Walk, IsRow, units_of_run, units_left}
+use Rattle.yd_listing.proofs.RowLemmas.{row_last, has_last}
+use Rattle.yd_listing.proofs.WalkLemmas.{place_told, goes_back}
+use Rattle.yd_listing.proofs.walking.ListWalk.next_back.Goals as goal
+
+pub lent_run-run-requires-clause-place : goal.lent_run-run-requires-clause-place
+lent_run-run-requires-clause-place c =
+    let i = has_last c.self.inside.store.now c.self.inside.list c.self.invariant.row c.in_ok-ends.ends (subst (IsRow c.self.inside.store.now c.self.inside.list c.self.invariant.row) c.in_ok-ends.was c.self.invariant.is_row) in
+    c.self.invariant.lists.within c.self.inside.list c.in_ok-ends.ends.last c.self.invariant.within i
+
+pub lent_run-run-requires-clause-told : goal.lent_run-run-requires-clause-told
+lent_run-run-requires-clause-told c =
+    let i = has_last c.self.inside.store.now c.self.inside.list c.self.invariant.row c.in_ok-ends.ends (subst (IsRow c.self.inside.store.now c.self.inside.list c.self.invariant.row) c.in_ok-ends.was c.self.invariant.is_row) in
+    place_told c.self.inside.store.now c.self.inside.list c.in_ok-ends.ends.last c.self.invariant.lists c.self.invariant.within i c.self.invariant.has_no_gone
+
+pub without_last-self-inside-requires-clause-place : goal.without_last-self-inside-requires-clause-place
+without_last-self-inside-requires-clause-place c = has_last c.self.inside.store.now c.self.inside.list c.self.invariant.row c.in_ok-ends.ends (subst (IsRow c.self.inside.store.now c.self.inside.list c.self.invariant.row) c.in_ok-ends.was c.self.invariant.is_row)
+
+pub invariant_of-self : goal.invariant_of-self
+invariant_of-self c =
+    let last = row_last c.self.inside.store.now c.self.inside.list c.self.invariant.row c.in_ok-ends.ends (subst (IsRow c.self.inside.store.now c.self.inside.list c.self.invariant.row) c.in_ok-ends.was c.self.invariant.is_row) in record {
+      within = c.self.invariant.within;
+      row = last.0;
+      is_row = c.without_last-self-inside.ensures last.0 (subst (λ row. IsRow c.self.inside.store.now c.self.inside.list row (Some c.in_ok-ends.ends)) last.1 (subst (IsRow c.self.inside.store.now c.self.inside.list c.self.invariant.row) c.in_ok-ends.was c.self.invariant.is_row));
+      has_no_gone = c.self.invariant.has_no_gone;
+      lists = c.self.invariant.lists;
+      told = c.self.invariant.told;
+    }
+
+pub returns-clause-lends : goal.returns-clause-lends
+returns-clause-lends c =
+    let last = row_last c.self.inside.store.now c.self.inside.list c.self.invariant.row c.in_ok-ends.ends (subst (IsRow c.self.inside.store.now c.self.inside.list c.self.invariant.row) c.in_ok-ends.was c.self.invariant.is_row) in
+    let old = subst (λ row. IsRow c.self.inside.store.now c.self.inside.list row (Some c.in_ok-ends.ends)) last.1 (subst (IsRow c.self.inside.store.now c.self.inside.list c.self.invariant.row) c.in_ok-ends.was c.self.invariant.is_row) in
+    subst (λ (w : Walk). units_left w ≡ units_left (record { store = c.self.inside.store.now; list = c.self.inside.list; ends = c.without_last-self-inside.result })
+    ++ units_of_run c.lent_run-run.result) c.self.view_is
+    (goes_back c.self.inside.store.now c.self.inside.list (c.self.invariant.lists.distinct c.self.inside.list c.self.invariant.within) last.0 c.in_ok-ends.ends.last c.self.inside.ends c.without_last-self-inside.result (units_of_run c.lent_run-run.result)
+    (subst (IsRow c.self.inside.store.now c.self.inside.list (last.0 ++ c.in_ok-ends.ends.last ∷ [])) (sym c.in_ok-ends.was) old) (c.without_last-self-inside.ensures last.0 old) c.lent_run-run.ensures.units)
+
+pub returns-clause-some : goal.returns-clause-some
+returns-clause-some c =
+    let i = has_last c.self.inside.store.now c.self.inside.list c.self.invariant.row c.in_ok-ends.ends (subst (IsRow c.self.inside.store.now c.self.inside.list c.self.invariant.row) c.in_ok-ends.was c.self.invariant.is_row) in
+    omega (arith, c.lent_run-run.ensures.len, c.self.invariant.lists.filled c.self.inside.list c.in_ok-ends.ends.last c.self.invariant.within i)
