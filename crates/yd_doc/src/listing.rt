@@ -4,7 +4,7 @@ ghost use Rattle.std.specs.Prelude.{◌≡◌};
 ghost use Rattle.yd_words.specs.Member.{IsIn};
 ghost use Rattle.yd_ops.specs.Operation.{Operation};
 ghost use Rattle.yd_ops.specs.ReceivedLaw.{ArePaired};
-ghost use Rattle.yd_state.specs.Lent.{lent_units, units_left, last_unit};
+ghost use Rattle.yd_state.specs.Lent.{lent_units, units_left, last_unit, IsAround};
 ghost use Rattle.yd_doc.specs.Kept.{received_of, own_document};
 
 use crate::replica::Replica;
@@ -22,6 +22,17 @@ impl Replica {
         ensures whole { ArePaired (received_of self.now).operations }
     {
         self.state.list(list)
+    }
+
+    /// The units of a list in order from the run on that stands before the one with an id's unit, deleted
+    /// ones too, and all of them where no run does. It takes a bisection, and time with the logarithm of
+    /// how many lists there are.
+    pub fn list_around(&self, list: &List, id: Id) -> ListView<'_>
+        ensures around { IsAround id (lent_units (own_document self.now) list.now) (units_left result) }
+        ensures received { (o : Operation) → IsIn o ((own_document self.now).units list.now)
+            → IsIn o (received_of self.now).operations }
+    {
+        self.state.list_around(list, id)
     }
 
     /// The id of the unit that stands last in a list, deleted or not, and none where the list has no

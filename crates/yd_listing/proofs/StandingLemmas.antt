@@ -1,30 +1,34 @@
 -- Units of a list from the run on that has one of them.
-use Rattle.std.proofs.Common.{◌≡◌, ◌≢◌, ℕ, ◌<◌, ◌≤◌, ◌-◌, inl, inr, Bool, List, [], ◌∷◌, ◌++◌, Option, Some, map, length, refl, sym, ap, ◌∙◌, subst, arith}
+use Rattle.std.proofs.Common.{◌≡◌, ◌≢◌, ℕ, zero, suc, ◌<◌, ◌≤◌, ◌-◌, inl, inr, Bool, List, [], ◌∷◌, ◌++◌, Option, Some, None, map, length, refl, sym, ap, ◌∙◌, subst, arith}
 use Rattle.std.proofs.lemmas.Grind.{flat_map-append}
-use Rattle.std.specs.Prelude.{slice_get, flat_map}
+use Rattle.std.specs.Prelude.{IfSome, slice_get, flat_map, if◌then◌else◌}
+use Rattle.std.proofs.lemmas.List.{length-map}
 use Rattle.yd_words.specs.Each.{Each}
 use Rattle.yd_words.specs.Member.{IsIn}
-use Rattle.yd_words.proofs.MemberLemmas.{in_left_part, in_right_part, in_parts}
+use Rattle.yd_words.proofs.MemberLemmas.{in_left_part, in_parts}
 use Rattle.yd_ids.specs.declared.id.Id.{Id}
 use Rattle.yd_ops.specs.declared.lists.List.{List as DocList}
-use Rattle.yd_ops.specs.Operation.{Operation}
-use Rattle.yd_chains.specs.Chain.{behind, before}
-use Rattle.yd_chains.proofs.ChainLemmas.{around, distinct_out}
+use Rattle.yd_ops.specs.Operation.{UnitContent, Operation, units_of_content, operations_from, gone_from}
+use Rattle.yd_ops.specs.Value.{RunValue}
+use Rattle.yd_ops.proofs.OperationLemmas.{length-units_of_content}
+use Rattle.yd_chains.specs.Chain.{last_of, behind, before}
+use Rattle.yd_chains.proofs.ChainLemmas.{same_place, around, last_in, distinct_out}
 use Rattle.yd_words.specs.Member.{AreDistinct}
+use Rattle.yd_scan.specs.declared.stretch.Stretch.{Stretch}
 use Rattle.yd_scan.specs.Stretches.{stretch_at}
 use Rattle.yd_arena.specs.Lists.{AreLists}
 use Rattle.yd_arena.specs.Arena.{runs_of, count_of, places_in, next_clock, IsArena, HasUnit}
 use Rattle.yd_arena.proofs.ArenaLemmas.{unit_below, units_stand_once}
 use Rattle.yd_arena.specs.Marks.{mark_at}
-use Rattle.yd_store.specs.Contents.{told_of}
-use Rattle.yd_store.specs.Store.{Stored, AreTold, StandsIn}
-use Rattle.yd_store.specs.Units.{operations_at, HasOperation}
+use Rattle.yd_store.specs.Contents.{told_of, run_at}
+use Rattle.yd_store.specs.Store.{Stored, IsRunOf, AreTold, StandsIn}
+use Rattle.yd_store.specs.Units.{operations_told, operations_at, HasOperation}
 use Rattle.yd_store.proofs.HalvesLemmas.{has_unit}
 use Rattle.yd_meaning.specs.Document.{Document}
 use Rattle.yd_kept.specs.Kept.{KeptValue}
 use Rattle.yd_listing.specs.Falling.{IsTold}
-use Rattle.yd_listing.specs.Lending.{Lent, lent, lent_at, lent_in, lent_from_place, StandsAt}
-use Rattle.yd_listing.specs.Listing.{Tells, lent_units, HasRoom, IsFrom}
+use Rattle.yd_listing.specs.Lending.{Lent, lent, lent_at, lent_in, lent_from_place, StandsAt, StandsBefore}
+use Rattle.yd_listing.specs.Listing.{Tells, lent_units, HasRoom, IsFrom, BeginsApart, IsAround}
 use Rattle.yd_listing.proofs.ListingLemmas.{named_lent, list_ranged}
 
 -- ---- what does not stand in a list
@@ -47,6 +51,39 @@ in_lent : (mark : Bool) (os : List Operation) (u : Lent) → IsIn u (map (lent m
 in_lent mark [] u i = absurd i
 in_lent mark (o ∷ os) u (inl e) = (o, inl refl, ap (λ (w : Lent). w.id) (sym e))
 in_lent mark (o ∷ os) u (inr i) = let more = in_lent mark os u i in (more.0, inr more.1, more.2)
+
+last_of_in : (places : List ℕ) (p : ℕ) → Some p ≡ last_of places → IsIn p places
+last_of_in [] p e = (let no : Some p ≡ None = e in absurd cc)
+last_of_in (x ∷ xs) p e = last_in x xs p (sym e)
+
+-- what stands before a place of a list's front is in the front
+before_within : (q p : ℕ) (xs ys : List ℕ) → IsIn p xs → IsIn q (before p (xs ++ ys)) → IsIn q xs
+before_within q p [] ys i j = absurd i
+before_within q p (x ∷ xs) ys i j = elim (same_place x p) [
+  | inl e ↦ absurd (subst (λ t. IsIn q (if t then [] else x ∷ before p (xs ++ ys))) e.0 j)
+  | inr e ↦ elim (subst (λ t. IsIn q (if t then [] else x ∷ before p (xs ++ ys))) e.0 j) [
+    | inl f ↦ inl f
+    | inr k ↦ inr (before_within q p xs ys (elim i [ inl g ↦ absurd (e.1 (sym g)) | inr h ↦ h ]) k)
+  ]
+]
+
+gone_some : (id : Id) (n : ℕ) → 0 < n → 0 < length (gone_from id n)
+gone_some id zero some = absurd (omega (arith, some))
+gone_some id (suc n) some = omega arith
+
+operations_some : (id : Id) (left right : Option Id) (list : Option DocList) (us : List UnitContent) → 0 < length us → 0 < length (operations_from id left right list us)
+operations_some id left right list [] some = absurd (omega (arith, some))
+operations_some id left right list (u ∷ us) some = omega arith
+
+-- a run has an operation
+told_some : (run : Stretch) (told : Option RunValue) → IfSome told (IsRunOf run) → 0 < run.len → 0 < length (operations_told run told)
+told_some run None fits some = gone_some run.id run.len some
+told_some run (Some it) fits some = operations_some it.id it.left it.right it.list (units_of_content it.content)
+    (omega (arith, some, fits.len_is, length-units_of_content it.content))
+
+begins : (id : Id) (us rest : List Lent) → 0 < length us → ((u : Lent) → IsIn u us → u.id ≢ id) → BeginsApart id (us ++ rest)
+begins id [] rest some apart = absurd (omega (arith, some))
+begins id (u ∷ us) rest some apart = apart u (inl refl)
 
 module _ (it : Stored) (arena : IsArena it.placed.lines (runs_of it.placed)) (lists : AreLists it.placed.linked) (told : AreTold (runs_of it.placed) (told_of it.contents))
     (list : ℕ) (lt : list < count_of it.placed) where
@@ -93,7 +130,70 @@ module _ (it : Stored) (arena : IsArena it.placed.lines (runs_of it.placed)) (li
         distinct_out place front rest (subst AreDistinct (sym all_are) (lists.distinct list lt))
         (in_left_part place front rest (subst (λ p. IsIn p front) one.0 at.1))
 
+  -- ---- from the place before on
+
+  -- a place of a list lends a unit
+  lent_some : (p : ℕ) → IsIn p (places_in it.placed list) → 0 < length (lent_at it p)
+  lent_some p i = omega (
+    arith,
+    told_some (stretch_at (runs_of it.placed) p) (run_at (told_of it.contents) p) (told.fits p (lists.within list p lt i)) (lists.filled list p lt i),
+    length-map (operations_at (runs_of it.placed) (told_of it.contents) p) (lent (mark_at it.marks.rows p).deleted),
+  )
+
+  module _ (id : Id) (place : ℕ) (b : StandsBefore it list id place) where
+    abbrev earlier : List ℕ
+    earlier = before b.next (places_in it.placed list)
+
+    abbrev later : List ℕ
+    later = behind (Some b.next) (places_in it.placed list)
+
+    both_are : earlier ++ b.next ∷ later ≡ places_in it.placed list
+    both_are = around b.next (places_in it.placed list) b.stands.member
+
+    is_earlier : IsIn place earlier
+    is_earlier = last_of_in earlier place b.is_prev
+
+    pub before_member : IsIn place (places_in it.placed list)
+    before_member = subst (IsIn place) both_are (in_left_part place earlier (b.next ∷ later) is_earlier)
+
+    -- no earlier place has the id
+    not_earlier : (q n : ℕ) → HasUnit (runs_of it.placed) q n id → IsIn q earlier → ⊥
+    not_earlier q n has i =
+        let one = units_stand_once it.placed.lines (runs_of it.placed) id q n b.next b.stands.before arena has b.stands.has in
+        distinct_out b.next earlier later (subst AreDistinct (sym both_are) (lists.distinct list lt))
+        (in_left_part b.next earlier later (subst (λ p. IsIn p earlier) one.0 i))
+
+    earlier_apart : (places : List ℕ) → ((p : ℕ) → IsIn p places → IsIn p earlier) → (u : Lent) → IsIn u (flat_map (lent_at it) places) → u.id ≢ id
+    earlier_apart places on u i e =
+        let at = lent_stands places (λ p j. subst (IsIn p) both_are (in_left_part p earlier (b.next ∷ later) (on p j))) u i in
+        not_earlier at.0 at.2 (subst (HasUnit (runs_of it.placed) at.0 at.2) e at.3) (on at.0 at.1)
+
+    -- so none does before it
+    front_apart : (u : Lent) → IsIn u (flat_map (lent_at it) (before place (places_in it.placed list))) → u.id ≢ id
+    front_apart = earlier_apart (before place (places_in it.placed list))
+        (λ p j. before_within p place earlier (b.next ∷ later) is_earlier (subst (λ ks. IsIn p (before place ks)) (sym both_are) j))
+
+    -- and not its first unit
+    begins_apart : BeginsApart id (lent_from_place it list place)
+    begins_apart = begins id (lent_at it place) (flat_map (lent_at it) (behind (Some place) (places_in it.placed list))) (lent_some place before_member)
+        (λ u i. earlier_apart (place ∷ []) (λ p j. elim j [ inl e ↦ subst (λ q. IsIn q earlier) (sym e) is_earlier | inr k ↦ absurd k ]) u
+        (in_left_part u (lent_at it place) [] i))
+
+    around_lent : lent_in it list ≡ flat_map (lent_at it) (before place (places_in it.placed list)) ++ lent_from_place it list place
+    around_lent = ap (flat_map (lent_at it)) (sym (around place (places_in it.placed list) before_member))
+        ∙ flat_map-append (lent_at it) (before place (places_in it.placed list)) (place ∷ behind (Some place) (places_in it.placed list))
+
 -- ---- lemmas for callers
+
+-- the place before that of the run with a unit
+pub before_stands : (it : Stored) (list : ℕ) (id : Id) (next : ℕ) (z : Option ℕ) → StandsAt it list id next → z ≡ last_of (before next (places_in it.placed list)) →
+    IfSome z (StandsBefore it list id)
+before_stands it list id next None stands e = tt
+before_stands it list id next (Some place) stands e = record { next = next; stands = stands; is_prev = e }
+
+-- all units are around one of them
+pub all_around : (id : Id) (all units : List Lent) → units ≡ all → IsAround id all units
+all_around id all units e = record { front = []; parts = sym e; apart = λ u i. absurd i; before = inl refl }
 
 append_none : (us : List Lent) → us ++ [] ≡ us
 append_none [] = refl
@@ -123,6 +223,16 @@ module _ (it : KeptValue) (document : Document) (n : ℕ) (name : DocList) (id :
     parts = sym lent_is ∙ parts_lent it.store arena lists told n lt id place stands
         ∙ ap (λ us. flat_map (lent_at it.store) (before place (places_in it.store.placed n)) ++ us) (sym same);
     apart = before_with it.store arena lists told n lt id place stands;
+  }
+
+  -- the place before that of the run that has it
+  pub stands_around : (place : ℕ) → StandsBefore it.store n id place → (units : List Lent) → units ≡ lent_from_place it.store n place → IsAround id (lent_units document name) units
+  stands_around place b units same = record {
+    front = flat_map (lent_at it.store) (before place (places_in it.store.placed n));
+    parts = sym lent_is ∙ around_lent it.store arena lists told n lt id place b
+        ∙ ap (λ us. flat_map (lent_at it.store) (before place (places_in it.store.placed n)) ++ us) (sym same);
+    apart = front_apart it.store arena lists told n lt id place b;
+    before = inr (subst (BeginsApart id) (sym same) (begins_apart it.store arena lists told n lt id place b));
   }
 
 -- from a place on, ids are in range

@@ -1,10 +1,10 @@
 -- A list of a store as it is lent: its runs from the first place to the last, and their units (own).
-use Rattle.std.specs.Prelude.{◌≡◌, ◌≢◌, ◌↔◌, ◌<◌, ◌++◌, ℕ, Bool, true, List, [], ◌∷◌, Option, Some, None, IfSome, map, flat_map}
+use Rattle.std.specs.Prelude.{◌≡◌, ◌≢◌, ◌↔◌, ◌<◌, ◌++◌, ℕ, Bool, true, List, [], ◌∷◌, Option, Some, None, map, flat_map}
 use Rattle.yd_words.specs.Member.{IsIn}
 use Rattle.yd_ids.specs.declared.id.Id.{Id}
 use Rattle.yd_ops.specs.Operation.{UnitContent, gone_unit, Operation, later_id, units_of_content}
 use Rattle.yd_ops.specs.View.{content_value}
-use Rattle.yd_chains.specs.Chain.{behind, up_to}
+use Rattle.yd_chains.specs.Chain.{last_of, behind, before, up_to}
 use Rattle.yd_arena.specs.Lists.{AreLists}
 use Rattle.yd_arena.specs.Arena.{runs_of, count_of, places_in, HasUnit, IsArena}
 use Rattle.yd_arena.specs.Marks.{mark_at}
@@ -54,6 +54,12 @@ pub record StandsAt (it : Stored) (list : ℕ) (id : Id) (place : ℕ) : Type 0 
   pub before : ℕ
   pub has : HasUnit (runs_of it.placed) place before id
   pub member : IsIn place (places_in it.placed list)
+
+-- a place of a list stands directly before that of the run with a unit
+pub record StandsBefore (it : Stored) (list : ℕ) (id : Id) (place : ℕ) : Type 0 where
+  pub next : ℕ
+  pub stands : StandsAt it list id next
+  pub is_prev : Some place ≡ last_of (before next (places_in it.placed list))
 
 -- ---- a walk
 

@@ -1,5 +1,5 @@
 -- The lists of a store with names, in the words of the document that it tells (own).
-use Rattle.std.specs.Prelude.{◌≡◌, ◌≢◌, ◌↔◌, ◌+◌, ◌++◌, true, List, [], Option, Some, None, map}
+use Rattle.std.specs.Prelude.{◌≡◌, ◌≢◌, ◌↔◌, ◌⊎◌, ◌+◌, ◌++◌, true, List, [], ◌∷◌, Option, Some, None, map}
 use Rattle.yd_words.specs.Each.{Each}
 use Rattle.yd_words.specs.Member.{IsIn}
 use Rattle.yd_ids.specs.declared.id.Id.{Id}
@@ -36,6 +36,18 @@ pub record IsFrom (id : Id) (all units : List Lent) : Type 0 where
   pub front : List Lent
   pub parts : all ≡ front ++ units
   pub apart : (unit : Lent) → IsIn unit front → unit.id ≢ id
+
+-- the first of some units has another id
+abbrev pub BeginsApart : Id → List Lent → Type 0
+BeginsApart id [] = ⊥
+BeginsApart id (unit ∷ units) = unit.id ≢ id
+
+-- some units stand behind others, none of which has the id; where there are others, the first of the units has another id, so the unit before the one with the id is among them
+pub record IsAround (id : Id) (all units : List Lent) : Type 0 where
+  pub front : List Lent
+  pub parts : all ≡ front ++ units
+  pub apart : (unit : Lent) → IsIn unit front → unit.id ≢ id
+  pub before : (front ≡ []) ⊎ BeginsApart id units
 
 -- the id of a unit is in range, and so is the clock behind it
 pub record HasRoom (unit : Lent) : Type 0 where

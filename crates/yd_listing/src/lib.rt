@@ -42,6 +42,6 @@ pub use ends::last_run;
 pub use finding::{UnitView, unit};
 pub use last::last_of;
 pub use lent::LentRun;
-pub use listing::{ListView, list, list_at, list_from};
+pub use listing::{ListView, list, list_around, list_at, list_from};
 pub use walking::{ListWalk, walk};
 pub use yd_ops::NoMemory;

@@ -8,10 +8,10 @@ ghost use Rattle.yd_meaning.specs.Document.{Document};
 ghost use Rattle.yd_arena.specs.Arena.{count_of};
 ghost use Rattle.yd_listing.specs.Lending.{units_of_run, units_left};
 ghost use Rattle.yd_listing.specs.Falling.{IsTold};
-ghost use Rattle.yd_listing.specs.Listing.{Tells, lent_units, units_to_come, EndIn, IsFrom};
+ghost use Rattle.yd_listing.specs.Listing.{Tells, lent_units, units_to_come, EndIn, IsFrom, IsAround};
 ghost use Rattle.yd_listing.specs.Listing.{AreInRange, IsInRange};
 
-use crate::standing::place_in;
+use crate::standing::{place_before, place_in};
 use crate::walking::walk_from;
 use crate::{LentRun, ListWalk, walk};
 use std::marker::Model;
@@ -82,6 +82,20 @@ pub fn list_from<'a>(kept: &'a Kept, name: &List, id: Id) -> ListView<'a>
     }
 }
 
+/// The units of the list with a name from the run on that stands before the one with an id's unit,
+/// deleted ones too, and all of them where no run does. It takes a bisection, and time with the
+/// logarithm of how many lists there are.
+pub fn list_around<'a>(kept: &'a Kept, name: &List, id: Id) -> ListView<'a>
+    requires { IsTold kept.now }
+    ensures { (document : Document) → Tells kept.now document →
+        IsAround id (lent_units document name.now) (units_to_come result) }
+{
+    match kept.number_of(name) {
+        Some(number) => list_at_around(kept, number, id),
+        None => ListView { walk: None },
+    }
+}
+
 /// The units of the list with a number from the run on that has the unit with an id, deleted ones too.
 fn list_at_from(kept: &Kept, n: usize, id: Id) -> ListView<'_>
     requires told { IsTold kept.now }
@@ -92,6 +106,23 @@ fn list_at_from(kept: &Kept, n: usize, id: Id) -> ListView<'_>
 {
     match place_in(kept.store(), n, id) {
         None => ListView { walk: None },
+        Some(place) => ListView {
+            walk: Some(walk_from(kept.store(), n, place)),
+        },
+    }
+}
+
+/// The units of the list with a number from the run on that stands before the one with an id's unit,
+/// deleted ones too.
+fn list_at_around(kept: &Kept, n: usize, id: Id) -> ListView<'_>
+    requires told { IsTold kept.now }
+    requires within { n < count_of kept.now.store.placed }
+    ensures { (document : Document) → Tells kept.now document → (name : DocList) →
+        slice_get kept.now.names n ≡ Some name →
+        IsAround id (lent_units document name) (units_to_come result) }
+{
+    match place_before(kept.store(), n, id) {
+        None => list_at(kept, n),
         Some(place) => ListView {
             walk: Some(walk_from(kept.store(), n, place)),
         },

@@ -3,7 +3,7 @@
 ghost use Rattle.std.specs.Prelude.{◌≡◌, ◌<◌, ℕ, IfSome, IfNone, Some, true, false};
 ghost use Rattle.yd_arena.specs.Arena.{count_of};
 ghost use Rattle.yd_store.specs.Store.{StandsIn};
-ghost use Rattle.yd_listing.specs.Lending.{StandsAt};
+ghost use Rattle.yd_listing.specs.Lending.{StandsAt, StandsBefore};
 
 use yd_ids::Id;
 use yd_store::Store;
@@ -21,6 +21,17 @@ pub(crate) fn place_in(store: &Store, list: usize, id: Id) -> Option<usize>
         return Some(found.place);
     }
     None
+}
+
+/// The place in a list before that of the run with a unit. There is none where that run is the first,
+/// or the unit does not stand in the list. It takes a bisection.
+pub(crate) fn place_before(store: &Store, list: usize, id: Id) -> Option<usize>
+    requires { list < count_of store.now.placed }
+    ensures { IfSome result (StandsBefore store.now list id) }
+{
+    store.is_sound();
+    let place = place_in(store, list, id)?;
+    store.prev(place)
 }
 
 /// There is a number, and it is this one.

@@ -1,3 +1,4 @@
+pub mod AroundLemmas
 pub mod FoundLemmas
 pub mod GroupLemmas
 pub mod KindLemmas

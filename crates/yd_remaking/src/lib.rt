@@ -5,7 +5,7 @@
 //! what stands before it.
 //!
 //! ```rust
-//! if let Some(group) = group_at(alloc, replica.list(&list), id, 8)? {
+//! if let Some(group) = group_at(alloc, replica.list_around(&list, id), id, 8)? {
 //!     let content = copied(alloc, &group.pieces)?;
 //! }
 //! ```

@@ -10,6 +10,7 @@ use Rattle.yd_origins.specs.Deleted.{last_of}
 use Rattle.yd_meaning.specs.Document.{Document}
 pub use Rattle.yd_listing.specs.Lending.{Lent, lent_from}
 use Rattle.yd_listing.specs.Lending.{Walk}
+pub use Rattle.yd_listing.specs.Listing.{BeginsApart, IsAround}
 use Rattle.yd_listing.specs.Listing.{units_to_come}
 use Rattle.yd_state.specs.declared.listing.RunView.{RunView}
 

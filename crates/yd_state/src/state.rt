@@ -14,7 +14,7 @@ ghost use Rattle.yd_listing.specs.Falling.{IsTold};
 ghost use Rattle.yd_listing.specs.Listing.{Tells, IsFrom};
 ghost use Rattle.yd_state.specs.State.{received_in, document_in, IsSound};
 ghost use Rattle.yd_state.specs.Brings.{BringsUnknown};
-ghost use Rattle.yd_state.specs.Lent.{lent_units, units_left, last_unit};
+ghost use Rattle.yd_state.specs.Lent.{lent_units, units_left, last_unit, IsAround};
 
 use crate::counting::{count_ids, count_units};
 use crate::fault::NoMemory;
@@ -29,7 +29,7 @@ use std::marker::Model;
 use yd_held::Held;
 use yd_ids::{Id, IdSet, Vector};
 use yd_kept::Kept;
-use yd_listing::{last_of, list as units_of, list_from as units_from};
+use yd_listing::{last_of, list as units_of, list_around as units_around, list_from as units_from};
 use yd_ops::{List, Update};
 use yd_received::Received;
 
@@ -200,6 +200,19 @@ impl State {
     {
         ListView {
             units: units_from(&self.kept, list, id),
+        }
+    }
+
+    /// The units of a list in order from the run on that stands before the one with an id's unit, deleted
+    /// ones too, and all of them where no run does. It takes a bisection, and time with the logarithm of
+    /// how many lists there are.
+    pub fn list_around(&self, list: &List, id: Id) -> ListView<'_>
+        ensures around { IsAround id (lent_units (document_in self.now) list.now) (units_left result) }
+        ensures received { (o : Operation) → IsIn o ((document_in self.now).units list.now)
+            → IsIn o (received_in self.now).operations }
+    {
+        ListView {
+            units: units_around(&self.kept, list, id),
         }
     }
 

@@ -1,5 +1,5 @@
 -- What is made again of ids in lists with a key, one by one; and all steps of an undo.
-use Rattle.std.proofs.Common.{◌≡◌, ℕ, zero, suc, ◌+◌, ◌-◌, ◌<◌, ◌&&◌, not, Bool, true, false, List, [], ◌∷◌, ◌++◌, ◌↔◌, length, Option, Some, nat_lt, refl, sym, ap, ◌∙◌, subst, arith, tests, true≢false, append_assoc}
+use Rattle.std.proofs.Common.{◌≡◌, ℕ, zero, suc, ◌+◌, ◌-◌, ◌<◌, ◌&&◌, not, Bool, true, false, List, [], ◌∷◌, ◌++◌, ◌↔◌, length, Option, Some, nat_lt, refl, sym, ap, ◌∙◌, subst, arith, tests, true≢false, append_assoc, append-nil}
 use Rattle.std.specs.Prelude.{if◌then◌else◌}
 use Rattle.std.proofs.lemmas.List.{map-append}
 use Rattle.yd_ids.specs.declared.id.Id.{Id}
@@ -41,6 +41,12 @@ key_added seen deleted name list x after group content old new made is held same
   where
     g : List Lent
     g = group_from 1 (units_from x (units_in seen name))
+
+-- where there is no group, no step is added
+pub no_key_added : (seen : Seen) (deleted : List Span) (name : DocList) (x : Id) (old : List StepGiven) → is_made_in seen deleted name x ≡ true →
+    group_from 1 (units_from x (units_in seen name)) ≡ [] → steps_value old ≡ steps_value old ++ step_of_key seen deleted (Some name) x
+no_key_added seen deleted name x old made none = sym (append-nil (steps_value old))
+    ∙ (λ i. steps_value old ++ (if sym made i then step_at_end name (last_unit seen.basis.document name) (sym none i) else []))
 
 pub key_next : (seen : Seen) (deleted : List Span) (x : Id) (left : ℕ) (old new : List Step) → 0 < left → new ≡ old ++ step_of_key seen deleted (seen.list_of x) x →
     new ++ key_steps_from seen deleted (record { client = x.client; clock = x.clock + 1 }) (left - 1) ≡ old ++ key_steps_from seen deleted x left

@@ -5,7 +5,6 @@ use Rattle.yd_words.specs.Each.{Each}
 use Rattle.yd_words.specs.Member.{IsIn}
 use Rattle.yd_ids.specs.declared.id.Id.{Id}
 use Rattle.yd_ids.specs.declared.id.Span.{Span}
-use Rattle.yd_ids.specs.Id.{IsSpan}
 use Rattle.yd_ids.specs.Ids.{is_same, is_same_neighbour}
 use Rattle.yd_ids.specs.Set.{HasId, AreMaximal}
 use Rattle.yd_ids.specs.Span.{InSpan}
@@ -17,7 +16,7 @@ use Rattle.yd_origins.specs.Deleted.{last_of}
 use Rattle.yd_meaning.specs.Names.{item_of_list, has_key}
 use Rattle.yd_state.specs.Lent.{Lent, lent, last_unit}
 use Rattle.yd_editing.specs.Refused.{first_of_steps, parent_refusal, after_refusal, place_refusal, removal_refusal, span_refusal, spans_refusal}
-use Rattle.yd_editing.specs.Step.{Step, make, Refusal, no_place, first_or}
+use Rattle.yd_editing.specs.Step.{Step, Refusal, first_or}
 use Rattle.yd_editing.proofs.RefusalLemmas.{not_some}
 use Rattle.yd_subsets.specs.Part.{part_that}
 use Rattle.yd_subsets.proofs.PartLemmas.{part_ids, part_maximal}
@@ -32,10 +31,6 @@ use Rattle.yd_undo.proofs.EachLemmas.{remade_each}
 none_first : (a b : Option Refusal) → a ≡ None → first_or a b ≡ b
 none_first None b e = refl
 none_first (Some refusal) b e = absurd (not_some refusal e)
-
-steps_none : (asks : Step → Option Refusal) (steps : List Step) → Each (λ step. asks step ≡ None) steps → first_of_steps asks steps ≡ None
-steps_none asks [] each = refl
-steps_none asks (step ∷ steps) each = none_first (asks step) (first_of_steps asks steps) each.0 ∙ steps_none asks steps each.1
 
 -- ---- places
 

@@ -1,5 +1,5 @@
 -- What is made again of ids in a row, group by group.
-use Rattle.std.proofs.Common.{◌≡◌, ℕ, zero, suc, ◌+◌, ◌-◌, ◌<◌, ◌≤◌, ◌&&◌, not, Bool, true, false, List, [], ◌∷◌, ◌++◌, map, length, drop, None, Some, inl, inr, refl, sym, ap, ◌∙◌, subst, arith, append_assoc}
+use Rattle.std.proofs.Common.{◌≡◌, ℕ, zero, suc, ◌+◌, ◌-◌, ◌<◌, ◌≤◌, ◌&&◌, not, Bool, true, false, List, [], ◌∷◌, ◌++◌, map, length, drop, None, Some, inl, inr, refl, sym, ap, ◌∙◌, subst, arith, append_assoc, append-nil}
 use Rattle.std.specs.Prelude.{if◌then◌else◌}
 use Rattle.std.proofs.lemmas.List.{length-append, length-map, length-take-le, length-drop, map-append}
 use Rattle.yd_words.specs.Each.{Each}
@@ -101,6 +101,16 @@ pub group_taken : (seen : Seen) (name : DocList) (x : Id) (most : ℕ) (group : 
     group.len ≡ taken_by (group_in seen (Some name) x most)
 group_taken seen name x most group k p is = is.len ∙ taken_is (group_from most (units_from x (units_in seen name))) (some_found (units_in seen name) x most group is)
     ∙ ap taken_by (sym (group_open seen name x most k p))
+
+-- where there is none, no step is added and the one id is done
+pub none_added : (seen : Seen) (name : DocList) (x : Id) (most : ℕ) (old : List StepGiven) → has_key name ≡ false → is_place seen name ≡ true →
+    group_from most (units_from x (units_in seen name)) ≡ [] → steps_value old ≡ steps_value old ++ step_of_group seen (Some name) x (group_in seen (Some name) x most)
+none_added seen name x most old k p none = sym (append-nil (steps_value old))
+    ∙ ap (λ g. steps_value old ++ step_of_group seen (Some name) x g) (sym none ∙ sym (group_open seen name x most k p))
+
+pub none_taken : (seen : Seen) (name : DocList) (x : Id) (most : ℕ) → has_key name ≡ false → is_place seen name ≡ true →
+    group_from most (units_from x (units_in seen name)) ≡ [] → 1 ≡ taken_by (group_in seen (Some name) x most)
+none_taken seen name x most k p none = ap taken_by (sym none ∙ sym (group_open seen name x most k p))
 
 pub group_some : (us : List Lent) (x : Id) (most : ℕ) (group : Group) → IsFound us x most group → 0 < group.len
 group_some us x most group is = omega (arith, is.len, some_found us x most group is)

@@ -98,7 +98,7 @@ fn add_key_in(
     }
     // What is received is looked at, since its values are valid.
     received_can_be_grouped(replica);
-    match group_at(alloc, replica.list(list), id, 1)? {
+    match group_at(alloc, replica.list_around(list, id), id, 1)? {
         None => Ok(()),
         Some(group) => {
             let content = copied(alloc, &group.pieces)?;

@@ -17,7 +17,8 @@ use yd_remaking::group_at;
 use yd_subsets::span_below;
 
 /// Adds the steps that make deleted ids in lists without a key again. It takes a look-up for each held
-/// id that is in no group, and for each group time as reading its list by pieces does up to its end.
+/// id that is in no group. For each group it takes a few look-ups, and time as reading it and the run
+/// before it by pieces does.
 pub(crate) fn add_groups(
     alloc: Global,
     replica: &Replica,
@@ -111,7 +112,7 @@ fn add_group_in(
     }
     // What is received is looked at, since its values are valid.
     received_can_be_grouped(replica);
-    match group_at(alloc, replica.list(list), id, most)? {
+    match group_at(alloc, replica.list_around(list, id), id, most)? {
         None => Ok(1),
         Some(group) => {
             let content = copied(alloc, &group.pieces)?;

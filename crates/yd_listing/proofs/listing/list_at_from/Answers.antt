@@ -1,9 +1,9 @@
-use Rattle.std.proofs.Common.{◌≡◌, ◌<◌, ◌∙◌, sym, ap, subst}
+use Rattle.std.proofs.Common.{◌<◌, ◌∙◌, sym, ap, subst}
 use Rattle.yd_words.specs.Each.{Each}
 use Rattle.yd_words.specs.Member.{IsIn}
 use Rattle.yd_arena.specs.Arena.{count_of, places_in}
 use Rattle.yd_store.specs.Store.{Stored, StandsIn}
-use Rattle.yd_listing.specs.Lending.{lent_in, lent_from_place, HasNoGone, StandsAt}
+use Rattle.yd_listing.specs.Lending.{lent_from_place, HasNoGone, StandsAt}
 use Rattle.yd_listing.specs.Listing.{HasRoom}
 use Rattle.yd_listing.proofs.StandingLemmas.{apart_from, stands_from, from_ranged}
 use Rattle.yd_listing.proofs.listing.list_at_from.Goals as goal

@@ -1,7 +1,4 @@
-use Rattle.std.proofs.Common.{ap}
-use Rattle.std.specs.Prelude.{flat_map}
 use Rattle.yd_arena.specs.Arena.{places_in}
-use Rattle.yd_listing.specs.Lending.{lent_at}
 use Rattle.yd_listing.proofs.RowLemmas.{whole_row}
 use Rattle.yd_listing.proofs.WalkLemmas.{row_left}
 use Rattle.yd_listing.proofs.walking.walk.Goals as goal
