@@ -2,6 +2,7 @@ pub mod AnsweringLemmas
 pub mod BoardLemmas
 pub mod CarryLemmas
 pub mod ExchangeLemmas
+pub mod OnceLemmas
 pub mod SayLemmas
 pub mod ServeLemmas
 pub mod SettleLemmas

@@ -1,6 +1,7 @@
 -- A client's loop over a board: until it is in step, its session ends, a message is refused, or so many turns are taken (own).
-use Rattle.std.specs.Prelude.{◌≡◌, ◌≤◌, ◌⊎◌, ℕ, List, [], length, Result, Ok, Err}
+use Rattle.std.specs.Prelude.{◌≡◌, ◌≤◌, ◌⊎◌, ℕ, List, [], length, Some, Result, Ok, Err}
 use Rattle.yd_world.specs.Faults.{Rose}
+use Rattle.yd_world.specs.Traffic.{Traffic}
 use Rattle.yd_world.specs.declared.board.Sent.{Sent}
 use Rattle.yd_world.specs.declared.fault.Outage.{Outage}
 use Rattle.yd_world.specs.declared.fault.Outage.TheVariants as outages
@@ -57,3 +58,8 @@ IsSyncLinked (Ok x) = Unit {0}
 IsSyncLinked (Err NoMemory) = Unit {0}
 IsSyncLinked (Err (Refused number fault)) = Unit {0}
 IsSyncLinked (Err NoLink) = ⊥
+
+-- over one network that tells, a loop ends in one way and leads its peer to one state, whatever the peer's replica answers
+abbrev pub SyncEndsOnce : Type 0
+SyncEndsOnce = (count : ℕ) (peer one other : PeerState) (traffic : Traffic) (old new : Board) (ending another : Ending) → old.told ≡ Some traffic →
+    Syncs count peer one old new ending → Syncs count peer other old new another → (one ≡ other) × (ending ≡ another)
