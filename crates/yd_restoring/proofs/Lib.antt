@@ -19,6 +19,7 @@ mod MomentLemmas
 mod OwnLemmas
 mod PutLemmas
 mod RedoLemmas
+mod RedoneLemmas
 mod ReplicaLemmas
 mod RowLemmas
 mod ShowsLemmas

@@ -25,7 +25,7 @@ use Rattle.yd_undo.specs.Steps.{undo_steps}
 use Rattle.yd_text.proofs.ShowingLemmas.{document_after}
 use Rattle.yd_restoring.proofs.ShowsLemmas.{seen_in}
 
-proper_makes : (step : Step) → IsProper step → MakesContent step
+pub proper_makes : (step : Step) → IsProper step → MakesContent step
 proper_makes (make name after content) is = is.2
 proper_makes (remove spans) is = tt
 

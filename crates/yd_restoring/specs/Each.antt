@@ -59,3 +59,17 @@ EditsAreUndone old mid new = (name : DocList) (steps : List Step) (noted : List 
     Each MakesContent steps → IsEdit old mid steps update → ((x : Id) → HasId noted x → HasId (received_of old).deletes x) → RemovesLive old name steps →
     HasPlace (received_of mid) name → IsLive (received_of mid) name → IsUndone (Some (undo_entry noted update)) mid new undone → IsLive (received_of new) name →
     AreAgain (contents (live_units (own_document new) name)) (contents (live_units (own_document old) name))
+
+-- ---- an undo and its redo
+
+-- no type is among the units of a list that the entry inserted and that are live
+abbrev pub InsertsNoType : Kept → DocList → Entry → Type 0
+InsertsNoType old name e = (o : Operation) → IsIn o ((own_document old).units name) → (own_document old).deleted o.id ≡ false → HasId e.inserted o.id → can_be_made o.content ≡ true
+
+-- after an undo and its redo each text's live units hold what those held that were live before both. All that was noted before the
+-- undo was deleted, and the entry inserted no type there that is live
+abbrev pub EachRedoShows : Kept → Kept → Kept → Type 0
+EachRedoShows old mid new = (name : DocList) (e : Entry) (noted : List Span) (undone redone : UpdateValue) → IsQuietText (received_of old) name →
+    ((x : Id) → HasId noted x → HasId (received_of old).deletes x) → InsertsNoType old name e → IsUndone (Some e) old mid undone →
+    HasPlace (received_of mid) name → IsLive (received_of mid) name → IsUndone (Some (undo_entry noted undone)) mid new redone → IsLive (received_of new) name →
+    AreAgain (contents (live_units (own_document new) name)) (contents (live_units (own_document old) name))

@@ -22,9 +22,11 @@ use Rattle.yd_doc.specs.Editing.{IsEdit}
 use Rattle.yd_doc.specs.Kept.{Kept, received_of, own_document}
 use Rattle.yd_undo.specs.declared.entry.Entry.{Entry}
 use Rattle.yd_undo.specs.Entry.{undo_entry}
+use Rattle.yd_undo.specs.Remade.{seen_of}
 use Rattle.yd_undo.specs.Stacks.{IsUndone}
+use Rattle.yd_undo.specs.Steps.{undo_steps}
 use Rattle.yd_restoring.specs.Again.{IsAgain}
-use Rattle.yd_restoring.specs.Each.{HasPlace, IsEntryOf, IsLive, RemovesLive}
+use Rattle.yd_restoring.specs.Each.{HasPlace, InsertsNoType, IsEntryOf, IsLive, RemovesLive}
 
 -- ---- an undo
 
@@ -77,6 +79,22 @@ KeysAreUndone old mid new = (parent : Parent) (key : List ℕ) (steps : List Ste
     IsQuietText (received_of old) (own_list parent) → Each MakesContent steps → IsEdit old mid steps update → ((x : Id) → HasId noted x → HasId (received_of old).deletes x) →
     Replaces old (key_list parent key) steps → HasPlace (received_of mid) (own_list parent) → IsLive (received_of mid) (own_list parent) →
     IsUndone (Some (undo_entry noted update)) mid new undone → IsLive (received_of new) (own_list parent) →
+    IsUnitAgain (unit_under (own_document new) parent key) (unit_under (own_document old) parent key)
+
+-- ---- an undo and its redo
+
+-- what is live under a key is no type, and the entry inserted it, or the undo makes nothing there
+pub record IsOwnKey (old : Kept) (name : DocList) (e : Entry) : Type 0 where
+  pub no_type : InsertsNoType old name e
+  pub own : (o : Operation) → last_unit ((own_document old).units name) ≡ Some o → (own_document old).deleted o.id ≡ false →
+      HasId e.inserted o.id ⊎ Each (MakesElse name) (undo_steps (seen_of old) e)
+
+-- after an undo and its redo a key shows what it showed before both. All that was noted before the undo was deleted
+abbrev pub KeysRedoShow : Kept → Kept → Kept → Type 0
+KeysRedoShow old mid new = (parent : Parent) (key : List ℕ) (e : Entry) (noted : List Span) (undone redone : UpdateValue) →
+    IsQuietText (received_of old) (own_list parent) → ((x : Id) → HasId noted x → HasId (received_of old).deletes x) → IsOwnKey old (key_list parent key) e →
+    IsUndone (Some e) old mid undone → HasPlace (received_of mid) (own_list parent) → IsLive (received_of mid) (own_list parent) →
+    IsUndone (Some (undo_entry noted undone)) mid new redone → IsLive (received_of new) (own_list parent) →
     IsUnitAgain (unit_under (own_document new) parent key) (unit_under (own_document old) parent key)
 
 -- ---- the edits of a map

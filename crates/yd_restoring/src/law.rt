@@ -5,8 +5,8 @@
 //! deletion either, and the list's parent is a root or live (`IsQuietText` of `yd_editing`). The first
 //! two are about an entry of this text alone (`IsOfText`), the others about an entry of any lists.
 
-ghost use Rattle.yd_restoring.specs.Each.{EachUndoShows, EditsAreUndone};
-ghost use Rattle.yd_restoring.specs.Keyed.{KeysUndoShow, KeysAreUndone, SettingsAreUndone, UnsettingsAreUndone};
+ghost use Rattle.yd_restoring.specs.Each.{EachUndoShows, EditsAreUndone, EachRedoShows};
+ghost use Rattle.yd_restoring.specs.Keyed.{KeysUndoShow, KeysAreUndone, KeysRedoShow, SettingsAreUndone, UnsettingsAreUndone};
 ghost use Rattle.yd_restoring.specs.Law.{UndosShow, RedosShow};
 
 use yd_doc::Replica;
@@ -58,6 +58,17 @@ pub fn edits_are_undone(before: &Replica, between: &Replica, after: &Replica)
     received_can_be_grouped(between);
 }
 
+/// After an undo of an entry of any lists and its redo each list without a key shows what it showed
+/// before both, if the entry inserted no type there that is live, and the list's parent is still live.
+/// All that was noted before the undo was deleted.
+pub fn each_redo_shows(before: &Replica, between: &Replica, after: &Replica)
+    ensures { EachRedoShows before.now between.now after.now }
+{
+    edits_are_undone(before, between, after);
+    own_document_is_replicas(before);
+    received_can_be_grouped(before);
+}
+
 /// After the undo of an entry of any lists a key of a map shows the last of what the entry deleted
 /// under it. If that is nothing, it shows what it showed, unless the entry inserted this.
 pub fn keys_undo_show(before: &Replica, after: &Replica)
@@ -78,6 +89,17 @@ pub fn keys_are_undone(before: &Replica, between: &Replica, after: &Replica)
     own_document_is_replicas(between);
     own_document_is_replicas(after);
     received_can_be_grouped(between);
+}
+
+/// After an undo of an entry of any lists and its redo a key shows what it showed before both, if what
+/// was live under it is no type and the entry inserted it, or the undo makes nothing there, and if
+/// the map is still live. All that was noted before the undo was deleted.
+pub fn keys_redo_show(before: &Replica, between: &Replica, after: &Replica)
+    ensures { KeysRedoShow before.now between.now after.now }
+{
+    keys_are_undone(before, between, after);
+    own_document_is_replicas(before);
+    received_can_be_grouped(before);
 }
 
 /// After `map_set` of `yd_text` and its undo the key shows what it showed before both, if what was
