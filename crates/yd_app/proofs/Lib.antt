@@ -4,5 +4,6 @@ pub mod EndsLemmas
 pub mod LawLemmas
 pub mod MakingLemmas
 pub mod MergeLemmas
+pub mod OnceLemmas
 pub mod OnlineLemmas
 pub mod RunLemmas

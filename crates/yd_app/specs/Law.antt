@@ -7,13 +7,14 @@ use Rattle.yd_ops.specs.Value.{UpdateValue}
 use Rattle.yd_ops.specs.Agreement.{AreAlike, Agree, HaveSameContents, SayTheSame, operations_of_all}
 use Rattle.yd_v2.specs.Reading.{most_structs}
 use Rattle.yd_world.specs.Shelf.{Shelf}
+use Rattle.yd_world.specs.Traffic.{Traffic}
 use Rattle.yd_ending.specs.Writing.{TakesAll}
 use Rattle.yd_files.specs.Files.{File}
 use Rattle.yd_files.specs.Verdict.{Inputs, StandFor}
 use Rattle.yd_files.specs.declared.kind.Kind.{Kind}
 use Rattle.yd_files.specs.declared.kind.Kind.TheVariants as kinds
 use Rattle.yd_asking.specs.Command.{Command, check, convert, merge, show, vector}
-use Rattle.yd_app.specs.Due.{AreKept, Due, IsDue}
+use Rattle.yd_app.specs.Due.{AreKept, Due, IsDue, IsDueOver, line_of_due, status_of_due}
 use Rattle.yd_app.specs.Link.{Link}
 use Rattle.yd_app.specs.Online.{GoesOnline}
 use Rattle.yd_app.specs.Output.{BringHonest, IsMadeOf, IsOutputOf}
@@ -33,6 +34,11 @@ pub record OneIsDue : Type 0 where
   pub some : (words : List (List ℕ)) (shelf : Shelf) → ((due : Due) × IsDue words (Some shelf) due) ⊎ GoesOnline words (Some shelf)
   pub one : (words : List (List ℕ)) (shelf : Shelf) → AreKept words (Some shelf) → (due other : Due) → IsDue words (Some shelf) due → IsDue words (Some shelf) other → due ≡ other
   pub apart : (words : List (List ℕ)) (shelf : Shelf) (due : Due) → IsDue words (Some shelf) due → GoesOnline words (Some shelf) → ⊥
+
+-- all that is due over one network that tells has one status and one line on err; outputs may list their deletions in one way or another
+abbrev pub OneEndsOnline : Type 0
+OneEndsOnline = (words : List (List ℕ)) (shelf : Shelf) (traffic : Traffic) (link : Link) (due other : Due) → link.before.told ≡ Some traffic →
+    IsDueOver words (Some shelf) link due → IsDueOver words (Some shelf) link other → (status_of_due due ≡ status_of_due other) × (line_of_due due ≡ line_of_due other)
 
 -- the updates of both have the same operations and deletions, in any order and repeated, and operations with one id are alike
 pub record HaveOneContents (one other : List UpdateValue) : Type 0 where

@@ -6,7 +6,7 @@ ghost use Rattle.yd_world.specs.MemoryLibrary.{shelf_of};
 ghost use Rattle.yd_world.specs.MemorySink.{IsCalm};
 ghost use Rattle.yd_world.specs.ScriptBoard.{failed_sends, traffic_of};
 ghost use Rattle.yd_serving.specs.Board.{board_of};
-ghost use Rattle.yd_app.specs.Law.{AskForOne, OneIsDue, RunsConverge, ShowsConverge};
+ghost use Rattle.yd_app.specs.Law.{AskForOne, OneEndsOnline, OneIsDue, RunsConverge, ShowsConverge};
 ghost use Rattle.yd_app.specs.Law.{CheckRunsConverge, ChecksConverge};
 ghost use Rattle.yd_app.specs.Law.{MergeRunsConverge, MergesAreConverted, MergesConverge};
 ghost use Rattle.yd_app.specs.Link.{link_of};
@@ -28,6 +28,12 @@ pub fn words_ask_for_one()
 /// of `show`, `check` and `edit` where the edit rules are kept.
 pub fn one_is_due()
     ensures { OneIsDue }
+{}
+
+/// Where library and network tell, all that is due over the network has one status and one line on
+/// err: the words, the files and what came decide them.
+pub fn one_ends_online()
+    ensures { OneEndsOnline }
 {}
 
 /// Files of the same changes show the same: in any order, repeated or translated, and merged. What
