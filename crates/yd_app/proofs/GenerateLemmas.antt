@@ -66,9 +66,10 @@ line_ends held deleted len = sym (append_assoc (number_text (codes "held") held)
 
 pub generated_ends : (steps : ℕ) (bytes : List ℕ) → steps ≤ 1000000 → IsGenerated steps bytes → (before : List ℕ) × (bytes ≡ before ++ codes "equal yes\n")
 generated_ends steps bytes few is =
-    let g = ended steps in
-    (front (length (held_set g.first.operations)) (count_of_ids (delete_set_of g.first)) (length (counted_units (document_of g.first) text_list)),
-    generated_is steps bytes few is ∙ line_ends (length (held_set g.first.operations)) (count_of_ids (delete_set_of g.first)) (length (counted_units (document_of g.first) text_list)))
+    let g = ended steps in (
+      front (length (held_set g.first.operations)) (count_of_ids (delete_set_of g.first)) (length (counted_units (document_of g.first) text_list)),
+      generated_is steps bytes few is ∙ line_ends (length (held_set g.first.operations)) (count_of_ids (delete_set_of g.first)) (length (counted_units (document_of g.first) text_list)),
+    )
 
 -- and a run has written it
 pub generates_equal : GeneratesEqual
