@@ -1,5 +1,5 @@
 -- What `generate` writes: it is one line, and it ends with `equal yes`.
-use Rattle.std.proofs.Common.{◌≡◌, ◌∙◌, ℕ, ◌+◌, ◌≤◌, ◌<◌, ◌^◌, ◌++◌, Bool, true, false, List, Option, append_assoc, length, refl, sym, ap, subst, arith}
+use Rattle.std.proofs.Common.{◌≡◌, ◌∙◌, ℕ, ◌+◌, ◌≤◌, ◌++◌, Bool, true, false, List, append_assoc, length, refl, sym, ap, subst, arith}
 use Rattle.std.specs.Prelude.{IsTrue, codes}
 use Rattle.yd_meaning.specs.Document.{document_of}
 use Rattle.yd_meaning.specs.Held.{count_of_ids, held_set}
@@ -13,7 +13,8 @@ use Rattle.yd_generating.specs.declared.generating.Generated.{Generated}
 use Rattle.yd_ending.specs.Writing.{TakesAll}
 use Rattle.yd_asking.specs.Command.{generate}
 use Rattle.yd_app.proofs.MergeLemmas.{written_of}
-use Rattle.yd_app.specs.Commands.Generate.{IsGenerated, generated_line, number_text, told_line, verdict}
+use Rattle.yd_app.specs.Commands.Generate.{IsGenerated, generated_line, number_text, told_line}
+use Rattle.yd_app.specs.Law.{GeneratesEqual}
 
 -- the three are equal behind steps of so few
 generated_equal : (steps : ℕ) → steps ≤ 1000000 → AreEqual (ended steps)

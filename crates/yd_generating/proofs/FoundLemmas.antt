@@ -1,7 +1,7 @@
 -- What is found behind the steps and the rounds, and where it begins.
-use Rattle.std.proofs.Common.{◌≡◌, ℕ, ap, subst, sym}
+use Rattle.std.proofs.Common.{◌≡◌, ℕ, subst}
 use Rattle.yd_generator.specs.Generated.{Three, ended, first_generation, generation, rounded}
-use Rattle.yd_generator.specs.Law.{AreAccepted, AreEqual}
+use Rattle.yd_generator.specs.Law.{AreAccepted}
 use Rattle.yd_generator.proofs.GenerationLemmas.{generations_shared}
 use Rattle.yd_generator.proofs.SharedLemmas.{rounds_equal}
 use Rattle.yd_doc.specs.Kept.{Kept, received_of}
