@@ -1,5 +1,5 @@
 -- What `generate` writes: it is one line, and it ends with `equal yes`.
-use Rattle.std.proofs.Common.{◌≡◌, ◌∙◌, ℕ, ◌+◌, ◌≤◌, ◌++◌, Bool, true, false, List, append_assoc, length, refl, sym, ap, subst, arith}
+use Rattle.std.proofs.Common.{◌≡◌, ◌∙◌, ℕ, ◌≤◌, ◌++◌, Bool, true, false, List, append_assoc, length, refl, sym, ap, subst, arith}
 use Rattle.std.specs.Prelude.{IsTrue, codes}
 use Rattle.yd_meaning.specs.Document.{document_of}
 use Rattle.yd_meaning.specs.Held.{count_of_ids, held_set}
@@ -60,10 +60,12 @@ pub generated_is : (steps : ℕ) (bytes : List ℕ) → steps ≤ 1000000 → Is
 generated_is steps bytes few is = is.bytes_are ∙ ap (generated_line (ended steps)) (is_yes steps bytes few is)
 
 -- and ends so
-pub line_ends : (held deleted len : ℕ) → told_line held deleted len true ≡ front held deleted len ++ codes "equal yes\n"
+ends_yes : (before : List ℕ) → ((before ++ codes "equal ") ++ codes "yes") ++ codes "\n" ≡ before ++ codes "equal yes\n"
+ends_yes before = append_assoc (before ++ codes "equal ") (codes "yes") (codes "\n") ∙ append_assoc before (codes "equal ") (codes "yes" ++ codes "\n")
+
+line_ends : (held deleted len : ℕ) → told_line held deleted len true ≡ front held deleted len ++ codes "equal yes\n"
 unfolding front
-line_ends held deleted len = sym (append_assoc (number_text (codes "held") held) (number_text (codes "deleted") deleted ++ number_text (codes "length") len) (codes "equal yes\n")
-    ∙ ap (λ (back : List ℕ). number_text (codes "held") held ++ back) (append_assoc (number_text (codes "deleted") deleted) (number_text (codes "length") len) (codes "equal yes\n")))
+line_ends held deleted len = ends_yes (front held deleted len)
 
 pub generated_ends : (steps : ℕ) (bytes : List ℕ) → steps ≤ 1000000 → IsGenerated steps bytes → (before : List ℕ) × (bytes ≡ before ++ codes "equal yes\n")
 generated_ends steps bytes few is =

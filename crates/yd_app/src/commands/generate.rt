@@ -2,6 +2,7 @@
 
 ghost use Rattle.std.specs.Prelude.{◌≡◌, ◌≤◌, ◌++◌, IfOk, OnOk};
 ghost use Rattle.yd_files.specs.Verdict.{Inputs};
+ghost use Rattle.yd_generating.specs.Line.{IsFoundOf};
 ghost use Rattle.yd_asking.specs.Command.{generate as generates};
 ghost use Rattle.yd_app.specs.Commands.Generate.{number_text, told_line, verdict};
 ghost use Rattle.yd_app.specs.Output.{IsMadeOf};
@@ -18,8 +19,18 @@ pub fn generate(alloc: Global, steps: u64) -> Result<Vec<u8>, NoMemory>
     ensures { IfOk result (λ bytes. (inputs : Inputs)
         → IsMadeOf (generates steps) inputs bytes.items) }
 {
+    let found = found_of(alloc, steps)?;
+    let bytes = line_of(alloc, found)?;
+    Ok(bytes)
+}
+
+// What is found behind so many steps.
+fn found_of(alloc: Global, steps: u64) -> Result<Generated, NoMemory>
+    requires { steps ≤ 1000000 }
+    ensures { IfOk result (IsFoundOf steps) }
+{
     match yd_generating::generate(alloc, steps) {
-        Ok(found) => line_of(alloc, found),
+        Ok(found) => Ok(found),
         Err(GenerateFault::NoMemory) => Err(NoMemory),
         // So few steps leave each client a clock.
         Err(GenerateFault::Refused(_)) => unreachable!(),
