@@ -1,0 +1,3 @@
+pub mod GatheredLemmas
+pub mod GathererLemmas
+pub mod GrowingLemmas

@@ -1,0 +1,89 @@
+-- A block that grows at its end, where runs that join become one (own).
+use Rattle.std.specs.Prelude.{◌≡◌, ◌⊎◌, ℕ, ◌+◌, Bool, true, false, List, [], ◌∷◌, ◌++◌, map, Option, Some, None}
+use Rattle.yd_ids.specs.Id.{IsClock}
+use Rattle.yd_ops.specs.Joining.{joined_run, run_joins}
+use Rattle.yd_ops.specs.Operation.{operations_of_struct, operations_of_structs}
+use Rattle.yd_ops.specs.Valid.{IsStructAt, IsValidBlock}
+use Rattle.yd_ops.specs.Value.{BlockValue, StructValue, clocks_of, gone, item, skip}
+use Rattle.yd_ops.specs.View.{struct_value}
+use Rattle.yd_ops.specs.declared.updates.Struct.{Struct}
+use Rattle.yd_gathering.specs.declared.growing.Growing.{Growing}
+
+-- ---- what it is
+
+-- the last struct, if there is one
+abbrev pub last_structs : Option Struct → List StructValue
+last_structs None = []
+last_structs (Some last) = struct_value last ∷ []
+
+-- structs that are done, and a last one
+abbrev pub structs_in : List Struct → Option Struct → List StructValue
+structs_in done last = map struct_value done ++ last_structs last
+
+-- the block
+abbrev pub block_of : Growing → BlockValue
+block_of g = record { client = g.client; clock = g.clock; structs = structs_in g.done g.last }
+
+-- the clock behind structs that begin at a clock
+abbrev pub end_from : ℕ → List StructValue → ℕ
+end_from clock [] = clock
+end_from clock (s ∷ structs) = end_from (clock + clocks_of s) structs
+
+-- the block is valid, and ends there
+pub record IsGrown (g : Growing) : Type 0 where
+  pub valid : IsValidBlock (block_of g)
+  pub ends : end_from g.clock (structs_in g.done g.last) ≡ g.end
+
+-- ---- how it grows
+
+-- whether a struct goes on with the next one: as runs do; no other structs are joined
+abbrev pub struct_joins : StructValue → StructValue → Bool
+struct_joins (item run) (item next) = run_joins run next
+struct_joins (item run) (skip count) = false
+struct_joins (item run) (gone count) = false
+struct_joins (skip count) s = false
+struct_joins (gone count) s = false
+
+-- both as one
+abbrev pub joined_struct : StructValue → StructValue → StructValue
+joined_struct (item run) (item next) = item (joined_run run next)
+joined_struct (item run) (skip count) = item run
+joined_struct (item run) (gone count) = item run
+joined_struct (skip count) s = skip count
+joined_struct (gone count) s = gone count
+
+-- the last struct went on with this one: both stand there as one
+pub record JoinsLast (old : List StructValue) (s : StructValue) (new : List StructValue) : Type 0 where
+  pub front : List StructValue
+  pub last : StructValue
+  pub there : old ≡ front ++ last ∷ []
+  pub joins : struct_joins last s ≡ true
+  pub joined : new ≡ front ++ joined_struct last s ∷ []
+
+-- the struct stands behind the others, or was joined to the last one
+abbrev pub IsPut : List StructValue → StructValue → List StructValue → Type 0
+IsPut old s new = (new ≡ old ++ s ∷ []) ⊎ JoinsLast old s new
+
+-- one struct more is there: the block ends behind it, is valid still, and has its operations too
+pub record Extends (old new : Growing) (s : StructValue) : Type 0 where
+  pub client : new.client ≡ old.client
+  pub clock : new.clock ≡ old.clock
+  pub end : new.end ≡ old.end + clocks_of s
+  pub grown : IsGrown new
+  pub operations : operations_of_structs new.client new.clock (structs_in new.done new.last)
+      ≡ operations_of_structs old.client old.clock (structs_in old.done old.last) ++ operations_of_struct old.client old.end s
+
+-- so it is where the struct begins at the end of the block
+abbrev pub Grows : Growing → Growing → StructValue → Type 0
+Grows old new s = IsGrown old → IsStructAt old.client old.end s → IsClock (old.end + clocks_of s) → Extends old new s
+
+-- the structs of another block are there: it is valid still, and has their operations too
+pub record ExtendsBy (old new : Growing) (block : BlockValue) : Type 0 where
+  pub client : new.client ≡ old.client
+  pub grown : IsGrown new
+  pub operations : operations_of_structs new.client new.clock (structs_in new.done new.last)
+      ≡ operations_of_structs old.client old.clock (structs_in old.done old.last) ++ operations_of_structs block.client block.clock block.structs
+
+-- so it is where the other block is the client's, and begins at the end of this one
+abbrev pub GrowsBy : Growing → Growing → BlockValue → Type 0
+GrowsBy old new block = IsGrown old → block.client ≡ old.client → block.clock ≡ old.end → ExtendsBy old new block

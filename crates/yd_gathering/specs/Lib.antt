@@ -1,0 +1,4 @@
+pub mod Gathered
+pub mod Gatherer
+pub mod Growing
+pub mod Taking
