@@ -30,7 +30,8 @@ pub struct Growing {
 impl Growing {
     /// No struct yet.
     pub fn new(alloc: Global, client: Client, clock: u64) -> Growing
-        ensures { result ≡ record { client = client; clock = clock; end = clock; done = []; last = None } }
+        ensures { result ≡ record { client = client; clock = clock; end = clock;
+            done = []; last = None } }
     {
         Growing {
             client,

@@ -4,7 +4,7 @@
 //! [`Gatherer`] keeps fewer: structs that go on at the clock where those before them end, as
 //! keystrokes do, are put into one block, and runs that join become one. What is received of the
 //! updates that it hands out at the end is just what is received of those that it took, whatever
-//! they are (`StandsAs`). Nothing is sorted, and nothing is copied but what is put into such a block.
+//! they are (`StandsAs`). Only what is put into such a block is copied, and only deletions are sorted.
 //!
 //! ```rust
 //! let mut gatherer = Gatherer::new(alloc);
