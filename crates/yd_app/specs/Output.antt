@@ -50,6 +50,19 @@ pub record IsMadeOf (command : Command) (inputs : Inputs) (bytes : List ℕ) : T
   pub is_output : IsOutputOf command inputs bytes
   pub again : StandsForAgain command inputs bytes
 
+-- of the updates the command asks only what is received of them, so that they may be gathered
+abbrev pub IsOfReceived : Command → Type 0
+IsOfReceived (show mode root) = Unit {0}
+IsOfReceived (merge form) = Unit {0}
+IsOfReceived vector = Unit {0}
+IsOfReceived (edit client name) = Unit {0}
+IsOfReceived (convert form) = ⊥
+IsOfReceived pack = ⊥
+IsOfReceived (cut name) = ⊥
+IsOfReceived check = ⊥
+IsOfReceived (serve address turns) = ⊥
+IsOfReceived (sync address turns) = ⊥
+
 -- the command refuses its inputs with this line on err: of a script the first line that is refused
 abbrev pub IsRefusalOf : Command → Inputs → List ℕ → Type 0
 IsRefusalOf (edit client name) inputs line = IsRefusedLine client name inputs line

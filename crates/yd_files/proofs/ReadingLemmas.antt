@@ -3,17 +3,19 @@ use Rattle.std.proofs.Common.{◌≡◌, ◌+◌, ◌<◌, ◌≤◌, ℕ, List,
 use Rattle.std.proofs.lemmas.List.{drop_more, get_or-map, length-map, map-append, take-append-drop, take_more}
 use Rattle.yd_words.specs.Each.{Each}
 use Rattle.yd_ops.specs.Valid.{IsValidUpdate}
+use Rattle.yd_ops.specs.Value.{UpdateValue}
 use Rattle.yd_world.specs.Shelf.{HasName, Shelf}
 use Rattle.yd_files.proofs.ToldLemmas.{accepted_here, keeps_all, keeps_more, named_here, stops_before, verdict_before}
 use Rattle.yd_files.specs.Counts.{Count, count_of}
 use Rattle.yd_files.specs.Files.{File}
 use Rattle.yd_files.specs.Loading.{KeepsFiles}
 use Rattle.yd_files.specs.Reading.{ReadsOne, StopsAmong, StopsReading, no_inputs, with_content}
-use Rattle.yd_files.specs.Seen.{file_of}
+use Rattle.yd_files.specs.Seen.{file_of, inputs_with}
 use Rattle.yd_files.specs.Verdict.{AreRead, Content, HasVerdict, Inputs, IsReached, IsTold, NoneIsMissing, StandFor, accepted, inputs_in, scripts_in, scripts_of, updates_in, updates_of, vectors_in, vectors_of}
 use Rattle.yd_files.specs.declared.fault.FileFault.{FileFault}
 use Rattle.yd_files.specs.declared.fault.FileFault.TheVariants.{Refused, ReadFault, TooLarge, NoMemory}
 use Rattle.yd_files.specs.declared.file.File.{File as FileSeen}
+use Rattle.yd_files.specs.declared.inputs.Others.{Others}
 use Rattle.yd_files.specs.declared.kind.Kind.{Kind}
 
 -- ---- contents
@@ -86,6 +88,12 @@ so_far_none told faults Calm files = record {
   counts = omega arith;
   calm = λ calmly is_told. (calmly, refl);
 }
+
+-- the same with what a taker took of these files
+pub record TookSoFar (told now : Option Shelf) (faults faults_now : ℕ) (Calm CalmNow : Type 0) (files : List File) (index : ℕ) (others : Others) (TookNow : List UpdateValue → Type 0) : Type 0 where
+  pub updates : List UpdateValue
+  pub took : TookNow updates
+  pub so : SoFar told now faults faults_now Calm CalmNow files index (inputs_with others updates)
 
 -- the file of this number
 item_at : (seen : List FileSeen) (index : ℕ) (any : FileSeen) → index < length seen → get_or (map file_of seen) index (file_of any) ≡ file_of (get_or seen index any)

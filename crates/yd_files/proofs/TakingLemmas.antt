@@ -11,8 +11,10 @@ use Rattle.yd_parts.specs.declared.fault.ReadError.TheVariants as errors
 use Rattle.yd_reading.specs.Answer.{ReadsWhole}
 use Rattle.yd_script.specs.File.{StandsForScript}
 use Rattle.yd_v1.specs.Grammar.{FillsV1}
-use Rattle.yd_v1.specs.Log.{StandsBehind}
-use Rattle.yd_files.specs.Reading.{RefusedBy, TakesFile, TakesRead}
+use Rattle.yd_v1.specs.Log.{TakesLog}
+use Rattle.yd_files.specs.Reading.{RefusedBy, Takes, TakesFile, TakesRead}
+use Rattle.yd_files.specs.Seen.{inputs_with}
+use Rattle.yd_files.specs.declared.inputs.Others.{Others}
 use Rattle.yd_files.specs.Verdict.{Inputs, StandsIn, one_update, script, updates, vector}
 use Rattle.yd_files.specs.declared.kind.Kind.{Kind}
 use Rattle.yd_files.specs.declared.kind.Kind.TheVariants.{Log, Script, Vector}
@@ -53,18 +55,20 @@ update_taken kind bytes old ks us u stands valid kinds taken = record {
 }
 
 -- the updates of a log more
-pub log_taken : (kind : Kind) (bytes : List ℕ) (old : Inputs) (ks : List Kind) (us : List UpdateValue) (result : Result (Unit {0}) ReadError) (Fails : Fault → Type 0) → ReadsWhole (λ done. us) (StandsBehind old.updates bytes) Fails result
-    → OnOk result (Each IsValidUpdate old.updates → Each IsValidUpdate us) → kind ≡ Log → ks ≡ old.kinds ++ kind ∷ []
-    → OnOk result (TakesFile kind bytes old (record { kinds = ks; vectors = old.vectors; scripts = old.scripts; updates = us }))
-log_taken kind bytes old ks us (Ok done) Fails whole valid is kinds =
-    let stands = whole.rightly in
-    record {
-      content = updates stands.0;
-      stands = rw is (stands.0, refl, stands.1);
-      valid = valid;
-      appended = rw (kinds, stands.2, append-nil old.vectors, append-nil old.scripts) refl;
-    }
-log_taken kind bytes old ks us (Err error) Fails whole valid is kinds = tt
+pub log_taken : (kind : Kind) (bytes : List ℕ) (old : Others) (new : Others) (Took TookNow : List UpdateValue → Type 0) (result : Result (Unit {0}) ReadError) → OnOk result (TakesLog bytes Took TookNow) → kind ≡ Log →
+    new.kinds.items ≡ old.kinds.items ++ kind ∷ [] → new.vectors ≡ old.vectors → new.scripts ≡ old.scripts →
+    OnOk result (Takes Took TookNow (λ before after. TakesFile kind bytes (inputs_with old before) (inputs_with new after)))
+log_taken kind bytes old new Took TookNow (Ok done) takes is kinds vectors scripts = λ before took. record {
+  updates = before ++ takes.updates;
+  took = takes.taken before took;
+  holds = record {
+    content = updates takes.updates;
+    stands = rw is (takes.updates, refl, takes.stands);
+    valid = λ was. each_append IsValidUpdate before takes.updates was takes.valid;
+    appended = rw (kinds, vectors, scripts, append-nil old.vectors.items, append-nil old.scripts.items) refl;
+  };
+}
+log_taken kind bytes old new Took TookNow (Err error) takes is kinds vectors scripts = tt
 
 -- one state vector more
 pub vector_taken : (kind : Kind) (bytes : List ℕ) (old : Inputs) (ks : List Kind) (vs : List (List (Client × ℕ))) (v : List (Client × ℕ)) → FillsV1 vector_plan bytes v → kind ≡ Vector → ks ≡ old.kinds ++ kind ∷ [] → vs ≡ old.vectors ++ v ∷ []

@@ -1,5 +1,6 @@
 pub mod Counts
 pub mod Files
+pub mod Gathered
 pub mod Law
 pub mod Loading
 pub mod Reading

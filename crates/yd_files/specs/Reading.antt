@@ -2,6 +2,7 @@
 use Rattle.std.specs.Prelude.{◌≡◌, ℕ, List, [], ◌∷◌, ◌++◌, Option, Result, Ok, Err}
 use Rattle.yd_words.specs.Each.{Each}
 use Rattle.yd_ops.specs.Valid.{IsValidUpdate}
+use Rattle.yd_ops.specs.Value.{UpdateValue}
 use Rattle.yd_parts.specs.Fault.{Fault}
 use Rattle.yd_parts.specs.declared.fault.ReadError.{ReadError}
 use Rattle.yd_parts.specs.declared.fault.ReadError.TheVariants as errors
@@ -9,11 +10,24 @@ use Rattle.yd_world.specs.Shelf.{Shelf}
 use Rattle.yd_files.specs.Counts.{Count, RoseIn}
 use Rattle.yd_files.specs.Files.{File}
 use Rattle.yd_files.specs.Loading.{BeginsLast}
-use Rattle.yd_files.specs.Seen.{file_of}
-use Rattle.yd_files.specs.Verdict.{Content, HasVerdict, Inputs, IsReached, IsTold, NoneIsMissing, StandsIn, StopsAt, accepted, missing, refused, scripts_of, too_large, updates_of, vectors_of}
+use Rattle.yd_files.specs.Seen.{file_of, inputs_with}
+use Rattle.yd_files.specs.Verdict.{Content, HasVerdict, Inputs, IsReached, IsTold, NoneIsMissing, StandFor, StandsIn, StopsAt, accepted, missing, refused, scripts_of, too_large, updates_of, vectors_of}
 use Rattle.yd_files.specs.declared.kind.Kind.{Kind}
 use Rattle.yd_files.specs.declared.fault.FileFault.{FileFault}
+use Rattle.yd_files.specs.declared.inputs.Others.{Others}
 use Rattle.yd_files.specs.declared.fault.FileFault.TheVariants.{Refused, ReadFault, TooLarge, NoMemory}
+
+-- ---- what a taker took
+
+-- it took these updates, of which this holds
+pub record HasTaken (TookNow : List UpdateValue → Type 0) (Holds : List UpdateValue → Type 0) : Type 0 where
+  pub updates : List UpdateValue
+  pub took : TookNow updates
+  pub holds : Holds updates
+
+-- whatever it took before, it has taken updates now that go with those
+abbrev pub Takes : (List UpdateValue → Type 0) → (List UpdateValue → Type 0) → (List UpdateValue → List UpdateValue → Type 0) → Type 0
+Takes Took TookNow GoWith = (before : List UpdateValue) → Took before → HasTaken TookNow (GoWith before)
 
 -- ---- one file
 
@@ -77,3 +91,7 @@ StopsAmong Calm told told_now files reads NoMemory = Unit {0}
 -- where the library tells, and the first file that is not accepted, if there is one, is there, reading counts no fault
 abbrev pub ReadsCalmly : Option Shelf → List File → Count → Type 0
 ReadsCalmly told files reads = IsTold told → NoneIsMissing told files → reads.now ≡ reads.before
+
+-- all files are accepted, and these inputs with the updates that were taken are what they stand for
+abbrev pub TakesInputs : Option Shelf → List File → Others → (List UpdateValue → Type 0) → Type 0
+TakesInputs told files others TookNow = HasTaken TookNow (λ us. StandFor told files (inputs_with others us) × Each IsValidUpdate us)

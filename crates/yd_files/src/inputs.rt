@@ -8,8 +8,8 @@ ghost use Rattle.yd_files.specs.Seen.{inputs_of, inputs_with};
 use crate::kind::Kind;
 use std::alloc::Global;
 use yd_any::Text;
+use yd_gathering::UpdateList;
 use yd_ids::Vector;
-use yd_v1::UpdateList;
 
 /// What files stand for together, in the order of the files.
 #[derive(Drop)]

@@ -3,7 +3,8 @@
 ghost use Rattle.std.specs.Prelude.{◌≡◌, ◌∷◌, ◌++◌, [], IfErr, IfOk, OnOk};
 ghost use Rattle.yd_ops.specs.Valid.{IsValidUpdate};
 ghost use Rattle.yd_ops.specs.View.{update_value};
-ghost use Rattle.yd_files.specs.Reading.{RefusedBy, TakesFile, TakesRead};
+ghost use Rattle.yd_gathering.specs.Taking.{TakesMore};
+ghost use Rattle.yd_files.specs.Reading.{RefusedBy, Takes, TakesFile, TakesRead};
 ghost use Rattle.yd_files.specs.Seen.{inputs_with};
 ghost use Rattle.yd_files.specs.Verdict.{HasFirstFaultIn};
 
@@ -11,11 +12,12 @@ use crate::inputs::Others;
 use crate::kind::Kind;
 use std::alloc::Global;
 use yd_any::Text;
+use yd_gathering::UpdateTaker;
 use yd_ids::Vector;
 use yd_ops::Update;
 use yd_parts::ReadError;
 use yd_script::read_script;
-use yd_v1::{UpdateTaker, read_v1, read_vector, take_log};
+use yd_v1::{read_v1, read_vector, take_log};
 use yd_v2::read_v2;
 
 /// Reads the bytes of a file of this kind, and takes in what they stand for, or tells the first
@@ -27,8 +29,8 @@ pub fn take_file<T: UpdateTaker>(
     others: &mut Others,
     taker: &mut T,
 ) -> Result<(), ReadError>
-    ensures read { OnOk result (TakesFile kind bytes.now
-        (inputs_with others.old (T.taken taker.old)) (inputs_with others.new (T.taken taker.new))) }
+    ensures read { OnOk result (Takes (T.took taker.old) (T.took taker.new) (λ before after.
+        TakesFile kind bytes.now (inputs_with others.old before) (inputs_with others.new after))) }
     ensures refused { IfErr result (RefusedBy (HasFirstFaultIn kind bytes.now)) }
 {
     others.kinds.push(kind)?;
@@ -45,7 +47,7 @@ pub fn take_file<T: UpdateTaker>(
 fn take_one<T: UpdateTaker>(read: Result<Update, ReadError>, taker: &mut T) -> Result<(), ReadError>
     requires { IfOk read (λ update. IsValidUpdate (update_value update)) }
     ensures { TakesRead (λ update.
-        T.taken taker.new ≡ T.taken taker.old ++ update_value update ∷ []) read result }
+        TakesMore (T.took taker.old) (T.took taker.new) (update_value update ∷ [])) read result }
 {
     let update = read?;
     if taker.take(update).is_err() {

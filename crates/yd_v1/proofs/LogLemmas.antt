@@ -1,25 +1,31 @@
 -- Logs are read exactly.
-use Rattle.std.proofs.Common.{◌≡◌, ◌≢◌, ◌∙◌, ℕ, zero, suc, ◌<◌, ◌≤◌, ◌+◌, ◌-◌, List, [], ◌∷◌, ◌++◌, length, Result, Ok, Err, inl, inr, refl, ap, subst, sym, arith, append_assoc, append-nil, length-append}
+use Rattle.std.proofs.Common.{◌≡◌, ◌≢◌, ◌∙◌, ℕ, zero, suc, ◌<◌, ◌≤◌, ◌+◌, ◌-◌, List, [], ◌∷◌, ◌++◌, length, map, Result, Ok, Err, OnOk, inl, inr, refl, ap, subst, sym, arith, append_assoc, append-nil, length-append}
 use Rattle.yd_num.proofs.ReadingLemmas.{ok_value}
 use Rattle.yd_num.specs.Number.{IsTerminated}
 use Rattle.yd_ops.specs.Value.{UpdateValue}
 use Rattle.yd_parts.proofs.PartExactLemmas.{parts_exact}
-use Rattle.yd_parts.specs.Fault.{Fault, IsFaultOf, Makes}
+use Rattle.yd_parts.specs.Fault.{FailsAs, Fault, IsFaultOf, Makes}
 use Rattle.yd_parts.specs.Part.{Unread, all_of, blob, here, part_at}
 use Rattle.yd_parts.specs.Plan.{and_then}
 use Rattle.yd_parts.specs.declared.fault.Column.TheVariants.{Whole}
 use Rattle.yd_parts.specs.declared.fault.ReadError.{ReadError}
+use Rattle.yd_parts.specs.declared.fault.ReadError.TheVariants as errors
 use Rattle.yd_fields.specs.UpdatePlan.{update_plan}
 use Rattle.std.specs.Prelude.{None}
 use Rattle.std.specs.Result.{IsErrAnd}
 use Rattle.std.proofs.lemmas.Result.{err_from_is_err_and}
 use Rattle.yd_words.proofs.EachLemmas.{each_append}
 use Rattle.yd_words.specs.Each.{Each}
+use Rattle.yd_gathering.specs.Taking.{TakesMore}
 use Rattle.yd_ops.specs.Valid.{IsValidUpdate}
+use Rattle.yd_ops.specs.View.{update_value}
+use Rattle.yd_ops.specs.declared.updates.Update.{Update}
 use Rattle.yd_parts.proofs.FaultLemmas.{fault_outwards}
+use Rattle.yd_reading.proofs.AnswerLemmas.{reads_whole}
+use Rattle.yd_reading.specs.Answer.{ReadsWhole}
 use Rattle.yd_reading.specs.Files.{FilesAreRead}
 use Rattle.yd_v1.proofs.FileLemmas.{files_read}
-use Rattle.yd_v1.specs.Log.{AreEntries, FailsBehind, FailsEntry, HasFirstFaultLog, StandsBehind, StandsBody, StandsEntry, StandsForLog, TakesEntry, body_start, entry_at, in_file, log_behind, log_from, log_reading, read_in_file, unless_ended}
+use Rattle.yd_v1.specs.Log.{AreEntries, FailsBehind, FailsEntry, HasFirstFaultLog, IsLog, StandsBody, StandsEntry, StandsForLog, TakesEntries, TakesEntry, TakesLog, body_start, entry_at, in_file, log_from, log_reading, read_in_file, unless_ended}
 use Rattle.yd_v1.specs.Reading.{v1_reading}
 
 -- ---- one entry
@@ -207,15 +213,29 @@ log_more most i found left u next within some read =
     let steps : most - i ≡ suc (most - (i + 1)) = omega arith in
     rw steps (some_left left.bytes found _ some ∙ ap (λ (r : Result (UpdateValue × Unread) Fault). and_then r (λ got. log_from (most - (i + 1)) (found ++ got.0 ∷ []) got.1)) read)
 
--- an entry more was taken
-pub entry_more : (most i : ℕ) (before after : List UpdateValue) (old new : Unread) (whole : Result (List UpdateValue) Fault) → i < most → old.bytes ≢ [] → TakesEntry old new before after →
-    log_from (most - i) before old ≡ whole → log_from (most - (i + 1)) after new ≡ whole
-entry_more most i before after old new whole within some takes so_far =
-    rw takes.taken (sym (log_more most i before old takes.update new within some takes.read) ∙ so_far)
+-- these were read and taken so far, and this is left
+pub record TakesSoFar (bytes : List ℕ) (most : ℕ) (left : Unread) (Took TookNow : List UpdateValue → Type 0) : Type 0 where
+  pub updates : List UpdateValue
+  pub read : log_from most updates left ≡ log_reading bytes
+  pub valid : Each IsValidUpdate updates
+  pub taken : TakesMore Took TookNow updates
 
--- and all are valid still
-pub entry_valid : (before after : List UpdateValue) (old new : Unread) → TakesEntry old new before after → Each IsValidUpdate before → Each IsValidUpdate after
-entry_valid before after old new takes valid = rw takes.taken (each_append IsValidUpdate before (takes.update ∷ []) valid (takes.valid, tt))
+pub takes_none : (bytes : List ℕ) (Took : List UpdateValue → Type 0) → TakesSoFar bytes (length bytes) (all_of Whole bytes) Took Took
+takes_none bytes Took = record { updates = []; read = refl; valid = tt; taken = λ before took. subst Took (sym (append-nil before)) took }
+
+-- an entry more was taken
+pub takes_next : (bytes : List ℕ) (most i : ℕ) (old new : Unread) (Took TookOld TookNew : List UpdateValue → Type 0) → i < most → old.bytes ≢ [] → TakesSoFar bytes (most - i) old Took TookOld → TakesEntry old new TookOld TookNew →
+    TakesSoFar bytes (most - (i + 1)) new Took TookNew
+takes_next bytes most i old new Took TookOld TookNew within some so takes = record {
+  updates = so.updates ++ takes.update ∷ [];
+  read = sym (log_more most i so.updates old takes.update new within some takes.read) ∙ so.read;
+  valid = each_append IsValidUpdate so.updates (takes.update ∷ []) so.valid (takes.valid, tt);
+  taken = λ before took. subst TookNew (append_assoc before so.updates (takes.update ∷ [])) (takes.taken (before ++ so.updates) (so.taken before took));
+}
+
+-- nothing is left to read
+pub takes_all : (bytes : List ℕ) (most : ℕ) (left : Unread) (Took TookNow : List UpdateValue → Type 0) → TakesSoFar bytes most left Took TookNow → ((found : List UpdateValue) → log_from most found left ≡ Ok found) → TakesEntries bytes Took TookNow
+takes_all bytes most left Took TookNow so ended = record { updates = so.updates; read = sym so.read ∙ ended so.updates; valid = so.valid; taken = so.taken }
 
 -- the next entry has a fault
 pub log_stops : (most i : ℕ) (found : List UpdateValue) (left : Unread) (fault : Fault) → i < most → left.bytes ≢ [] → entry_at left ≡ Err fault → log_from (most - i) found left ≡ Err fault
@@ -238,29 +258,63 @@ log_done most i found left all =
     rw none refl
 
 -- an error that `?` passes on
-pub passes_made : {X Y Z : Type 0} (value : X → Y) (result : Result X ReadError) (inner : Result Z Fault) (outer : Result Y Fault) (e : ReadError) →
-    IsErrAnd result (λ f. f ≡ e) → IsFaultOf inner e → ((fault : Fault) → inner ≡ Err fault → outer ≡ Err fault) → Makes value result outer
-passes_made value result inner outer e passed is_inner through =
+pub passes_fault : {X Z Y : Type 0} (result : Result X ReadError) (inner : Result Z Fault) (outer : Result Y Fault) (e : ReadError) →
+    IsErrAnd result (λ f. f ≡ e) → IsFaultOf inner e → ((fault : Fault) → inner ≡ Err fault → outer ≡ Err fault) → FailsAs result outer
+passes_fault result inner outer e passed is_inner through =
     let p = err_from_is_err_and result passed in rw (p.1, p.2) (fault_outwards inner outer e through is_inner)
-
--- logs are read exactly, behind updates that were found before
-pub logs_read_behind : (found : List UpdateValue) → FilesAreRead (log_behind found) (λ bytes. StandsBehind found bytes) HasFirstFaultLog
-logs_read_behind found = record {
-  values = λ bytes all. (
-    λ is. let there = log_found (length bytes) found (all_of Whole bytes) all (omega arith) is in (there.updates, there.entries, there.all_is),
-    λ stands. log_only stands.0 (length bytes) found (all_of Whole bytes) (omega arith) stands.1 ∙ ap Ok (sym stands.2),
-  );
-  faults = λ bytes fault. (λ is. log_fails (length bytes) found (all_of Whole bytes) fault (omega arith) is, λ fails. log_fails_only fails.0 (length bytes) found (all_of Whole bytes) fault (omega arith) fails.1);
-}
 
 -- logs are read exactly
 pub logs_read : FilesAreRead log_reading StandsForLog HasFirstFaultLog
-logs_read =
-    let behind = logs_read_behind [] in
-    record {
-      values = λ bytes us. (
-        λ is. let there = (behind.values bytes us).0 is in subst (λ all. StandsForLog bytes all) (sym there.2) there.1,
-        λ stands. (behind.values bytes us).1 (us, stands, refl),
-      );
-      faults = behind.faults;
-    }
+logs_read = record {
+  values = λ bytes us. (
+    λ is. let there = log_found (length bytes) [] (all_of Whole bytes) us (omega arith) is in subst (StandsForLog bytes) (sym there.all_is) there.entries,
+    λ stands. log_only us (length bytes) [] (all_of Whole bytes) (omega arith) stands,
+  );
+  faults = λ bytes fault. (λ is. log_fails (length bytes) [] (all_of Whole bytes) fault (omega arith) is, λ fails. log_fails_only fails.0 (length bytes) [] (all_of Whole bytes) fault (omega arith) fails.1);
+}
+
+-- a log that is handed on stands for what was taken
+pub takes_log : (bytes : List ℕ) (Took TookNow : List UpdateValue → Type 0) (result : Result (Unit {0}) ReadError) → OnOk result (TakesEntries bytes Took TookNow) → OnOk result (TakesLog bytes Took TookNow)
+takes_log bytes Took TookNow (Ok done) takes = record { updates = takes.updates; stands = (logs_read.values bytes takes.updates).0 takes.read; valid = takes.valid; taken = takes.taken }
+takes_log bytes Took TookNow (Err e) takes = tt
+
+-- that it is one is read, or the first fault
+is_read : Result (List UpdateValue) Fault → Result (Unit {0}) Fault
+is_read (Ok us) = Ok tt
+is_read (Err fault) = Err fault
+
+is_log : FilesAreRead (λ bytes. is_read (log_reading bytes)) (λ bytes done. IsLog bytes) HasFirstFaultLog
+is_log = record {
+  values = λ bytes done. (λ is. there bytes done (log_reading bytes) refl is, λ stands. ap is_read ((logs_read.values bytes stands.0).1 stands.1));
+  faults = λ bytes fault. (λ is. (logs_read.faults bytes fault).0 (failed (log_reading bytes) fault is), λ fails. ap is_read ((logs_read.faults bytes fault).1 fails));
+}
+  where
+    there : (bytes : List ℕ) (done : Unit {0}) (read : Result (List UpdateValue) Fault) → log_reading bytes ≡ read → is_read read ≡ Ok done → IsLog bytes
+    there bytes done (Ok us) read is = (us, (logs_read.values bytes us).0 read)
+    there bytes done (Err fault) read is = absurd cc
+
+    failed : (read : Result (List UpdateValue) Fault) (fault : Fault) → is_read read ≡ Err fault → read ≡ Err fault
+    failed (Ok us) fault is = absurd cc
+    failed (Err other) fault is = ap Err (cc)
+
+pub log_whole : (bytes : List ℕ) (Took TookNow : List UpdateValue → Type 0) (result : Result (Unit {0}) ReadError) → OnOk result (TakesEntries bytes Took TookNow) → FailsAs result (log_reading bytes) →
+    ReadsWhole (λ done. done) (λ done. IsLog bytes) (HasFirstFaultLog bytes) result
+log_whole bytes Took TookNow result taken fails = reads_whole (λ done. done) (λ b. is_read (log_reading b)) (λ b done. IsLog b) HasFirstFaultLog is_log bytes result (makes result taken fails)
+  where
+    fault_of : (e : ReadError) → IsFaultOf (log_reading bytes) e → IsFaultOf (is_read (log_reading bytes)) e
+    fault_of errors.NoMemory is = tt
+    fault_of (errors.Fault cause spot) is = ap is_read is
+
+    makes : (r : Result (Unit {0}) ReadError) → OnOk r (TakesEntries bytes Took TookNow) → FailsAs r (log_reading bytes) → Makes (λ done. done) r (is_read (log_reading bytes))
+    makes (Ok done) taken fails = ap is_read taken.read
+    makes (Err e) taken fails = fault_of e fails
+
+-- what a list took of a log that was read
+pub record IsListed (bytes : List ℕ) (list : List Update) : Type 0 where
+  pub made : log_reading bytes ≡ Ok (map update_value list)
+  pub valid : Each IsValidUpdate (map update_value list)
+
+pub list_made : (bytes : List ℕ) (none list : List Update) → none ≡ [] → TakesEntries bytes (λ taken. taken ≡ map update_value none) (λ taken. taken ≡ map update_value list) → IsListed bytes list
+list_made bytes none list empty takes =
+    let is : takes.updates ≡ map update_value list = takes.taken [] (sym (ap (map update_value) empty)) in
+    record { made = takes.read ∙ ap Ok is; valid = subst (Each IsValidUpdate) is takes.valid }

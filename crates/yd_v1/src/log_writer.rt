@@ -5,10 +5,10 @@ ghost use Rattle.yd_v1.specs.Log.{StandsForLog};
 ghost use Rattle.yd_v1.specs.LogWriting.{log_bytes, updates_in_log};
 
 use crate::log_writing::write_entry;
-use crate::logs::UpdateTaker;
 use crate::writer::V1Writer;
 use std::alloc::Global;
 use std::marker::Model;
+use yd_gathering::UpdateTaker;
 use yd_num::Bytes;
 use yd_ops::Update;
 use yd_parts::NoMemory;
@@ -55,7 +55,9 @@ impl LogWriter {
 }
 
 impl UpdateTaker for LogWriter {
-    ghost taken = { updates_in_log };
+    ghost use Rattle.std.specs.Prelude.{◌≡◌};
+
+    ghost took = { λ log taken. taken ≡ updates_in_log log };
 
     fn take(&mut self, update: Update) -> Result<(), NoMemory> {
         write_entry(self.alloc, &update, &mut self.body, &mut self.log)?;

@@ -10,7 +10,7 @@ ghost use Rattle.yd_serving.specs.Board.{board_of};
 ghost use Rattle.yd_asking.specs.Command.{command_of, HasRange, IsOfInputs, IsOnline};
 ghost use Rattle.yd_app.specs.Link.{link_of};
 ghost use Rattle.yd_app.specs.Online.{HasTurns, OfInputs, TradesTurns};
-ghost use Rattle.yd_app.specs.Output.{IsMadeOf};
+ghost use Rattle.yd_app.specs.Output.{IsMadeOf, IsOfReceived};
 ghost use Rattle.yd_app.specs.Stopping.{IsNoLinkFault, MakesIn, MakesOn, MakesOver, StopsMaking};
 
 mod check;
@@ -28,7 +28,7 @@ mod vector;
 use std::alloc::Global;
 use yd_asking::Command;
 use yd_ending::Stop;
-use yd_files::{File, Inputs, read_files};
+use yd_files::{File, Inputs, gather_files, read_files};
 use yd_world::{Library, Switchboard};
 
 /// What the command makes of its files, and over the network where it uses one; or why it stops.
@@ -64,8 +64,8 @@ pub fn make_of<'a, L: Library, B: Switchboard>(
     Ok(output)
 }
 
-// What the command makes of its files alone, or why it stops. `pack` writes while it reads; all
-// other commands are of what the files stand for together.
+// What the command makes of its files alone, or why it stops. `pack` writes while it reads; of the
+// other commands those that ask only what is received gather the updates, and the others keep them.
 fn make_alone<'a, L: Library>(
     alloc: Global,
     command: Command<'a>,
@@ -86,12 +86,37 @@ fn make_alone<'a, L: Library>(
             let log = pack::pack(alloc, library, files)?;
             Ok(log)
         }
+        Command::Show { .. } | Command::Merge { .. } | Command::Vector | Command::Edit { .. } => {
+            let output = make_gathered(alloc, command, library, files)?;
+            Ok(output)
+        }
         _ => {
             let inputs = read_files(alloc, library, files)?;
             let output = output_of(alloc, command, &inputs)?;
             Ok(output)
         }
     }
+}
+
+// What a command makes of its files that asks only what is received of their updates.
+fn make_gathered<'a, L: Library>(
+    alloc: Global,
+    command: Command<'a>,
+    library: &mut L,
+    files: &[File<'a>],
+) -> Result<Vec<u8>, Stop<'a>>
+    requires range { HasRange (command_of command) }
+    requires received { IsOfReceived (command_of command) }
+    ensures makes { MakesOn (L.is_calm library.old) (command_of command.entry)
+        (map file_of files.now) (L.told library.old) (L.told library.new)
+        (count_of (L.faults library.old) (L.faults library.new)) result }
+    ensures calm { L.is_calm library.old → ReadsCalmly (L.told library.old)
+        (map file_of files.now) (count_of (L.faults library.old) (L.faults library.new)) }
+    ensures linked { IsNoLinkFault result }
+{
+    let inputs = gather_files(alloc, library, files)?;
+    let output = output_of(alloc, command, &inputs)?;
+    Ok(output)
 }
 
 // What the command makes over the network of what its files stand for, or why it stops.
