@@ -9,6 +9,7 @@ const decoding = require('lib0/decoding');
 const encoding = require('lib0/encoding');
 const Y = require('yjs');
 const { bytesOf, casesOf, wordsOf } = require('./case_file.js');
+const { generated } = require('./generate.js');
 const { APPLIED } = require('./session.js');
 const { MODES } = require('./shown.js');
 
@@ -89,6 +90,9 @@ function answer({ files }, words) {
   }
   if (words[0] === 'cut') {
     return cut(bytesOf(files.get(words[1])), read(2)[0]);
+  }
+  if (words[0] === 'generate') {
+    return Buffer.from(generated(Number(words[1])));
   }
   return words[0] === 'convert' ? converted(words[1], read(2)[0]) : null;
 }

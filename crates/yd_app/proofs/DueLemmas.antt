@@ -1,5 +1,5 @@
 -- What is due: one thing, and there always is one.
-use Rattle.std.proofs.Common.{◌≡◌, ◌⊎◌, ◌∙◌, ℕ, List, Option, Some, None, inl, inr, refl, sym, subst, ap, ap₂}
+use Rattle.std.proofs.Common.{◌≡◌, ◌⊎◌, ◌∙◌, ℕ, true, List, Option, Some, None, inl, inr, refl, sym, subst, ap, ap₂}
 use Rattle.yd_checking.proofs.ConvergeLemmas.{defined_found}
 use Rattle.yd_checking.specs.Findings.{findings_of}
 use Rattle.yd_checking.specs.declared.checking.Findings.{Findings}
@@ -16,8 +16,11 @@ use Rattle.yd_files.proofs.VerdictLemmas.{files_judged, stand_apart, stand_one, 
 use Rattle.yd_files.specs.Files.{File}
 use Rattle.yd_files.specs.Verdict.{Inputs, IsTold, StandFor, StopsAt, Verdict, accepted, missing, refused, too_large}
 use Rattle.yd_app.proofs.CheckLemmas.{found_one}
+use Rattle.yd_app.proofs.GenerateLemmas.{generated_one, generated_some}
+use Rattle.yd_generator.specs.Generated.{ended}
+use Rattle.yd_app.specs.Commands.Generate.{generated_line}
 use Rattle.yd_asking.proofs.WordLemmas.{asked_or_not, asks_same}
-use Rattle.yd_asking.specs.Command.{Command, IsOnline, check, convert, cut, edit, merge, pack, serve, show, sync, vector}
+use Rattle.yd_asking.specs.Command.{Command, HasRange, IsOnline, check, convert, cut, edit, generate, merge, pack, serve, show, sync, vector}
 use Rattle.yd_app.specs.Commands.Check.{findings_text}
 use Rattle.yd_app.specs.Commands.Convert.{converted_output}
 use Rattle.yd_app.specs.Commands.Cut.{cut_output}
@@ -63,6 +66,7 @@ output_one check inputs bytes other kept a b = a.bytes_are
     ∙ ap (λ (found : Findings). findings_text found) (found_one inputs.updates a.found b.found kept a.is_found b.is_found) ∙ sym b.bytes_are
 output_one (serve address turns) inputs bytes other kept a b = absurd a
 output_one (sync address turns) inputs bytes other kept a b = absurd a
+output_one (generate steps) inputs bytes other kept a b = generated_one steps bytes other a b
 output_one command inputs bytes other kept a b = a ∙ sym b
 
 -- or it refuses them with one line
@@ -79,23 +83,24 @@ output_apart (edit client name) inputs bytes line kept a b =
 output_apart command inputs bytes line kept a b = b
 
 -- one of the two comes, or it uses the network
-output_or_refusal : (command : Command) (inputs : Inputs) → ((bytes : List ℕ) × IsOutputOf command inputs bytes) ⊎ ((line : List ℕ) × IsRefusalOf command inputs line) ⊎ IsOnline command
-output_or_refusal (edit client name) inputs = elim (lines_end.some client (received_set inputs.updates) (lines_of_first inputs.scripts) (received_written inputs.updates)) [
+output_or_refusal : (command : Command) (inputs : Inputs) → HasRange command → ((bytes : List ℕ) × IsOutputOf command inputs bytes) ⊎ ((line : List ℕ) × IsRefusalOf command inputs line) ⊎ IsOnline command
+output_or_refusal (edit client name) inputs range = elim (lines_end.some client (received_set inputs.updates) (lines_of_first inputs.scripts) (received_written inputs.updates)) [
   | inl played ↦ inl (merged_output V1 played.0, record { made = played.0; are_made = played.1; bytes_are = refl })
   | inr stops ↦ inr (inl (refused_script_line name stops.0 stops.1, (stops.0, stops.1, stops.2, refl)))
 ]
-output_or_refusal (show mode root) inputs =
+output_or_refusal (show mode root) inputs range =
     let document = document_of (received_set inputs.updates) in
     inl (shown_line mode root document, record { document = document; is_document = defined_is (received_set inputs.updates) (received_written inputs.updates); line_is = refl })
-output_or_refusal (convert form) inputs = inl (converted_output form inputs.updates, refl)
-output_or_refusal pack inputs = inl (log_bytes inputs.updates, refl)
-output_or_refusal (merge form) inputs = inl (merged_output form inputs.updates, refl)
-output_or_refusal vector inputs = inl (vector_output inputs.updates, refl)
-output_or_refusal (cut name) inputs = inl (cut_output inputs.kinds inputs.vectors inputs.updates, refl)
-output_or_refusal check inputs =
+output_or_refusal (convert form) inputs range = inl (converted_output form inputs.updates, refl)
+output_or_refusal pack inputs range = inl (log_bytes inputs.updates, refl)
+output_or_refusal (merge form) inputs range = inl (merged_output form inputs.updates, refl)
+output_or_refusal vector inputs range = inl (vector_output inputs.updates, refl)
+output_or_refusal (cut name) inputs range = inl (cut_output inputs.kinds inputs.vectors inputs.updates, refl)
+output_or_refusal check inputs range =
     inl (findings_text (findings_of inputs.updates), record { found = findings_of inputs.updates; is_found = defined_found inputs.updates (findings_of inputs.updates) refl; bytes_are = refl })
-output_or_refusal (serve address turns) inputs = inr (inr tt)
-output_or_refusal (sync address turns) inputs = inr (inr tt)
+output_or_refusal (serve address turns) inputs range = inr (inr tt)
+output_or_refusal (sync address turns) inputs range = inr (inr tt)
+output_or_refusal (generate steps) inputs range = inl (generated_line (ended steps) true, generated_some steps range)
 
 -- one that uses the network makes and refuses nothing of its inputs alone
 online_apart : (command : Command) (inputs : Inputs) → IsOnline command → ((bytes : List ℕ) × IsOutputOf command inputs bytes) ⊎ ((line : List ℕ) × IsRefusalOf command inputs line) → ⊥
@@ -238,7 +243,7 @@ due_some words shelf =
     by_files : (command : Command) (files : List File) → Asks words command files
         → ((inputs : Inputs) × StandFor (Some shelf) files inputs) ⊎ ((file : File) × (verdict : Verdict) × StopsAt (Some shelf) files file verdict)
         → ((due : Due) × IsDue words (Some shelf) due) ⊎ GoesOnline words (Some shelf)
-    by_files command files asks (inl read) = by_command command files asks read.0 read.1 (output_or_refusal command read.0)
+    by_files command files asks (inl read) = by_command command files asks read.0 read.1 (output_or_refusal command read.0 asks.in_range)
     by_files command files asks (inr stops) = inl (by_first command files asks stops.0 stops.1 stops.2)
 
 -- so one thing is due

@@ -1,6 +1,7 @@
 pub mod CheckLemmas
 pub mod DueLemmas
 pub mod EndsLemmas
+pub mod GenerateLemmas
 pub mod LawLemmas
 pub mod MakingLemmas
 pub mod MergeLemmas

@@ -3,6 +3,7 @@ pub mod Check
 pub mod Convert
 pub mod Cut
 pub mod Edit
+pub mod Generate
 pub mod Merge
 pub mod Serve
 pub mod Show

@@ -1,7 +1,8 @@
 -- Laws over words, files, and what is shown of them.
-use Rattle.std.specs.Prelude.{◌≡◌, ◌⊎◌, ℕ, ◌≤◌, List, [], ◌∷◌, Option, Some}
+use Rattle.std.specs.Prelude.{◌≡◌, ◌⊎◌, ◌++◌, ℕ, ◌≤◌, true, List, [], ◌∷◌, codes, Option, Some}
 use Rattle.yd_checking.specs.Law.{AreToldAlike}
 use Rattle.yd_fields.specs.UpdatePlan.{structs_in}
+use Rattle.yd_generator.specs.Generated.{ended}
 use Rattle.yd_grouping.specs.Merged.{merge_of}
 use Rattle.yd_ops.specs.Value.{UpdateValue}
 use Rattle.yd_ops.specs.Agreement.{AreAlike, Agree, HaveSameContents, SayTheSame, operations_of_all}
@@ -13,7 +14,8 @@ use Rattle.yd_files.specs.Files.{File}
 use Rattle.yd_files.specs.Verdict.{Inputs, StandFor}
 use Rattle.yd_files.specs.declared.kind.Kind.{Kind}
 use Rattle.yd_files.specs.declared.kind.Kind.TheVariants as kinds
-use Rattle.yd_asking.specs.Command.{Command, check, convert, merge, show, vector}
+use Rattle.yd_asking.specs.Command.{Command, check, convert, generate, merge, show, vector}
+use Rattle.yd_app.specs.Commands.Generate.{generated_line}
 use Rattle.yd_app.specs.Due.{AreKept, Due, IsDue, IsDueOver, line_of_due, status_of_due}
 use Rattle.yd_app.specs.Link.{Link}
 use Rattle.yd_app.specs.Online.{GoesOnline}
@@ -121,6 +123,15 @@ CheckRunsConverge = (one another : Inputs) (words others : List (List ℕ)) (she
     Runs check one words shelf link taken now → Runs check another others other another_link took took_now →
     Agree one.updates → Agree another.updates → AreSameChanges one.updates another.updates → BringHonest one.updates →
     (written : List ℕ) × TakesAll taken now written × TakesAll took took_now written
+
+-- ---- a large text that is made
+
+-- the line of `generate` is one of the number of steps, and ends with `equal yes`; and a run of it that answers 0 has written that line
+pub record GeneratesEqual : Type 0 where
+  pub line : (steps : ℕ) (inputs : Inputs) (bytes : List ℕ) → steps ≤ 1000000 → IsOutputOf (generate steps) inputs bytes → bytes ≡ generated_line (ended steps) true
+  pub ends : (steps : ℕ) (inputs : Inputs) (bytes : List ℕ) → steps ≤ 1000000 → IsOutputOf (generate steps) inputs bytes → (before : List ℕ) × (bytes ≡ before ++ codes "equal yes\n")
+  pub runs : (steps : ℕ) (inputs : Inputs) (words : List (List ℕ)) (shelf : Shelf) (link : Link) (taken now : Option (List ℕ)) →
+      Runs (generate steps) inputs words shelf link taken now → TakesAll taken now (generated_line (ended steps) true)
 
 -- ---- conversions
 

@@ -9,11 +9,12 @@ use Rattle.yd_ops.specs.Received.{received_set}
 use Rattle.yd_files.specs.Verdict.{Inputs}
 use Rattle.yd_v1.specs.Log.{StandsForLog}
 use Rattle.yd_v1.specs.LogWriting.{log_bytes}
-use Rattle.yd_asking.specs.Command.{Command, check, convert, cut, edit, merge, pack, serve, show, sync, vector}
+use Rattle.yd_asking.specs.Command.{Command, check, convert, cut, edit, generate, merge, pack, serve, show, sync, vector}
 use Rattle.yd_app.specs.Commands.Check.{IsChecked}
 use Rattle.yd_app.specs.Commands.Convert.{ConvertedStandsAgain, converted_output}
 use Rattle.yd_app.specs.Commands.Cut.{CutStandsAgain, cut_output}
 use Rattle.yd_app.specs.Commands.Edit.{EditStandsAgain, IsEdited, IsRefusedLine, lines_of_first}
+use Rattle.yd_app.specs.Commands.Generate.{IsGenerated}
 use Rattle.yd_app.specs.Commands.Merge.{MergedStandsAgain, merged_output}
 use Rattle.yd_app.specs.Commands.Show.{IsShown}
 use Rattle.yd_app.specs.Commands.Vector.{VectorStandsAgain, vector_output}
@@ -30,6 +31,7 @@ IsOutputOf (edit client name) inputs bytes = IsEdited client inputs bytes
 IsOutputOf check inputs bytes = IsChecked inputs.updates bytes
 IsOutputOf (serve address turns) inputs bytes = ⊥
 IsOutputOf (sync address turns) inputs bytes = ⊥
+IsOutputOf (generate steps) inputs bytes = IsGenerated steps bytes
 
 -- what `convert` and `pack` write stands for the updates again, and what `merge`, `vector`, `cut` and `edit` write for the merge, its vector, the cut
 -- and what was made
@@ -44,6 +46,7 @@ StandsForAgain (edit client name) inputs bytes = EditStandsAgain client inputs b
 StandsForAgain check inputs bytes = Unit {0}
 StandsForAgain (serve address turns) inputs bytes = Unit {0}
 StandsForAgain (sync address turns) inputs bytes = Unit {0}
+StandsForAgain (generate steps) inputs bytes = Unit {0}
 
 -- so they are, and what is to stand for something again does
 pub record IsMadeOf (command : Command) (inputs : Inputs) (bytes : List ℕ) : Type 0 where

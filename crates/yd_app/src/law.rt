@@ -7,7 +7,7 @@ ghost use Rattle.yd_world.specs.MemorySink.{IsCalm};
 ghost use Rattle.yd_world.specs.ScriptBoard.{failed_sends, traffic_of};
 ghost use Rattle.yd_serving.specs.Board.{board_of};
 ghost use Rattle.yd_app.specs.Law.{AskForOne, OneEndsOnline, OneIsDue, RunsConverge, ShowsConverge};
-ghost use Rattle.yd_app.specs.Law.{CheckRunsConverge, ChecksConverge};
+ghost use Rattle.yd_app.specs.Law.{CheckRunsConverge, ChecksConverge, GeneratesEqual};
 ghost use Rattle.yd_app.specs.Law.{MergeRunsConverge, MergesAreConverted, MergesConverge};
 ghost use Rattle.yd_app.specs.Link.{link_of};
 ghost use Rattle.yd_app.specs.Online.{HasItsTurns};
@@ -73,6 +73,12 @@ pub fn checks_converge()
 /// agree and what they bring keeps the edit rules.
 pub fn check_runs_converge()
     ensures { CheckRunsConverge }
+{}
+
+/// The line of `generate` is one of the number of steps, and ends with `equal yes`. A run of it that
+/// answers 0 has written that line.
+pub fn generates_equal()
+    ensures { GeneratesEqual }
 {}
 
 /// `convert` of what `merge` wrote in one format is what `merge` writes in the other. A merge in V2

@@ -17,14 +17,14 @@ use yd_world::{Library, Sink, Switchboard};
 
 /// Does what the words ask for, and answers the status. The words that run are `show MODE NAME
 /// FILE..`, `convert FORM FILE`, `pack FILE..`, `merge FORM FILE..`, `vector FILE..`, `cut
-/// VECTORFILE FILE`, `edit CLIENT SCRIPT FILE..`, `check FILE..`, `serve ADDRESS TURNS FILE` and
-/// `sync ADDRESS TURNS FILE`. MODE is `--text`, `--delta`, `--array`, `--map` or `--tree`, FORM
-/// is `v1` or `v2`, and FILE is `v1:NAME` or `v2:NAME`. `FILE..` is one or more, for `edit` none
-/// or more, and each may also be `log:NAME`. VECTORFILE and SCRIPT are any words: the names of a
-/// state vector's file and of a script's. ADDRESS is any word. CLIENT is a number up to 2^53-1 in
-/// decimal digits, TURNS one up to 2^32-1. Files are read and judged one by one in the order of
-/// the words, then the lines of a script or what comes over the network, and nothing is written
-/// to out before all are accepted.
+/// VECTORFILE FILE`, `edit CLIENT SCRIPT FILE..`, `check FILE..`, `serve ADDRESS TURNS FILE`, `sync
+/// ADDRESS TURNS FILE` and `generate N`. MODE is `--text`, `--delta`, `--array`, `--map` or
+/// `--tree`, FORM is `v1` or `v2`, and FILE is `v1:NAME` or `v2:NAME`. `FILE..` is one or more, for
+/// `edit` none or more, and each may also be `log:NAME`. VECTORFILE and SCRIPT are any words: the
+/// names of a state vector's file and of a script's. ADDRESS is any word. CLIENT is a number up to
+/// 2^53-1 in decimal digits, TURNS one up to 2^32-1, N one up to 1,000,000. Files are read and
+/// judged one by one in the order of the words, then the lines of a script or what comes over the
+/// network, and nothing is written to out before all are accepted.
 pub fn run<L: Library, S: Sink, B: Switchboard>(
     alloc: Global,
     words: &[Word],

@@ -6,8 +6,8 @@ use Rattle.std.specs.Prelude.{codes, decimal}
 use Rattle.std.specs.Str.Parse.{ParsesUnsigned, digits_value}
 use Rattle.yd_ids.specs.Id.{IsClient}
 use Rattle.std.specs.Str.{bytes_eq}
-use Rattle.yd_asking.specs.Command.{Command, HasRange, arguments_of, check, convert, cut, edit, merge, name_of, pack, serve, show, sync, vector, word_of, word_of_mode, words_of}
-use Rattle.yd_asking.specs.Table.{Begun, Row, check_in, command_in, convert_in, convert_to, cut_in, edit_by, edit_in, either, format_in, merge_in, merge_to, mode_in, number_in, number_with, pack_in, row_in, serve_for, serve_in, show_in, show_to, sync_for, sync_in, table, vector_in}
+use Rattle.yd_asking.specs.Command.{Command, HasRange, arguments_of, check, convert, cut, edit, generate, merge, name_of, pack, serve, show, sync, vector, word_of, word_of_mode, words_of}
+use Rattle.yd_asking.specs.Table.{Begun, Row, check_in, command_in, convert_in, convert_to, cut_in, edit_by, edit_in, either, format_in, generate_for, generate_in, merge_in, merge_to, mode_in, number_in, number_with, pack_in, row_in, serve_for, serve_in, show_in, show_to, sync_for, sync_in, table, vector_in}
 use Rattle.yd_asking.specs.declared.format.Format.{Format}
 use Rattle.yd_asking.specs.declared.format.Format.TheVariants.{V1, V2}
 use Rattle.yd_modes.specs.declared.mode.Mode.{Mode}
@@ -230,6 +230,18 @@ sync_sound (address ∷ word ∷ rest) command names is = by_number (number_in (
         (refl, subst (λ (ns : List (List ℕ)). address ∷ word ∷ rest ≡ address ∷ decimal turns ∷ ns) one.1 (ap (λ (w : List ℕ). address ∷ w ∷ rest) (number_named (2 ^ 32) word turns named).0))
     by_number None named found = absurd cc
 
+generate_sound : IsSound (record { name = codes "generate"; arguments = generate_in })
+unfolding IsSound
+generate_sound [] command names is = absurd cc
+generate_sound (word ∷ rest) command names is = by_number (number_in 1000001 word) refl is
+  where
+    by_number : (read : Option ℕ) → number_in 1000001 word ≡ read → generate_for read rest ≡ Some (command, names) → (codes "generate" ≡ name_of command) × (word ∷ rest ≡ arguments_of command ++ names)
+    by_number (Some steps) named found =
+        let one = read_one (generate steps) command rest names (Some (generate steps, rest)) refl found in
+        subst (λ (c : Command). (codes "generate" ≡ name_of c) × (word ∷ rest ≡ arguments_of c ++ names)) one.0
+        (refl, subst (λ (ns : List (List ℕ)). word ∷ rest ≡ decimal steps ∷ ns) one.1 (ap (λ (w : List ℕ). w ∷ rest) (number_named 1000001 word steps named).0))
+    by_number None named found = absurd cc
+
 check_sound : IsSound (record { name = codes "check"; arguments = check_in })
 unfolding IsSound
 check_sound words command names is =
@@ -243,7 +255,7 @@ AreSound (row ∷ rows) = IsSound row × AreSound rows
 
 table_sound : AreSound table
 unfolding AreSound
-table_sound = (show_sound, (convert_sound, (pack_sound, (merge_sound, (vector_sound, (cut_sound, (edit_sound, (check_sound, (serve_sound, (sync_sound, tt))))))))))
+table_sound = (show_sound, (convert_sound, (pack_sound, (merge_sound, (vector_sound, (cut_sound, (edit_sound, (check_sound, (serve_sound, (sync_sound, (generate_sound, tt)))))))))))
 
 row_found : (rows : List Row) → AreSound rows → (name : List ℕ) (words : List (List ℕ)) (command : Command) (names : List (List ℕ)) → row_in rows name words ≡ Some (command, names) → name ∷ words ≡ words_of command names
 unfolding AreSound IsSound
@@ -283,6 +295,7 @@ command_read (edit client name) names range = ap (λ (found : Option ℕ). edit_
 command_read check names range = refl
 command_read (serve address turns) names range = ap (λ (found : Option ℕ). serve_for found address names) (number_read (2 ^ 32) turns (omega arith) range)
 command_read (sync address turns) names range = ap (λ (found : Option ℕ). sync_for found address names) (number_read (2 ^ 32) turns (omega arith) range)
+command_read (generate steps) names range = ap (λ (found : Option ℕ). generate_for found names) (number_read 1000001 steps (omega arith) (omega (arith, range)))
 
 -- what words are read as has its numbers in range
 pub range_found : (words : List (List ℕ)) (command : Command) (names : List (List ℕ)) → command_in words ≡ Some (command, names) → HasRange command
@@ -310,4 +323,12 @@ range_found words (sync address turns) names is =
     by_number (Some other) named found =
         let same : sync address other ≡ sync address turns = (read_one (sync address other) (sync address turns) names names (Some (sync address other, names)) refl found).0 in
         let one : other ≡ turns = cc in subst (λ n. n < 2 ^ 32) one (number_named (2 ^ 32) (decimal turns) other named).1
+range_found words (generate steps) names is =
+    by_number (number_in 1000001 (decimal steps)) refl (subst (λ (ws : List (List ℕ)). command_in ws ≡ Some (generate steps, names)) (command_found words (generate steps) names is) is)
+  where
+    by_number : (read : Option ℕ) → number_in 1000001 (decimal steps) ≡ read → generate_for read names ≡ Some (generate steps, names) → steps ≤ 1000000
+    by_number None named found = absurd cc
+    by_number (Some other) named found =
+        let same : generate other ≡ generate steps = (read_one (generate other) (generate steps) names names (Some (generate other, names)) refl found).0 in
+        let one : other ≡ steps = cc in subst (λ n. n ≤ 1000000) one (omega (arith, (number_named 1000001 (decimal steps) other named).1))
 range_found words command names is = tt

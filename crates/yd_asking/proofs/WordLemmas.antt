@@ -11,7 +11,7 @@ use Rattle.yd_asking.specs.Command.{AreWanted, Command, HasRange, own_files, wan
 use Rattle.yd_asking.specs.Table.{Begun, command_in}
 use Rattle.yd_asking.specs.Words.{AreOfNoForm, Asks}
 use Rattle.yd_asking.specs.declared.command.Wanted.{Wanted}
-use Rattle.yd_asking.specs.declared.command.Wanted.TheVariants.{Several, OneUpdate, Any}
+use Rattle.yd_asking.specs.declared.command.Wanted.TheVariants.{Several, OneUpdate, Any, NoFile}
 
 -- ---- what they ask for is one
 
@@ -61,6 +61,8 @@ wanted_or_not OneUpdate [] = inr (λ has. has)
 wanted_or_not OneUpdate (file ∷ []) = one_or_not file.kind file.name
 wanted_or_not OneUpdate (file ∷ other ∷ files) = inr (λ has. has)
 wanted_or_not Any files = inl tt
+wanted_or_not NoFile [] = inl refl
+wanted_or_not NoFile (file ∷ files) = inr (λ none. absurd cc)
 
 -- words ask for a command of files, or are of no form
 pub asked_or_not : (words : List (List ℕ)) → ((command : Command) × (files : List File) × Asks words command files) ⊎ AreOfNoForm words

@@ -1,13 +1,13 @@
 -- The commands: what each is called, how its words go on, and which files it wants (own).
-use Rattle.std.specs.Prelude.{ℕ, ◌<◌, ◌^◌, List, [], ◌∷◌, ◌++◌, length, codes, decimal, Option, Some, None}
+use Rattle.std.specs.Prelude.{◌≡◌, ℕ, ◌<◌, ◌≤◌, ◌^◌, List, [], ◌∷◌, ◌++◌, length, codes, decimal, Option, Some, None}
 use Rattle.yd_ids.specs.declared.id.Client.{Client}
 use Rattle.yd_ids.specs.Id.{IsClient}
 use Rattle.yd_files.specs.Files.{AreOneUpdate, File}
 use Rattle.yd_files.specs.declared.kind.Kind.TheVariants as kinds
 use Rattle.yd_asking.specs.declared.command.Command.{Command as CommandSeen}
-use Rattle.yd_asking.specs.declared.command.Command.TheVariants.{Show, Convert, Pack, Merge, Vector, Cut, Edit, Check, Serve, Sync}
+use Rattle.yd_asking.specs.declared.command.Command.TheVariants.{Show, Convert, Pack, Merge, Vector, Cut, Edit, Check, Serve, Sync, Generate}
 use Rattle.yd_asking.specs.declared.command.Wanted.{Wanted}
-use Rattle.yd_asking.specs.declared.command.Wanted.TheVariants.{Several, OneUpdate, Any}
+use Rattle.yd_asking.specs.declared.command.Wanted.TheVariants.{Several, OneUpdate, Any, NoFile}
 use Rattle.yd_asking.specs.declared.format.Format.{Format}
 use Rattle.yd_asking.specs.declared.format.Format.TheVariants.{V1, V2}
 use Rattle.yd_modes.specs.declared.mode.Mode.{Mode}
@@ -16,7 +16,8 @@ use Rattle.yd_modes.specs.declared.mode.Mode.TheVariants.{Text, Delta, Array, Ma
 -- what is done with files: a root is shown in a mode of all that they hold, the one file is written in a format, all updates as one log
 -- or as one update in a format, the vector that all reach together, or what the one file has from the vector in a file on; a client plays
 -- the script in a file on all that they hold, and what its lines made is written as one update; or it is told what was found of all updates;
--- or the one file's update is served at an address for so many turns, or brought in step with a server there, and all that is there at the end is written
+-- or the one file's update is served at an address for so many turns, or brought in step with a server there, and all that is there at the end is written;
+-- or a large text is made by so many steps of three replicas, and it is told how much of it is there and whether they end equal
 pub data Command : Type 0 where
   show : Mode → List ℕ → Command
   convert : Format → Command
@@ -28,6 +29,7 @@ pub data Command : Type 0 where
   check : Command
   serve : List ℕ → ℕ → Command
   sync : List ℕ → ℕ → Command
+  generate : ℕ → Command
 
 -- the command that the code has, without where its texts lie in memory
 abbrev pub command_of : CommandSeen → Command
@@ -41,6 +43,7 @@ command_of (Edit client name) = edit client name.now
 command_of Check = check
 command_of (Serve address turns) = serve address.now turns
 command_of (Sync address turns) = sync address.now turns
+command_of (Generate steps) = generate steps
 
 -- its name
 abbrev pub name_of : Command → List ℕ
@@ -54,6 +57,7 @@ name_of (edit client name) = codes "edit"
 name_of check = codes "check"
 name_of (serve address turns) = codes "serve"
 name_of (sync address turns) = codes "sync"
+name_of (generate steps) = codes "generate"
 
 -- the word that names a format
 abbrev pub word_of : Format → List ℕ
@@ -80,12 +84,14 @@ arguments_of (edit client name) = decimal client.0 ∷ name ∷ []
 arguments_of check = []
 arguments_of (serve address turns) = address ∷ decimal turns ∷ []
 arguments_of (sync address turns) = address ∷ decimal turns ∷ []
+arguments_of (generate steps) = decimal steps ∷ []
 
 -- the numbers among its arguments are in range
 abbrev pub HasRange : Command → Type 0
 HasRange (edit client name) = IsClient client
 HasRange (serve address turns) = turns < 2 ^ 32
 HasRange (sync address turns) = turns < 2 ^ 32
+HasRange (generate steps) = steps ≤ 1000000
 HasRange command = Unit {0}
 
 -- it uses the network
@@ -95,7 +101,7 @@ IsOnline (sync address turns) = Unit {0}
 IsOnline command = ⊥
 
 -- it is of what the files stand for together, and of nothing else: all are, but `pack`, which writes each update when it is read, and
--- those that use the network
+-- those that use the network. `generate` has no file
 abbrev pub IsOfInputs : Command → Type 0
 IsOfInputs pack = ⊥
 IsOfInputs (serve address turns) = ⊥
@@ -114,6 +120,7 @@ wanted_by (edit client name) = Any
 wanted_by check = Several
 wanted_by (serve address turns) = OneUpdate
 wanted_by (sync address turns) = OneUpdate
+wanted_by (generate steps) = NoFile
 
 -- the files that its own words name, which are read before all others
 abbrev pub own_files : Command → List File
@@ -126,11 +133,12 @@ abbrev pub given_files : Option File → List File
 given_files None = []
 given_files (Some file) = file ∷ []
 
--- these are such: one or more, or one that stands for one update, or any
+-- these are such: one or more, or one that stands for one update, or any, or none
 abbrev pub AreWanted : Wanted → List File → Type 0
 AreWanted Several files = 0 < length files
 AreWanted OneUpdate files = AreOneUpdate files
 AreWanted Any files = Unit {0}
+AreWanted NoFile files = files ≡ []
 
 -- the command's words, and then those that name the files
 abbrev pub words_of : Command → List (List ℕ) → List (List ℕ)

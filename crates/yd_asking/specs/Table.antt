@@ -2,7 +2,7 @@
 use Rattle.std.specs.Prelude.{ℕ, ◌^◌, ◌&&◌, List, [], ◌∷◌, Bool, true, false, nat_lt, Option, Some, None, codes, decimal}
 use Rattle.std.specs.Str.Parse.{digits_value}
 use Rattle.std.specs.Str.{bytes_eq}
-use Rattle.yd_asking.specs.Command.{Command, check, convert, cut, edit, merge, pack, serve, show, sync, vector}
+use Rattle.yd_asking.specs.Command.{Command, check, convert, cut, edit, generate, merge, pack, serve, show, sync, vector}
 use Rattle.yd_asking.specs.declared.format.Format.{Format}
 use Rattle.yd_asking.specs.declared.format.Format.TheVariants.{V1, V2}
 use Rattle.yd_modes.specs.declared.mode.Mode.{Mode}
@@ -126,6 +126,16 @@ sync_in [] = None
 sync_in (address ∷ []) = None
 sync_in (address ∷ word ∷ names) = sync_for (number_in (2 ^ 32) word) address names
 
+-- `generate N`
+abbrev pub generate_for : Option ℕ → List (List ℕ) → Begun
+generate_for None names = None
+generate_for (Some steps) names = Some (generate steps, names)
+
+-- the words behind `generate`, read so
+abbrev pub generate_in : List (List ℕ) → Begun
+generate_in [] = None
+generate_in (word ∷ names) = generate_for (number_in 1000001 word) names
+
 -- ---- the table
 
 -- each command that runs, with what reads the words behind its name
@@ -141,6 +151,7 @@ table =
     ∷ record { name = codes "check"; arguments = check_in }
     ∷ record { name = codes "serve"; arguments = serve_in }
     ∷ record { name = codes "sync"; arguments = sync_in }
+    ∷ record { name = codes "generate"; arguments = generate_in }
     ∷ []
 
 -- the row of the name reads the words behind it

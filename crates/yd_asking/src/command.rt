@@ -3,7 +3,7 @@
 ghost use Rattle.std.specs.Prelude.{◌≡◌, ◌↔◌, IfSome, IfNone, IsTrue, Some, None, map, option_map};
 ghost use Rattle.yd_files.specs.Seen.{file_of};
 ghost use Rattle.yd_asking.specs.Command.{AreWanted, IsOnline, command_of as seen, given_files, own_files, wanted_by};
-ghost use Rattle.yd_asking.specs.Table.{command_in, convert_in, cut_in, edit_in, merge_in, row_in, serve_in, show_in, sync_in, table};
+ghost use Rattle.yd_asking.specs.Table.{command_in, convert_in, cut_in, edit_in, generate_in, merge_in, row_in, serve_in, show_in, sync_in, table};
 
 use crate::format::{Format, format_named};
 use crate::mode::mode_named;
@@ -18,6 +18,9 @@ const CLIENTS: u64 = 1 << 53;
 
 /// Numbers of turns are below this.
 const TURNS: u64 = 1 << 32;
+
+/// Numbers of steps are below this.
+const STEPS: u64 = 1_000_001;
 
 /// What is done with files.
 #[derive(Clone, Copy)]
@@ -46,6 +49,9 @@ pub enum Command<'a> {
     /// The file's update is brought in step with a server at the address, in so many turns at most,
     /// and all that the client then has is written in the file's format.
     Sync { address: &'a str, turns: u64 },
+    /// A large text is made by so many steps of three replicas, and it is told how much of it is there
+    /// and whether they end equal.
+    Generate { steps: u64 },
 }
 
 /// Which files a command wants.
@@ -57,6 +63,8 @@ pub enum Wanted {
     OneUpdate,
     /// None or more.
     Any,
+    /// None.
+    NoFile,
 }
 
 impl<'a> Command<'a> {
@@ -75,6 +83,7 @@ impl<'a> Command<'a> {
             Command::Check => Wanted::Several,
             Command::Serve { .. } => Wanted::OneUpdate,
             Command::Sync { .. } => Wanted::OneUpdate,
+            Command::Generate { .. } => Wanted::NoFile,
         }
     }
 
@@ -115,6 +124,7 @@ pub fn are_wanted(wanted: Wanted, files: &[File<'_>]) -> bool
         Wanted::Several => !files.is_empty(),
         Wanted::OneUpdate => is_one_update(files),
         Wanted::Any => true,
+        Wanted::NoFile => files.is_empty(),
     }
 }
 
@@ -175,6 +185,9 @@ fn command_named<'a>(name: &str, words: &'a [Word]) -> Option<(Command<'a>, &'a 
     }
     if name == "sync" {
         return sync_of(words);
+    }
+    if name == "generate" {
+        return generate_of(words);
     }
     None
 }
@@ -277,6 +290,20 @@ fn sync_of(words: &[Word]) -> Option<(Command<'_>, &[Word])>
             let turns = number_of(turns.as_str(), TURNS)?;
             let address = address.as_str();
             Some((Command::Sync { address, turns }, names))
+        }
+        _ => None,
+    }
+}
+
+// `N`
+fn generate_of(words: &[Word]) -> Option<(Command<'_>, &[Word])>
+    ensures found { IfSome result (λ both. generate_in words.now ≡ Some (seen both.0, both.1.now)) }
+    ensures none { IfNone result (generate_in words.now ≡ None) }
+{
+    match words {
+        [steps, names @ ..] => {
+            let steps = number_of(steps.as_str(), STEPS)?;
+            Some((Command::Generate { steps }, names))
         }
         _ => None,
     }

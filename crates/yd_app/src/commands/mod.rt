@@ -17,6 +17,7 @@ mod check;
 mod convert;
 mod cut;
 mod edit;
+mod generate;
 mod merge;
 mod pack;
 mod reply;
@@ -142,5 +143,6 @@ fn output_of<'a>(alloc: Global, command: Command<'a>, inputs: &Inputs) -> Result
         Command::Check => Ok(check::check(alloc, inputs)?),
         Command::Serve { .. } => unreachable!(),
         Command::Sync { .. } => unreachable!(),
+        Command::Generate { steps } => Ok(generate::generate(alloc, steps)?),
     }
 }

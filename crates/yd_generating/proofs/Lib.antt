@@ -1,0 +1,4 @@
+mod DrawnLemmas
+mod FoundLemmas
+mod ReplicaLemmas
+mod TurnLemmas

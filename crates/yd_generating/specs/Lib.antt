@@ -1,0 +1,4 @@
+pub mod Line
+pub mod Replicas
+pub mod Same
+pub mod Stopped
