@@ -53,7 +53,8 @@ fn write_struct<W: FieldWriter>(
     }
 }
 
-fn write_skip<W: FieldWriter>(count: u64, writer: &mut W) -> Result<(), NoMemory>
+/// A skip of so many clocks.
+pub fn write_skip<W: FieldWriter>(count: u64, writer: &mut W) -> Result<(), NoMemory>
     requires { count < 2 ^ 53 }
     ensures { OnOk result (Writes W.with_field W.is_spelled
         (fields_of_struct (skip count)) writer.old writer.new) }
@@ -63,7 +64,8 @@ fn write_skip<W: FieldWriter>(count: u64, writer: &mut W) -> Result<(), NoMemory
     Ok(())
 }
 
-fn write_gone<W: FieldWriter>(count: u64, writer: &mut W) -> Result<(), NoMemory>
+/// So many gone units.
+pub fn write_gone<W: FieldWriter>(count: u64, writer: &mut W) -> Result<(), NoMemory>
     requires { count < 2 ^ 53 }
     ensures { OnOk result (Writes W.with_field W.is_spelled
         (fields_of_struct (gone count)) writer.old writer.new) }
@@ -95,7 +97,8 @@ fn info_of_run(run: &Run) -> u8
         + origin_bit(LEFT_BIT, run.left)
 }
 
-fn kind_bits(content: &Content) -> u8
+/// The low five bits of the info byte of an item.
+pub fn kind_bits(content: &Content) -> u8
     ensures bits { result ≡ kind_bits (content_value content.now) }
     ensures small { result < 32 }
 {
@@ -111,7 +114,8 @@ fn kind_bits(content: &Content) -> u8
     }
 }
 
-fn key_bit(list: &Option<List>) -> u8
+/// The bit of a list with a key.
+pub fn key_bit(list: &Option<List>) -> u8
     ensures bit { result ≡ key_bit list.now }
     ensures small { result ≤ 32 }
 {
@@ -131,7 +135,8 @@ fn given_bit(key: &Option<Text>) -> u8
     }
 }
 
-fn origin_bit(bit: u8, origin: Option<Id>) -> u8
+/// The bit of an origin that is there.
+pub fn origin_bit(bit: u8, origin: Option<Id>) -> u8
     ensures bit { result ≡ origin_bit bit origin }
     ensures small { result ≤ bit }
 {
