@@ -17,10 +17,12 @@ mod delete_reading;
 mod json_making;
 mod judging;
 mod list_reading;
+mod passing;
 mod struct_reading;
 mod update_reading;
 
 pub use content_reading::read_any_field;
 pub use json_making::value_of_text;
 pub use judging::{flag_of, range_of};
+pub use passing::pass_update;
 pub use update_reading::read_update;
