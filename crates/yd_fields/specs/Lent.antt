@@ -10,7 +10,7 @@ use Rattle.yd_fields.specs.declared.lent.LentStruct.TheVariants.{Item, Skip, Gon
 
 -- a content: of a text its units
 abbrev pub lent_content : LentContent → ops.ContentValue
-lent_content (Str text) = ops.string (units_of text.now)
+lent_content (Str text) = ops.string (units_of text)
 lent_content (Binary bytes) = ops.binary bytes.now
 lent_content (Made content) = content_value content
 

@@ -83,7 +83,7 @@ fn write_lent_content<W: FieldWriter>(
         (fields_of_content (lent_content content.now)) writer.old writer.new) }
 {
     match content {
-        LentContent::Str(text) => write_text(text, writer),
+        LentContent::Str(text) => write_text(text.as_str(), writer),
         LentContent::Binary(bytes) => {
             writer.put_blob(bytes)?;
             Ok(())

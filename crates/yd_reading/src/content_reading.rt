@@ -15,7 +15,7 @@ use crate::json_making::unit_of_text;
 use crate::list_reading::read_kind;
 use std::alloc::Global;
 use yd_any::{Any, AnyList, Text};
-use yd_fields::{ContentKind, FieldReader, LentContent};
+use yd_fields::{ContentKind, FieldReader, LentContent, LentText};
 use yd_ops::{Content, JsonUnits};
 use yd_parts::{Cause, ReadError, Spot};
 
@@ -51,7 +51,7 @@ pub fn read_content<'a, R: FieldReader<'a>>(
             if text.is_empty() {
                 return Err(empty_struct(begin));
             }
-            Ok(LentContent::Str(text))
+            Ok(LentContent::Str(LentText::new(text)))
         }
         ContentKind::Deleted => {
             let content = read_deleted(reader, begin)?;

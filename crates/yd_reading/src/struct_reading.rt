@@ -11,8 +11,10 @@ ghost use Rattle.yd_reading.specs.Judged.{clocks_at};
 use crate::content_reading::{empty_struct, read_content};
 use crate::list_reading::{read_carried, read_left, read_right};
 use std::alloc::Global;
-use yd_fields::{ContentKind, FieldReader, LentRun, LentStruct, StructKind};
-use yd_fields::{has_key, has_left, has_right, kind_of_info};
+use yd_fields::{
+    ContentKind, FieldReader, LentRun, LentStruct, StructKind, has_key, has_left, has_right,
+    kind_of_info,
+};
 use yd_ids::Id;
 use yd_ops::ends_at_clock;
 use yd_parts::{Cause, ReadError, Spot};

@@ -4,7 +4,6 @@ use Rattle.yd_fields.specs.UpdatePlan.{update_plan}
 use Rattle.yd_ops.specs.Value.{UpdateValue}
 use Rattle.yd_parts.specs.Plan.{read_by}
 use Rattle.yd_reading.proofs.UpdateFitLemmas.{update_read_valid}
-use Rattle.yd_v1.specs.LogWriting.{body_of}
 use Rattle.yd_v1.specs.Reading.{IsSoundV1, V1Left, v1_at, v1_end, v1_reading, v1_spot, v1_start, v1_whole}
 use Rattle.yd_v1.proofs.FitLemmas.{v1_fits}
 use Rattle.yd_v1.proofs.LogWrittenLemmas.{MakesBody, body_made}
