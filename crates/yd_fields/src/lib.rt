@@ -27,7 +27,7 @@ mod writer;
 pub use delete_writing::write_deletes;
 pub use info::{ContentKind, StructKind, has_key, has_left, has_right, kind_of_info};
 pub use kinds::{TypeKind, kind_of_number};
-pub use lent::{LentContent, LentRun, LentStruct, LentText};
+pub use lent::{LentRun, LentStruct, LentText};
 pub use lent_writing::write_lent;
 pub use reader::FieldReader;
 pub use update_writing::write_update;

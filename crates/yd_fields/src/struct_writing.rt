@@ -37,7 +37,8 @@ pub fn write_structs<W: FieldWriter>(
     Ok(())
 }
 
-fn write_struct<W: FieldWriter>(
+/// A struct.
+pub fn write_struct<W: FieldWriter>(
     alloc: Global,
     entry: &Struct,
     writer: &mut W,
@@ -53,8 +54,7 @@ fn write_struct<W: FieldWriter>(
     }
 }
 
-/// A skip of so many clocks.
-pub fn write_skip<W: FieldWriter>(count: u64, writer: &mut W) -> Result<(), NoMemory>
+fn write_skip<W: FieldWriter>(count: u64, writer: &mut W) -> Result<(), NoMemory>
     requires { count < 2 ^ 53 }
     ensures { OnOk result (Writes W.with_field W.is_spelled
         (fields_of_struct (skip count)) writer.old writer.new) }
@@ -64,8 +64,7 @@ pub fn write_skip<W: FieldWriter>(count: u64, writer: &mut W) -> Result<(), NoMe
     Ok(())
 }
 
-/// So many gone units.
-pub fn write_gone<W: FieldWriter>(count: u64, writer: &mut W) -> Result<(), NoMemory>
+fn write_gone<W: FieldWriter>(count: u64, writer: &mut W) -> Result<(), NoMemory>
     requires { count < 2 ^ 53 }
     ensures { OnOk result (Writes W.with_field W.is_spelled
         (fields_of_struct (gone count)) writer.old writer.new) }
@@ -97,8 +96,7 @@ fn info_of_run(run: &Run) -> u8
         + origin_bit(LEFT_BIT, run.left)
 }
 
-/// The low five bits of the info byte of an item.
-pub fn kind_bits(content: &Content) -> u8
+fn kind_bits(content: &Content) -> u8
     ensures bits { result ≡ kind_bits (content_value content.now) }
     ensures small { result < 32 }
 {

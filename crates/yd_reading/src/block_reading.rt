@@ -147,7 +147,6 @@ fn read_next_struct<'a, R: FieldReader<'a>>(
     let clock = read.clock;
     let next = read_struct(alloc, reader, Id { client, clock })?;
     let end = clock + next.len();
-    let next = next.own(alloc)?;
     read.structs.push(next)?;
     read.clock = end;
     Ok(())

@@ -7,17 +7,17 @@ ghost use Rattle.yd_any.specs.Valid.{is_valid_any};
 ghost use Rattle.yd_ops.specs.View.{content_value, unit_value};
 ghost use Rattle.yd_parts.specs.Fault.{FailsAs, Gives};
 ghost use Rattle.yd_fields.specs.Field as field;
-ghost use Rattle.yd_fields.specs.Lent.{lent_content};
 ghost use Rattle.yd_parts.specs.Plan.{read_by, repeated};
 ghost use Rattle.yd_fields.specs.StructPlan.{content_plan, deleted_plan, nested_plan, unit_step, units_plan, value_step, values_plan};
 
 use crate::json_making::unit_of_text;
 use crate::list_reading::read_kind;
 use std::alloc::Global;
-use yd_any::{Any, AnyList, Text};
-use yd_fields::{ContentKind, FieldReader, LentContent, LentText};
+use yd_any::{Any, AnyList, Blob, Text};
+use yd_fields::{ContentKind, FieldReader};
 use yd_ops::{Content, JsonUnits};
 use yd_parts::{Cause, ReadError, Spot};
+use yd_units::Units;
 
 /// Reads an any-value as a field of its own, in the format of the reader.
 pub fn read_any_field<'a, R: FieldReader<'a>>(
@@ -30,55 +30,43 @@ pub fn read_any_field<'a, R: FieldReader<'a>>(
     reader.get_any(alloc)
 }
 
-/// The content of an item that began at a spot. A text and a byte string are lent.
+/// The content of an item that began at a spot.
 #[tactic(auto, unfolding(yd_parts::specs::Plan::read_by, yd_fields::specs::StructPlan::content_plan))]
 pub fn read_content<'a, R: FieldReader<'a>>(
     alloc: Global,
     reader: &mut R,
     kind: ContentKind,
     begin: Spot,
-) -> Result<LentContent<'a>, ReadError>
-    ensures { Gives lent_content result reader.new
+) -> Result<Content, ReadError>
+    ensures { Gives content_value result reader.new
         (read_by R.field_at R.spot_of (content_plan kind begin) reader.old) }
 {
     match kind {
+        ContentKind::Deleted => read_deleted(reader, begin),
+        ContentKind::Json => read_units(alloc, reader, begin),
         ContentKind::Binary => {
             let bytes = reader.get_blob()?;
-            Ok(LentContent::Binary(bytes))
+            Ok(Content::Binary(Blob::copy_of(alloc, bytes)?))
         }
         ContentKind::Str => {
             let text = reader.get_string()?;
             if text.is_empty() {
                 return Err(empty_struct(begin));
             }
-            Ok(LentContent::Str(LentText::new(text)))
-        }
-        ContentKind::Deleted => {
-            let content = read_deleted(reader, begin)?;
-            Ok(LentContent::Made(content))
-        }
-        ContentKind::Json => {
-            let content = read_units(alloc, reader, begin)?;
-            Ok(LentContent::Made(content))
+            Ok(Content::Str(Units::from_text(alloc, text)?))
         }
         ContentKind::Embed => {
             let value = reader.get_json(alloc)?;
-            Ok(LentContent::Made(Content::Embed(value)))
+            Ok(Content::Embed(value))
         }
         ContentKind::Format => {
             let key = reader.get_key()?;
             let value = reader.get_json(alloc)?;
             let key = Text::copy_of(alloc, key)?;
-            Ok(LentContent::Made(Content::Format { key, value }))
+            Ok(Content::Format { key, value })
         }
-        ContentKind::Nested => {
-            let content = read_nested(alloc, reader)?;
-            Ok(LentContent::Made(content))
-        }
-        ContentKind::Any => {
-            let content = read_values(alloc, reader, begin)?;
-            Ok(LentContent::Made(content))
-        }
+        ContentKind::Nested => read_nested(alloc, reader),
+        ContentKind::Any => read_values(alloc, reader, begin),
     }
 }
 

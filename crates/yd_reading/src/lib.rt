@@ -16,6 +16,7 @@ mod content_reading;
 mod delete_reading;
 mod json_making;
 mod judging;
+mod lent_reading;
 mod list_reading;
 mod passing;
 mod struct_reading;

@@ -12,7 +12,7 @@ ghost use Rattle.yd_reading.specs.ReadView.{no_blocks, no_structs};
 
 use crate::block_reading::{may_declare, still_declared};
 use crate::delete_reading::read_deletes;
-use crate::struct_reading::read_struct;
+use crate::lent_reading::read_lent;
 use std::alloc::Global;
 use yd_fields::{FieldReader, FieldWriter, write_deletes, write_lent};
 use yd_ids::{Client, Id};
@@ -146,7 +146,7 @@ fn pass_struct<'a, R: FieldReader<'a>, W: FieldWriter>(
         (struct_plan id.client id.clock) reader.old) }
 {
     reader.reads_soundly();
-    let entry = read_struct(alloc, reader, id)?;
+    let entry = read_lent(alloc, reader, id)?;
     write_lent(alloc, &entry, writer)?;
     Ok(id.clock + entry.len())
 }

@@ -11,6 +11,6 @@ pub write_lent-requires : goal.write_lent-requires
 write_lent-requires g c =
     let id = c.args.id in
     let entry = lent_struct c.in_ok-entry.entry in
-    let ends = given g.R.FieldReader.field_at g.R.FieldReader.spot_of Fits g.R.FieldReader.is_sound (EndsAtClock id.client id.clock) (struct_plan id.client id.clock) c.args.reader.now entry c.read_struct.new.reader
+    let ends = given g.R.FieldReader.field_at g.R.FieldReader.spot_of Fits g.R.FieldReader.is_sound (EndsAtClock id.client id.clock) (struct_plan id.client id.clock) c.args.reader.now entry c.read_lent.new.reader
     c.reads_soundly.ensures.fits (struct_fits id.client id.clock) c.reads_soundly.ensures.sound c.in_ok-entry.ensures.given in
     (structs_are_writable (entry ∷ []) id.client id.clock (ends.0, ends.1, tt)).0
