@@ -9,6 +9,8 @@
 //! ```rust
 //! let update = read_update(alloc, &mut reader)?;
 //! ```
+//!
+//! [`pass_update`] reads in the same way, and hands each field on to a writer at once.
 #![tactic(auto)]
 
 mod block_reading;
