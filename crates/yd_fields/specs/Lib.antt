@@ -2,6 +2,7 @@ pub mod Again
 pub mod Field
 pub mod JsonPlan
 pub mod Law
+pub mod Lent
 pub mod StructPlan
 pub mod TypeNumber
 pub mod UpdateFields

@@ -37,7 +37,8 @@ pub fn write_structs<W: FieldWriter>(
     Ok(())
 }
 
-fn write_struct<W: FieldWriter>(
+/// A struct.
+pub fn write_struct<W: FieldWriter>(
     alloc: Global,
     entry: &Struct,
     writer: &mut W,
@@ -111,7 +112,8 @@ fn kind_bits(content: &Content) -> u8
     }
 }
 
-fn key_bit(list: &Option<List>) -> u8
+/// The bit of a list with a key.
+pub fn key_bit(list: &Option<List>) -> u8
     ensures bit { result ≡ key_bit list.now }
     ensures small { result ≤ 32 }
 {
@@ -131,7 +133,8 @@ fn given_bit(key: &Option<Text>) -> u8
     }
 }
 
-fn origin_bit(bit: u8, origin: Option<Id>) -> u8
+/// The bit of an origin that is there.
+pub fn origin_bit(bit: u8, origin: Option<Id>) -> u8
     ensures bit { result ≡ origin_bit bit origin }
     ensures small { result ≤ bit }
 {

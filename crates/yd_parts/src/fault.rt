@@ -150,6 +150,17 @@ impl From<yd_units::NoMemory> for NoMemory {
     }
 }
 
+impl From<NoMemory> for ReadError {
+    ghost use Rattle.std.specs.Prelude.{◌≡◌};
+    ghost use Rattle.yd_parts.specs.declared.fault.ReadError.TheVariants.{NoMemory as NoRoom};
+
+    ghost from_gives = { λ _ e. e ≡ NoRoom };
+
+    fn from(_refused: NoMemory) -> ReadError {
+        ReadError::NoMemory
+    }
+}
+
 impl From<yd_any::NoMemory> for ReadError {
     ghost use Rattle.std.specs.Prelude.{◌≡◌};
     ghost use Rattle.yd_parts.specs.declared.fault.ReadError.TheVariants.{NoMemory as NoRoom};

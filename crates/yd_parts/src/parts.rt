@@ -88,6 +88,7 @@ impl<'a> Parts<'a> {
     }
 
     /// Reads an unsigned number, at most 2^53-1.
+    #[inline(always)]
     pub fn unsigned(&mut self) -> Result<u64, ReadError>
         ensures given { Gives (λ v. v) result self.new (part_at unsigned self.old) }
         ensures memory { TakesNoMemory result }
@@ -180,6 +181,7 @@ fn spot_at(column: Column, place: usize) -> Spot
     }
 }
 
+#[inline(never)]
 fn refusal(column: Column, fault: NumFault) -> ReadError
     ensures { IsRefusal column fault result }
 {

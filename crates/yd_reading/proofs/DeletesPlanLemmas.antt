@@ -33,3 +33,8 @@ pub read_deletes_plan : {S : Type 0} (at : (t : FieldType) → S → Result (Fie
 unfolding deletes_plan read_by
 read_deletes_plan at spot_of s =
     then_same (at field.number s) _ _ (λ count. read_by_bind at spot_of (repeated clients_step count.0 []) (λ spans. give (set_of spans)) count.1)
+
+-- a delete set of no client
+pub read_no_deletes : {S : Type 0} (at : (t : FieldType) → S → Result (FieldValue t × S) Fault) (spot_of : S → Spot) (s next : S) → at field.number s ≡ Ok (0, next) → read_by at spot_of deletes_plan s ≡ Ok ([], next)
+unfolding read_by repeated
+read_no_deletes at spot_of s next none = rw (read_deletes_plan at spot_of s, none) refl

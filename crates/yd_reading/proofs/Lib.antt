@@ -6,6 +6,7 @@ pub mod DeletesPlanLemmas
 pub mod ItemPlanLemmas
 pub mod JsonFitLemmas
 pub mod JudgedFitLemmas
+pub mod PassingLemmas
 pub mod StructFitLemmas
 pub mod StructPlanLemmas
 pub mod UpdateFitLemmas

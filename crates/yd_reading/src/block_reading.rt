@@ -72,7 +72,8 @@ fn read_next_block<'a, R: FieldReader<'a>>(
     Ok(())
 }
 
-fn may_declare(most: Option<u64>, count: u64) -> bool
+/// So many structs may be declared, where there is a limit.
+pub fn may_declare(most: Option<u64>, count: u64) -> bool
     ensures { result ≡ may_declare most count }
 {
     match most {
@@ -81,7 +82,8 @@ fn may_declare(most: Option<u64>, count: u64) -> bool
     }
 }
 
-fn still_declared(most: Option<u64>, count: u64) -> Option<u64>
+/// How many structs may be declared still, where there is a limit.
+pub fn still_declared(most: Option<u64>, count: u64) -> Option<u64>
     ensures { result ≡ still_declared most count }
 {
     match most {

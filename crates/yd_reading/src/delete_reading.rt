@@ -31,6 +31,10 @@ pub fn read_deletes<'a, R: FieldReader<'a>>(
         (read_by R.field_at R.spot_of deletes_plan reader.old) }
 {
     let count = reader.get_number()?;
+    // Most updates of an editor delete nothing.
+    if count == 0 {
+        return Ok(IdSet::new(alloc));
+    }
     let spans = read_clients(alloc, reader, count)?;
     Ok(IdSet::of_spans(alloc, spans)?)
 }

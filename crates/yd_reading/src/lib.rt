@@ -9,6 +9,8 @@
 //! ```rust
 //! let update = read_update(alloc, &mut reader)?;
 //! ```
+//!
+//! [`pass_update`] reads in the same way, and hands each field on to a writer at once.
 #![tactic(auto)]
 
 mod block_reading;
@@ -16,11 +18,14 @@ mod content_reading;
 mod delete_reading;
 mod json_making;
 mod judging;
+mod lent_reading;
 mod list_reading;
+mod passing;
 mod struct_reading;
 mod update_reading;
 
 pub use content_reading::read_any_field;
 pub use json_making::value_of_text;
 pub use judging::{flag_of, range_of};
+pub use passing::pass_update;
 pub use update_reading::read_update;

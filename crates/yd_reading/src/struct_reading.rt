@@ -32,8 +32,9 @@ pub fn read_struct<'a, R: FieldReader<'a>>(
     read_kinded(alloc, reader, id, info, begin)
 }
 
+/// The struct behind its info byte, which stands at a spot.
 #[tactic(auto, unfolding(yd_parts::specs::Plan::read_by, yd_fields::specs::StructPlan::kinded_plan))]
-fn read_kinded<'a, R: FieldReader<'a>>(
+pub fn read_kinded<'a, R: FieldReader<'a>>(
     alloc: Global,
     reader: &mut R,
     id: Id,
@@ -53,7 +54,8 @@ fn read_kinded<'a, R: FieldReader<'a>>(
     }
 }
 
-fn refused(cause: Cause, begin: Spot) -> ReadError
+/// A struct that began at a spot is refused.
+pub fn refused(cause: Cause, begin: Spot) -> ReadError
     ensures { result ≡ ReadError.Fault cause begin }
 {
     ReadError::Fault { cause, spot: begin }

@@ -89,6 +89,13 @@ log_behind found bytes = log_from (length bytes) found (all_of Whole bytes)
 abbrev pub log_reading : List ℕ → Result (List UpdateValue) Fault
 log_reading bytes = log_behind [] bytes
 
+-- the bytes stand for an update, which is valid, and stands behind those of before
+pub record TakesV1 (bytes : List ℕ) (before after : List UpdateValue) : Type 0 where
+  pub update : UpdateValue
+  pub read : v1_reading bytes ≡ Ok update
+  pub valid : IsValidUpdate update
+  pub taken : after ≡ before ++ update ∷ []
+
 -- one entry was read: its update is valid, and stands behind those of before
 pub record TakesEntry (old new : Unread) (before after : List UpdateValue) : Type 0 where
   pub update : UpdateValue

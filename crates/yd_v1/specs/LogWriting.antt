@@ -8,6 +8,8 @@ use Rattle.yd_v1.specs.Bytes.{v1_bytes_of_all}
 use Rattle.yd_v1.specs.Grammar.{StandsForV1}
 use Rattle.yd_parts.specs.Fault.{Fault}
 use Rattle.yd_v1.specs.Log.{StandsForLog, log_reading}
+use Rattle.yd_v1.specs.Reading.{v1_reading}
+use Rattle.yd_ops.specs.Valid.{IsValidUpdate}
 
 -- bodies one behind the other, each behind its length
 abbrev pub log_of : List (List ℕ) → List ℕ
@@ -37,6 +39,14 @@ AreBodies (body ∷ bodies) (u ∷ us) = IsBody body u × AreBodies bodies us
 -- a log of bodies stands for their updates
 abbrev pub LogsComeBack : Type 0
 LogsComeBack = (bodies : List (List ℕ)) (us : List UpdateValue) → AreBodies bodies us → StandsForLog (log_of bodies) us
+
+-- the entry of the update that the bytes stand for stands behind a log
+pub record PassesEntry (bytes log longer : List ℕ) : Type 0 where
+  pub update : UpdateValue
+  pub read : v1_reading bytes ≡ Ok update
+  pub valid : IsValidUpdate update
+  pub appended : longer ≡ log ++ shortest_blob (body_of update)
+  pub again : IsBody (body_of update) update
 
 -- ---- a log that grows
 

@@ -4,15 +4,13 @@ ghost use Rattle.std.specs.Prelude.{◌+◌, ◌<◌, ◌^◌, length, map, IfOk
 ghost use Rattle.yd_words.specs.Each.{Each};
 ghost use Rattle.yd_ops.specs.Valid.{IsValidUpdate};
 ghost use Rattle.yd_ops.specs.View.{update_value};
-ghost use Rattle.yd_parts.specs.Fault.{FailsAs, Gives, Makes};
+ghost use Rattle.yd_parts.specs.Fault.{FailsAs, Makes};
 ghost use Rattle.yd_reading.specs.Answer.{ReadsWhole};
-ghost use Rattle.yd_v1.specs.Log.{HasFirstFaultLog, HasPlace, IsMoved, StandsBehind, StandsForLog, TakesEntry, entry_at, log_behind, log_reading, read_in_file};
+ghost use Rattle.yd_v1.specs.Log.{HasFirstFaultLog, HasPlace, IsMoved, StandsBehind, StandsForLog, TakesEntry, TakesV1, entry_at, log_behind, log_reading, read_in_file};
 ghost use Rattle.yd_v1.specs.Reading.{v1_reading};
 
 use crate::logs::{UpdateList, UpdateTaker};
-use crate::reading::read_update_v1;
 use std::alloc::Global;
-use yd_ops::Update;
 use yd_parts::{Column, Parts, ReadError, Spot};
 
 /// Reads a log file: the updates that it stands for, in order, or the first fault in it, with the
@@ -61,6 +59,7 @@ fn take_entries<T: UpdateTaker>(alloc: Global, bytes: &[u8], taker: &mut T) -> R
     Ok(())
 }
 
+#[tactic(auto, unfolding(crate::specs::Log::entry_at))]
 fn take_next_entry<T: UpdateTaker>(
     alloc: Global,
     parts: &mut Parts<'_>,
@@ -70,31 +69,25 @@ fn take_next_entry<T: UpdateTaker>(
         (TakesEntry parts.old parts.new (T.taken taker.old) (T.taken taker.new)) }
     ensures fails { FailsAs result (entry_at parts.old) }
 {
-    let update = read_entry(alloc, parts)?;
-    if taker.take(update).is_err() {
-        return Err(ReadError::NoMemory);
-    }
+    let body = parts.blob()?;
+    let start = parts.here().at.saturating_sub(body.len() as u64);
+    take_body(alloc, body, start, taker)?;
     Ok(())
 }
 
-#[tactic(auto, unfolding(crate::specs::Log::entry_at))]
-fn read_entry(alloc: Global, parts: &mut Parts<'_>) -> Result<Update, ReadError>
-    ensures given { Gives update_value result parts.new (entry_at parts.old) }
-    ensures valid { IfOk result (λ update. IsValidUpdate (update_value update)) }
-{
-    let body = parts.blob()?;
-    let start = parts.here().at.saturating_sub(body.len() as u64);
-    let update = read_body(alloc, body, start)?;
-    Ok(update)
-}
-
-fn read_body(alloc: Global, body: &[u8], start: u64) -> Result<Update, ReadError>
+// Takes the update of a body that begins at a place of the file.
+fn take_body<T: UpdateTaker>(
+    alloc: Global,
+    body: &[u8],
+    start: u64,
+    taker: &mut T,
+) -> Result<(), ReadError>
     requires { start + length body.now < 2 ^ 64 }
-    ensures made { Makes update_value result (read_in_file start (v1_reading body.now)) }
-    ensures valid { IfOk result (λ update. IsValidUpdate (update_value update)) }
+    ensures taken { OnOk result (TakesV1 body.now (T.taken taker.old) (T.taken taker.new)) }
+    ensures fails { FailsAs result (read_in_file start (v1_reading body.now)) }
 {
-    match read_update_v1(alloc, body) {
-        Ok(update) => Ok(update),
+    match taker.take_v1(alloc, body) {
+        Ok(()) => Ok(()),
         Err(error) => Err(moved(error, start)),
     }
 }

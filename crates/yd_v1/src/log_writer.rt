@@ -4,14 +4,14 @@ ghost use Rattle.std.specs.Prelude.{◌≡◌, []};
 ghost use Rattle.yd_v1.specs.Log.{StandsForLog};
 ghost use Rattle.yd_v1.specs.LogWriting.{log_bytes, updates_in_log};
 
-use crate::log_writing::write_entry;
+use crate::log_writing::{pass_entry, write_entry};
 use crate::logs::UpdateTaker;
 use crate::writer::V1Writer;
 use std::alloc::Global;
 use std::marker::Model;
 use yd_num::Bytes;
 use yd_ops::Update;
-use yd_parts::NoMemory;
+use yd_parts::{NoMemory, ReadError};
 
 /// Writes a log of the updates that it takes, and keeps none of them. It is seen as the bytes of
 /// the log so far.
@@ -59,6 +59,11 @@ impl UpdateTaker for LogWriter {
 
     fn take(&mut self, update: Update) -> Result<(), NoMemory> {
         write_entry(self.alloc, &update, &mut self.body, &mut self.log)?;
+        Ok(())
+    }
+
+    fn take_v1(&mut self, alloc: Global, bytes: &[u8]) -> Result<(), ReadError> {
+        pass_entry(alloc, bytes, &mut self.body, &mut self.log)?;
         Ok(())
     }
 }

@@ -6,14 +6,18 @@ ghost use Rattle.yd_words.specs.Each.{Each};
 ghost use Rattle.yd_ops.specs.Valid.{IsValidUpdate};
 ghost use Rattle.yd_ops.specs.View.{update_value};
 ghost use Rattle.yd_v1.specs.Log.{StandsForLog};
-ghost use Rattle.yd_v1.specs.LogWriting.{IsBody, body_of, log_bytes};
+ghost use Rattle.yd_v1.specs.LogWriting.{IsBody, PassesEntry, body_of, log_bytes};
+ghost use Rattle.yd_v1.specs.Reading.{v1_reading};
+ghost use Rattle.yd_parts.specs.Fault.{FailsAs};
 
+use crate::reader::V1Reader;
 use crate::writer::V1Writer;
 use std::alloc::Global;
-use yd_fields::write_update;
+use yd_fields::{FieldReader, write_update};
 use yd_num::Bytes;
 use yd_ops::Update;
-use yd_parts::NoMemory;
+use yd_parts::{NoMemory, ReadError};
+use yd_reading::pass_update;
 
 /// The bytes of a log of the updates, in their order, which stand for these updates. An update of
 /// 2^53 bytes or more finds no memory (own).
@@ -49,4 +53,26 @@ pub(crate) fn write_entry(
     write_update(alloc, update, body)?;
     log.push_blob(body.as_slice())?;
     Ok(())
+}
+
+/// Appends the entry of the update that bytes in V1 stand for. It is written while it is read.
+#[tactic(auto, unfolding(crate::specs::Reading::v1_whole))]
+pub(crate) fn pass_entry(
+    alloc: Global,
+    bytes: &[u8],
+    body: &mut V1Writer,
+    log: &mut Bytes,
+) -> Result<(), ReadError>
+    ensures appended { OnOk result (PassesEntry bytes.now log.old log.new) }
+    ensures fails { FailsAs result (v1_reading bytes.now) }
+    ensures unchanged { OnErr result (log.new ≡ log.old) }
+{
+    let mut reader = V1Reader::new(bytes);
+    body.clear();
+    pass_update(alloc, &mut reader, body)?;
+    reader.finish()?;
+    match log.push_blob(body.as_slice()) {
+        Ok(()) => Ok(()),
+        Err(_) => Err(ReadError::NoMemory),
+    }
 }

@@ -4,11 +4,15 @@ ghost use Rattle.std.specs.Prelude.{◌≡◌, [], ◌∷◌, ◌++◌, List, On
 ghost use Rattle.yd_ops.specs.Valid.{IsValidUpdate};
 ghost use Rattle.yd_ops.specs.Value.{UpdateValue};
 ghost use Rattle.yd_ops.specs.View.{update_value};
+ghost use Rattle.yd_parts.specs.Fault.{FailsAs};
+ghost use Rattle.yd_v1.specs.Log.{TakesV1};
+ghost use Rattle.yd_v1.specs.Reading.{v1_reading};
 
+use crate::reading::read_update_v1;
 use std::alloc::Global;
 use std::marker::Model;
 use yd_ops::Update;
-use yd_parts::NoMemory;
+use yd_parts::{NoMemory, ReadError};
 
 /// What takes updates, one after another: it keeps them, or writes them at once.
 pub trait UpdateTaker {
@@ -19,6 +23,12 @@ pub trait UpdateTaker {
     fn take(&mut self, update: Update) -> Result<(), NoMemory>
         requires { IsValidUpdate (update_value update) }
         ensures { OnOk result (taken self.new ≡ taken self.old ++ update_value update ∷ []) };
+
+    /// Takes the update that bytes in V1 stand for, or tells the first fault in them. After an error
+    /// it is left open which updates were taken.
+    fn take_v1(&mut self, alloc: Global, bytes: &[u8]) -> Result<(), ReadError>
+        ensures took { OnOk result (TakesV1 bytes.now (taken self.old) (taken self.new)) }
+        ensures fails { FailsAs result (v1_reading bytes.now) };
 }
 
 /// Updates in order, as a log has them.
@@ -89,6 +99,12 @@ impl UpdateTaker for UpdateList {
     ghost taken = { λ list. map update_value list };
 
     fn take(&mut self, update: Update) -> Result<(), NoMemory> {
+        self.push(update)?;
+        Ok(())
+    }
+
+    fn take_v1(&mut self, alloc: Global, bytes: &[u8]) -> Result<(), ReadError> {
+        let update = read_update_v1(alloc, bytes)?;
         self.push(update)?;
         Ok(())
     }
