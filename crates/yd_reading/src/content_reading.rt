@@ -31,6 +31,7 @@ pub fn read_any_field<'a, R: FieldReader<'a>>(
 }
 
 /// The content of an item that began at a spot.
+#[inline(always)]
 #[tactic(auto, unfolding(yd_parts::specs::Plan::read_by, yd_fields::specs::StructPlan::content_plan))]
 pub fn read_content<'a, R: FieldReader<'a>>(
     alloc: Global,

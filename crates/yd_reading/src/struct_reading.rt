@@ -33,6 +33,7 @@ pub fn read_struct<'a, R: FieldReader<'a>>(
 }
 
 /// The struct behind its info byte, which stands at a spot.
+#[inline(always)]
 #[tactic(auto, unfolding(yd_parts::specs::Plan::read_by, yd_fields::specs::StructPlan::kinded_plan))]
 pub fn read_kinded<'a, R: FieldReader<'a>>(
     alloc: Global,
@@ -105,6 +106,7 @@ fn judge_clocks(clock: u64, count: u64, begin: Spot) -> Result<(), ReadError>
     Ok(())
 }
 
+#[inline(always)]
 #[tactic(auto, using(crate::proofs::ItemPlanLemmas::read_item_plan))]
 fn read_item<'a, R: FieldReader<'a>>(
     alloc: Global,
