@@ -6,9 +6,10 @@ pub mod DeletesPlanLemmas
 pub mod ItemPlanLemmas
 pub mod JsonFitLemmas
 pub mod JudgedFitLemmas
-pub mod PassingLemmas
+pub mod SectionLemmas
 pub mod StructFitLemmas
 pub mod StructPlanLemmas
+pub mod TakingLemmas
 pub mod UpdateFitLemmas
 pub mod UpdatePlanLemmas
 pub mod VectorPlanLemmas

@@ -10,7 +10,7 @@
 //! let update = read_update(alloc, &mut reader)?;
 //! ```
 //!
-//! [`pass_update`] reads in the same way, and hands each field on to a writer at once.
+//! [`take_update`] reads in the same way and keeps no struct: it hands each to a [`StructTaker`].
 #![tactic(auto)]
 
 mod block_reading;
@@ -20,12 +20,12 @@ mod json_making;
 mod judging;
 mod lent_reading;
 mod list_reading;
-mod passing;
 mod struct_reading;
+mod taking;
 mod update_reading;
 
 pub use content_reading::read_any_field;
 pub use json_making::value_of_text;
 pub use judging::{flag_of, range_of};
-pub use passing::pass_update;
+pub use taking::{StructTaker, take_update};
 pub use update_reading::read_update;

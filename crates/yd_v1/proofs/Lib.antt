@@ -2,6 +2,7 @@ pub mod ExactLemmas
 pub mod FileLemmas
 pub mod FitLemmas
 pub mod LogLemmas
+pub mod LogTakingLemmas
 pub mod LogWriterLemmas
 pub mod LogWrittenLemmas
 pub mod PlaceLemmas

@@ -4,22 +4,15 @@ use Rattle.yd_num.proofs.ReadingLemmas.{ok_value}
 use Rattle.yd_num.specs.Number.{IsTerminated}
 use Rattle.yd_ops.specs.Value.{UpdateValue}
 use Rattle.yd_parts.proofs.PartExactLemmas.{parts_exact}
-use Rattle.yd_parts.specs.Fault.{Fault, IsFaultOf, Makes}
+use Rattle.yd_parts.specs.Fault.{Fault}
 use Rattle.yd_parts.specs.Part.{Unread, all_of, blob, here, part_at}
 use Rattle.yd_parts.specs.Plan.{and_then}
 use Rattle.yd_parts.specs.declared.fault.Column.TheVariants.{Whole}
-use Rattle.yd_parts.specs.declared.fault.ReadError.{ReadError}
 use Rattle.yd_fields.specs.UpdatePlan.{update_plan}
 use Rattle.std.specs.Prelude.{None}
-use Rattle.std.specs.Result.{IsErrAnd}
-use Rattle.std.proofs.lemmas.Result.{err_from_is_err_and}
-use Rattle.yd_words.proofs.EachLemmas.{each_append}
-use Rattle.yd_words.specs.Each.{Each}
-use Rattle.yd_ops.specs.Valid.{IsValidUpdate}
-use Rattle.yd_parts.proofs.FaultLemmas.{fault_outwards}
 use Rattle.yd_reading.specs.Files.{FilesAreRead}
 use Rattle.yd_v1.proofs.FileLemmas.{files_read}
-use Rattle.yd_v1.specs.Log.{AreEntries, FailsBehind, FailsEntry, HasFirstFaultLog, StandsBehind, StandsBody, StandsEntry, StandsForLog, TakesEntry, body_start, entry_at, in_file, log_behind, log_from, log_reading, read_in_file, unless_ended}
+use Rattle.yd_v1.specs.Log.{AreEntries, FailsBehind, FailsEntry, HasFirstFaultLog, StandsBody, StandsEntry, StandsForLog, body_start, entry_at, in_file, log_from, log_reading, read_in_file, unless_ended}
 use Rattle.yd_v1.specs.Reading.{v1_reading}
 
 -- ---- one entry
@@ -207,16 +200,6 @@ log_more most i found left u next within some read =
     let steps : most - i ≡ suc (most - (i + 1)) = omega arith in
     rw steps (some_left left.bytes found _ some ∙ ap (λ (r : Result (UpdateValue × Unread) Fault). and_then r (λ got. log_from (most - (i + 1)) (found ++ got.0 ∷ []) got.1)) read)
 
--- an entry more was taken
-pub entry_more : (most i : ℕ) (before after : List UpdateValue) (old new : Unread) (whole : Result (List UpdateValue) Fault) → i < most → old.bytes ≢ [] → TakesEntry old new before after →
-    log_from (most - i) before old ≡ whole → log_from (most - (i + 1)) after new ≡ whole
-entry_more most i before after old new whole within some takes so_far =
-    rw takes.taken (sym (log_more most i before old takes.update new within some takes.read) ∙ so_far)
-
--- and all are valid still
-pub entry_valid : (before after : List UpdateValue) (old new : Unread) → TakesEntry old new before after → Each IsValidUpdate before → Each IsValidUpdate after
-entry_valid before after old new takes valid = rw takes.taken (each_append IsValidUpdate before (takes.update ∷ []) valid (takes.valid, tt))
-
 -- the next entry has a fault
 pub log_stops : (most i : ℕ) (found : List UpdateValue) (left : Unread) (fault : Fault) → i < most → left.bytes ≢ [] → entry_at left ≡ Err fault → log_from (most - i) found left ≡ Err fault
 unfolding log_from
@@ -237,30 +220,12 @@ log_done most i found left all =
     let none : most - i ≡ 0 = omega arith in
     rw none refl
 
--- an error that `?` passes on
-pub passes_made : {X Y Z : Type 0} (value : X → Y) (result : Result X ReadError) (inner : Result Z Fault) (outer : Result Y Fault) (e : ReadError) →
-    IsErrAnd result (λ f. f ≡ e) → IsFaultOf inner e → ((fault : Fault) → inner ≡ Err fault → outer ≡ Err fault) → Makes value result outer
-passes_made value result inner outer e passed is_inner through =
-    let p = err_from_is_err_and result passed in rw (p.1, p.2) (fault_outwards inner outer e through is_inner)
-
--- logs are read exactly, behind updates that were found before
-pub logs_read_behind : (found : List UpdateValue) → FilesAreRead (log_behind found) (λ bytes. StandsBehind found bytes) HasFirstFaultLog
-logs_read_behind found = record {
-  values = λ bytes all. (
-    λ is. let there = log_found (length bytes) found (all_of Whole bytes) all (omega arith) is in (there.updates, there.entries, there.all_is),
-    λ stands. log_only stands.0 (length bytes) found (all_of Whole bytes) (omega arith) stands.1 ∙ ap Ok (sym stands.2),
-  );
-  faults = λ bytes fault. (λ is. log_fails (length bytes) found (all_of Whole bytes) fault (omega arith) is, λ fails. log_fails_only fails.0 (length bytes) found (all_of Whole bytes) fault (omega arith) fails.1);
-}
-
 -- logs are read exactly
 pub logs_read : FilesAreRead log_reading StandsForLog HasFirstFaultLog
-logs_read =
-    let behind = logs_read_behind [] in
-    record {
-      values = λ bytes us. (
-        λ is. let there = (behind.values bytes us).0 is in subst (λ all. StandsForLog bytes all) (sym there.2) there.1,
-        λ stands. (behind.values bytes us).1 (us, stands, refl),
-      );
-      faults = behind.faults;
-    }
+logs_read = record {
+  values = λ bytes us. (
+    λ is. let there = log_found (length bytes) [] (all_of Whole bytes) us (omega arith) is in subst (λ all. StandsForLog bytes all) (sym there.all_is) there.entries,
+    λ stands. log_only us (length bytes) [] (all_of Whole bytes) (omega arith) stands,
+  );
+  faults = λ bytes fault. (λ is. log_fails (length bytes) [] (all_of Whole bytes) fault (omega arith) is, λ fails. log_fails_only fails.0 (length bytes) [] (all_of Whole bytes) fault (omega arith) fails.1);
+}

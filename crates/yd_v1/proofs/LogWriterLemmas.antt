@@ -7,7 +7,7 @@ use Rattle.yd_words.specs.Each.{Each}
 use Rattle.yd_ops.specs.Value.{UpdateValue}
 use Rattle.yd_v1.proofs.LogLemmas.{logs_read}
 use Rattle.yd_v1.proofs.LogWrittenLemmas.{are_bodies, log_more, logs_back}
-use Rattle.yd_v1.specs.Log.{StandsForLog}
+use Rattle.yd_v1.specs.Log.{StandsForLog, TakesMore}
 use Rattle.yd_v1.specs.LogWriting.{IsBody, IsWrittenLog, body_of, log_bytes, log_of, updates_in_log, updates_or_none}
 
 -- what is written of updates stands for them
@@ -41,10 +41,11 @@ more_written old new u log appended body = record {
   again = each_append (λ v. IsBody (body_of v) v) log.updates (u ∷ []) log.again (body, tt);
 }
 
-pub more_taken : (old new : List ℕ) (u : UpdateValue) → IsWrittenLog old → new ≡ old ++ shortest_blob (body_of u) → IsBody (body_of u) u → updates_in_log new ≡ updates_in_log old ++ u ∷ []
+-- and so it was taken
+pub more_taken : (old new : List ℕ) (u : UpdateValue) → IsWrittenLog old → new ≡ old ++ shortest_blob (body_of u) → IsBody (body_of u) u → TakesMore (λ taken. taken ≡ updates_in_log old) (λ taken. taken ≡ updates_in_log new) (u ∷ [])
 unfolding more_written
-more_taken old new u log appended body =
-    written_are new (more_written old new u log appended body) ∙ ap (λ (us : List UpdateValue). us ++ u ∷ []) (sym (written_are old log))
+more_taken old new u log appended body = λ before is.
+    ap (λ (us : List UpdateValue). us ++ u ∷ []) (is ∙ written_are old log) ∙ sym (written_are new (more_written old new u log appended body))
 
 -- the bytes are those of the updates that were taken
 pub taken_written : (bytes : List ℕ) → IsWrittenLog bytes → bytes ≡ log_bytes (updates_in_log bytes)

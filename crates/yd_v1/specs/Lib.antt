@@ -4,3 +4,4 @@ pub mod Law
 pub mod Log
 pub mod LogWriting
 pub mod Reading
+pub mod Taking

@@ -1,5 +1,6 @@
 -- Log files (own): updates in V1, each in a byte string, up to the end of the file. The grammar first, and then how a log is read.
 use Rattle.std.specs.Prelude.{◌≡◌, ◌≢◌, ◌⊎◌, ℕ, zero, suc, ◌+◌, ◌-◌, ◌<◌, ◌^◌, List, [], ◌∷◌, ◌++◌, length, Result, Ok, Err}
+use Rattle.yd_words.specs.Each.{Each}
 use Rattle.yd_ops.specs.Valid.{IsValidUpdate}
 use Rattle.yd_ops.specs.Value.{UpdateValue}
 use Rattle.yd_parts.specs.Fault.{Fault}
@@ -52,9 +53,9 @@ FailsBehind left (u ∷ us) fault = (next : Unread) × StandsEntry left u next �
 abbrev pub StandsForLog : List ℕ → List UpdateValue → Type 0
 StandsForLog bytes us = AreEntries (all_of Whole bytes) us
 
--- these are updates that were found before, and behind them those that the log stands for
-abbrev pub StandsBehind : List UpdateValue → List ℕ → List UpdateValue → Type 0
-StandsBehind found bytes all = (us : List UpdateValue) × StandsForLog bytes us × (all ≡ found ++ us)
+-- the log stands for some updates
+abbrev pub IsLog : List ℕ → Type 0
+IsLog bytes = (us : List UpdateValue) × StandsForLog bytes us
 
 -- the fault is the first in the log
 abbrev pub HasFirstFaultLog : List ℕ → Fault → Type 0
@@ -81,27 +82,45 @@ unfoldable pub log_from : ℕ → List UpdateValue → Unread → Result (List U
 log_from zero found left = Ok found
 log_from (suc most) found left = unless_ended left.bytes found (and_then (entry_at left) (λ read. log_from most (found ++ read.0 ∷ []) read.1))
 
--- those that were found before, and behind them the updates that a log stands for; or the first fault. Each takes at least a byte
-abbrev pub log_behind : List UpdateValue → List ℕ → Result (List UpdateValue) Fault
-log_behind found bytes = log_from (length bytes) found (all_of Whole bytes)
-
--- the updates that a log stands for, or the first fault
+-- the updates that a log stands for, or the first fault. Each takes at least a byte
 abbrev pub log_reading : List ℕ → Result (List UpdateValue) Fault
-log_reading bytes = log_behind [] bytes
+log_reading bytes = log_from (length bytes) [] (all_of Whole bytes)
 
--- the bytes stand for an update, which is valid, and stands behind those of before
-pub record TakesV1 (bytes : List ℕ) (before after : List UpdateValue) : Type 0 where
+-- ---- taking
+
+-- whatever updates it took before, it has taken these behind them now
+abbrev pub TakesMore : (List UpdateValue → Type 0) → (List UpdateValue → Type 0) → List UpdateValue → Type 0
+TakesMore Took TookNow more = (before : List UpdateValue) → Took before → TookNow (before ++ more)
+
+-- the bytes stand for an update, which is valid, and was taken
+pub record TakesV1 (bytes : List ℕ) (Took TookNow : List UpdateValue → Type 0) : Type 0 where
   pub update : UpdateValue
   pub read : v1_reading bytes ≡ Ok update
   pub valid : IsValidUpdate update
-  pub taken : after ≡ before ++ update ∷ []
+  pub taken : TakesMore Took TookNow (update ∷ [])
 
--- one entry was read: its update is valid, and stands behind those of before
-pub record TakesEntry (old new : Unread) (before after : List UpdateValue) : Type 0 where
+-- one entry was read: its update is valid, and was taken
+pub record TakesEntry (old new : Unread) (Took TookNow : List UpdateValue → Type 0) : Type 0 where
   pub update : UpdateValue
   pub read : entry_at old ≡ Ok (update, new)
   pub valid : IsValidUpdate update
-  pub taken : after ≡ before ++ update ∷ []
+  pub taken : TakesMore Took TookNow (update ∷ [])
+
+-- the updates that are read of a log are valid, and were taken
+pub record TakesEntries (bytes : List ℕ) (Took TookNow : List UpdateValue → Type 0) : Type 0 where
+  pub updates : List UpdateValue
+  pub read : log_reading bytes ≡ Ok updates
+  pub valid : Each IsValidUpdate updates
+  pub taken : TakesMore Took TookNow updates
+
+-- the log stands for updates, which are valid, and were taken
+pub record TakesLog (bytes : List ℕ) (Took TookNow : List UpdateValue → Type 0) : Type 0 where
+  pub updates : List UpdateValue
+  pub stands : StandsForLog bytes updates
+  pub valid : Each IsValidUpdate updates
+  pub taken : TakesMore Took TookNow updates
+
+-- ---- errors
 
 -- the error of a body that begins at this place of the file is at a place of the file that has a number; want of memory has none
 abbrev pub HasPlace : ℕ → ReadError → Type 0

@@ -6,7 +6,7 @@ ghost use Rattle.yd_ops.specs.Valid.{IsValidUpdate};
 ghost use Rattle.yd_ops.specs.View.{update_value};
 ghost use Rattle.yd_parts.specs.Fault.{FailsAs, Makes};
 ghost use Rattle.yd_reading.specs.Answer.{ReadsWhole};
-ghost use Rattle.yd_v1.specs.Log.{HasFirstFaultLog, HasPlace, IsMoved, StandsBehind, StandsForLog, TakesEntry, TakesV1, entry_at, log_behind, log_reading, read_in_file};
+ghost use Rattle.yd_v1.specs.Log.{HasFirstFaultLog, HasPlace, IsLog, IsMoved, StandsForLog, TakesEntries, TakesEntry, TakesLog, TakesV1, entry_at, log_reading, read_in_file};
 ghost use Rattle.yd_v1.specs.Reading.{v1_reading};
 
 use crate::logs::{UpdateList, UpdateTaker};
@@ -26,10 +26,9 @@ pub fn read_log(alloc: Global, bytes: &[u8]) -> Result<UpdateList, ReadError>
 /// Reads a log file as [`read_log`] does, and hands its updates on one after another, so that none
 /// is kept. After an error those before the fault were handed on (own).
 pub fn take_log<T: UpdateTaker>(alloc: Global, bytes: &[u8], taker: &mut T) -> Result<(), ReadError>
-    ensures exact { ReadsWhole (λ done. T.taken taker.new)
-        (StandsBehind (T.taken taker.old) bytes.now) (HasFirstFaultLog bytes.now) result }
-    ensures valid { OnOk result
-        (Each IsValidUpdate (T.taken taker.old) → Each IsValidUpdate (T.taken taker.new)) }
+    ensures exact { ReadsWhole (λ done. done)
+        (λ done. IsLog bytes.now) (HasFirstFaultLog bytes.now) result }
+    ensures taken { OnOk result (TakesLog bytes.now (T.took taker.old) (T.took taker.new)) }
 {
     take_entries(alloc, bytes, taker)
 }
@@ -44,10 +43,8 @@ fn read_list(alloc: Global, bytes: &[u8]) -> Result<UpdateList, ReadError>
 }
 
 fn take_entries<T: UpdateTaker>(alloc: Global, bytes: &[u8], taker: &mut T) -> Result<(), ReadError>
-    ensures made { Makes (λ done. T.taken taker.new) result
-        (log_behind (T.taken taker.old) bytes.now) }
-    ensures valid { OnOk result
-        (Each IsValidUpdate (T.taken taker.old) → Each IsValidUpdate (T.taken taker.new)) }
+    ensures taken { OnOk result (TakesEntries bytes.now (T.took taker.old) (T.took taker.new)) }
+    ensures fails { FailsAs result (log_reading bytes.now) }
 {
     let mut parts = Parts::new(Column::Whole, bytes);
     for _ in 0..bytes.len() {
@@ -66,7 +63,7 @@ fn take_next_entry<T: UpdateTaker>(
     taker: &mut T,
 ) -> Result<(), ReadError>
     ensures taken { OnOk result
-        (TakesEntry parts.old parts.new (T.taken taker.old) (T.taken taker.new)) }
+        (TakesEntry parts.old parts.new (T.took taker.old) (T.took taker.new)) }
     ensures fails { FailsAs result (entry_at parts.old) }
 {
     let body = parts.blob()?;
@@ -83,7 +80,7 @@ fn take_body<T: UpdateTaker>(
     taker: &mut T,
 ) -> Result<(), ReadError>
     requires { start + length body.now < 2 ^ 64 }
-    ensures taken { OnOk result (TakesV1 body.now (T.taken taker.old) (T.taken taker.new)) }
+    ensures taken { OnOk result (TakesV1 body.now (T.took taker.old) (T.took taker.new)) }
     ensures fails { FailsAs result (read_in_file start (v1_reading body.now)) }
 {
     match taker.take_v1(alloc, body) {

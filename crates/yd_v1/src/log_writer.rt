@@ -55,7 +55,7 @@ impl LogWriter {
 }
 
 impl UpdateTaker for LogWriter {
-    ghost taken = { updates_in_log };
+    ghost took = { λ log taken. taken ≡ updates_in_log log };
 
     fn take(&mut self, update: Update) -> Result<(), NoMemory> {
         write_entry(self.alloc, &update, &mut self.body, &mut self.log)?;

@@ -10,14 +10,13 @@ ghost use Rattle.yd_v1.specs.LogWriting.{IsBody, PassesEntry, body_of, log_bytes
 ghost use Rattle.yd_v1.specs.Reading.{v1_reading};
 ghost use Rattle.yd_parts.specs.Fault.{FailsAs};
 
-use crate::reader::V1Reader;
+use crate::reading::take_structs_v1;
 use crate::writer::V1Writer;
 use std::alloc::Global;
-use yd_fields::{FieldReader, write_update};
+use yd_fields::{write_deletes, write_update};
 use yd_num::Bytes;
 use yd_ops::Update;
 use yd_parts::{NoMemory, ReadError};
-use yd_reading::pass_update;
 
 /// The bytes of a log of the updates, in their order, which stand for these updates. An update of
 /// 2^53 bytes or more finds no memory (own).
@@ -56,7 +55,6 @@ pub(crate) fn write_entry(
 }
 
 /// Appends the entry of the update that bytes in V1 stand for. It is written while it is read.
-#[tactic(auto, unfolding(crate::specs::Reading::v1_whole))]
 pub(crate) fn pass_entry(
     alloc: Global,
     bytes: &[u8],
@@ -67,10 +65,9 @@ pub(crate) fn pass_entry(
     ensures fails { FailsAs result (v1_reading bytes.now) }
     ensures unchanged { OnErr result (log.new ≡ log.old) }
 {
-    let mut reader = V1Reader::new(bytes);
     body.clear();
-    pass_update(alloc, &mut reader, body)?;
-    reader.finish()?;
+    let deletes = take_structs_v1(alloc, bytes, body)?;
+    write_deletes(alloc, &deletes, body)?;
     match log.push_blob(body.as_slice()) {
         Ok(()) => Ok(()),
         Err(_) => Err(ReadError::NoMemory),

@@ -5,7 +5,7 @@ ghost use Rattle.yd_ops.specs.Valid.{IsValidUpdate};
 ghost use Rattle.yd_ops.specs.Value.{UpdateValue};
 ghost use Rattle.yd_ops.specs.View.{update_value};
 ghost use Rattle.yd_parts.specs.Fault.{FailsAs};
-ghost use Rattle.yd_v1.specs.Log.{TakesV1};
+ghost use Rattle.yd_v1.specs.Log.{TakesMore, TakesV1};
 ghost use Rattle.yd_v1.specs.Reading.{v1_reading};
 
 use crate::reading::read_update_v1;
@@ -14,20 +14,21 @@ use std::marker::Model;
 use yd_ops::Update;
 use yd_parts::{NoMemory, ReadError};
 
-/// What takes updates, one after another: it keeps them, or writes them at once.
+/// What takes updates, one after another: it keeps them, writes them at once, or keeps less.
 pub trait UpdateTaker {
-    /// The updates that it took, in their order.
-    ghost taken: { Self → List UpdateValue };
+    /// These are the updates that it took, in their order.
+    ghost took: { Self → List UpdateValue → Type 0 };
 
     /// Takes an update. After want of memory it is left open which updates were taken.
     fn take(&mut self, update: Update) -> Result<(), NoMemory>
         requires { IsValidUpdate (update_value update) }
-        ensures { OnOk result (taken self.new ≡ taken self.old ++ update_value update ∷ []) };
+        ensures { OnOk result
+            (TakesMore (took self.old) (took self.new) (update_value update ∷ [])) };
 
     /// Takes the update that bytes in V1 stand for, or tells the first fault in them. After an error
     /// it is left open which updates were taken.
     fn take_v1(&mut self, alloc: Global, bytes: &[u8]) -> Result<(), ReadError>
-        ensures took { OnOk result (TakesV1 bytes.now (taken self.old) (taken self.new)) }
+        ensures took { OnOk result (TakesV1 bytes.now (took self.old) (took self.new)) }
         ensures fails { FailsAs result (v1_reading bytes.now) };
 }
 
@@ -96,7 +97,7 @@ impl UpdateList {
 impl UpdateTaker for UpdateList {
     ghost use Rattle.std.specs.Prelude.{map};
 
-    ghost taken = { λ list. map update_value list };
+    ghost took = { λ list taken. taken ≡ map update_value list };
 
     fn take(&mut self, update: Update) -> Result<(), NoMemory> {
         self.push(update)?;

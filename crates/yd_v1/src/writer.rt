@@ -1,14 +1,15 @@
 //! Fields, written in V1.
 
-ghost use Rattle.std.specs.Prelude.{◌≡◌, []};
+ghost use Rattle.std.specs.Prelude.{◌≡◌, ◌++◌, [], OnErr, OnOk};
 
 use std::alloc::Global;
 use std::marker::Model;
 use yd_any::{Any, Json, text_of_json};
-use yd_fields::FieldWriter;
+use yd_fields::{FieldWriter, LentStruct, write_lent};
 use yd_ids::Id;
 use yd_num::Bytes;
 use yd_parts::{NoMemory, write_any};
+use yd_reading::StructTaker;
 
 /// Writes fields in V1, seen as the bytes of those that were written (Yjs 13, UpdateEncoderV1).
 #[derive(Drop)]
@@ -43,11 +44,21 @@ impl V1Writer {
         self.bytes.as_slice()
     }
 
-    // No field again, and the memory stays.
-    pub(crate) fn clear(&mut self)
+    /// No field again. The memory stays.
+    pub fn clear(&mut self)
         ensures { self.new ≡ [] }
     {
         self.bytes.truncate(0);
+    }
+
+    /// Writes the fields of the other behind those that stand here (own). After want of memory none
+    /// of them stands here.
+    pub fn append(&mut self, other: &V1Writer) -> Result<(), NoMemory>
+        ensures appended { OnOk result (self.new ≡ self.old ++ other.now) }
+        ensures unchanged { OnErr result (self.new ≡ self.old) }
+    {
+        self.bytes.push_all(other.bytes.as_slice())?;
+        Ok(())
     }
 }
 
@@ -160,5 +171,28 @@ impl FieldWriter for V1Writer {
 
     fn finish(self) -> Result<Vec<u8>, NoMemory> {
         Ok(self.bytes.into_vec())
+    }
+}
+
+impl StructTaker for V1Writer {
+    ghost use Rattle.yd_v1.specs.Taking.{WroteSections};
+
+    ghost took = { WroteSections };
+
+    fn begin(&mut self, blocks: u64) -> Result<(), NoMemory> {
+        self.put_number(blocks)?;
+        Ok(())
+    }
+
+    fn begin_block(&mut self, id: Id, structs: u64) -> Result<(), NoMemory> {
+        self.put_number(structs)?;
+        self.put_client(id.client.0)?;
+        self.put_number(id.clock)?;
+        Ok(())
+    }
+
+    fn take(&mut self, alloc: Global, _id: Id, entry: &LentStruct<'_>) -> Result<(), NoMemory> {
+        write_lent(alloc, entry, self)?;
+        Ok(())
     }
 }

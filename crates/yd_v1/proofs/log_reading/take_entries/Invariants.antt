@@ -1,11 +1,6 @@
-use Rattle.std.proofs.Common.{◌≡◌, ◌-◌, length}
-use Rattle.yd_words.specs.Each.{Each}
-use Rattle.yd_ops.specs.Valid.{IsValidUpdate}
-use Rattle.yd_v1.specs.Log.{log_behind, log_from}
+use Rattle.std.proofs.Common.{◌-◌, length}
+use Rattle.yd_v1.proofs.LogTakingLemmas.{TakesSoFar}
 use Rattle.yd_v1.proofs.log_reading.take_entries.Given as goal
 
 abbrev pub invariant-loop : goal.invariant-loop
-invariant-loop g l =
-    let before = g.T.UpdateTaker.taken l.fn.taker in
-    let now = g.T.UpdateTaker.taken l.taker in
-    (log_from (length l.bytes - l.counter) now l.parts ≡ log_behind before l.bytes) × (Each IsValidUpdate before → Each IsValidUpdate now)
+invariant-loop g l = TakesSoFar l.bytes (length l.bytes - l.counter) l.parts (g.T.UpdateTaker.took l.fn.taker) (g.T.UpdateTaker.took l.taker)

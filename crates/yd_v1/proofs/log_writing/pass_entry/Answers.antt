@@ -1,29 +1,31 @@
-use Rattle.std.proofs.Common.{◌≡◌, ◌++◌, ◌∙◌, List, ℕ, None, Ok, ap, refl, subst, ◌<◌, ◌^◌, length}
+use Rattle.std.proofs.Common.{◌++◌, ◌∙◌, List, [], ℕ, ap, refl, subst, ◌<◌, ◌^◌, length}
 use Rattle.yd_num.specs.Writing.{shortest_blob}
-use Rattle.yd_fields.specs.UpdatePlan.{update_plan}
-use Rattle.yd_ops.specs.Value.{UpdateValue}
-use Rattle.yd_parts.specs.Plan.{read_by}
-use Rattle.yd_reading.proofs.UpdateFitLemmas.{update_read_valid}
-use Rattle.yd_v1.specs.Reading.{IsSoundV1, V1Left, v1_at, v1_end, v1_reading, v1_spot, v1_start, v1_whole}
-use Rattle.yd_v1.proofs.FitLemmas.{v1_fits}
+use Rattle.yd_ids.specs.declared.id.Span.{Span}
+use Rattle.yd_fields.specs.Field.{Field}
+use Rattle.yd_fields.specs.UpdateFields.{fields_of_deletes, fields_of_update}
+use Rattle.yd_fields.specs.Writes.{Writes}
+use Rattle.yd_fields.proofs.WritesLemmas.{writes_then}
+use Rattle.yd_reading.specs.Taking.{fields_of_sections, sections_of}
+use Rattle.yd_reading.proofs.SectionLemmas.{fields_of_all_sections}
+use Rattle.yd_v1.specs.Bytes.{V1Spells, v1_bytes}
+use Rattle.yd_v1.specs.Taking.{WroteSections}
 use Rattle.yd_v1.proofs.LogWrittenLemmas.{MakesBody, body_made}
 use Rattle.yd_v1.proofs.log_writing.pass_entry.Goals as goal
 
--- what was read, and then the end, is the reading of the whole
-whole_read : (bytes : List ℕ) (begin end : V1Left) (u : UpdateValue) → begin ≡ v1_start bytes → read_by v1_at v1_spot (update_plan None) begin ≡ Ok (u, end) → v1_end end ≡ Ok tt → v1_reading bytes ≡ Ok u
-unfolding v1_whole
-whole_read bytes begin end u starts read ends = rw (← starts, read, ends) refl
-
 pub returns-in-Ok-clause-appended : goal.returns-in-Ok-clause-appended
 returns-in-Ok-clause-appended c =
-    let passed = c.in_ok-pass_update.ensures.passed in
+    let took = c.in_ok-deletes.ensures.took in
+    let u = took.update in
     let body = c.as_slice.result.now in
-    let valid = update_read_valid v1_at v1_spot IsSoundV1 None c.new-reader.result passed.value c.pass_update.new.reader v1_fits tt passed.read in
-    let made : MakesBody body passed.value = body_made passed.value c.clear.new.self body valid c.clear.ensures (c.as_slice.ensures ∙ passed.written.written) passed.written.spelled in
+    let begun : WroteSections c.clear.new.self [] = record { written = c.clear.ensures; spelled = tt } in
+    let fields = ap (λ (spans : List Span). fields_of_sections (sections_of u) ++ fields_of_deletes spans) took.deletes_are ∙ fields_of_all_sections u in
+    let written : Writes (λ f old. old ++ v1_bytes f) V1Spells (fields_of_update u) [] c.write_deletes.new.writer =
+    subst (λ (fs : List Field). Writes (λ f old. old ++ v1_bytes f) V1Spells fs [] c.write_deletes.new.writer) fields (writes_then (took.taken [] begun) c.in_ok-write_deletes.ensures) in
+    let made : MakesBody body u = body_made u [] body took.valid refl (c.as_slice.ensures ∙ written.written) written.spelled in
     record {
-      update = passed.value;
-      read = whole_read c.args.bytes.now c.new-reader.result c.pass_update.new.reader passed.value c.new-reader.ensures passed.read c.in_ok-finish.ensures.given;
-      valid = valid;
+      update = u;
+      read = took.is_read;
+      valid = took.valid;
       appended = c.in-Ok.ensures.appended ∙ ap (λ (l : List ℕ). c.args.log.now ++ shortest_blob l) made.body_is;
       again = record { stands = made.stands; fits = subst (λ (l : List ℕ). length l < 2 ^ 53) made.body_is c.in-Ok.ensures.fits };
     }
