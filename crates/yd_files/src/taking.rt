@@ -1,10 +1,10 @@
-//! Taking in what a file stands for, behind what the files before it stand for.
+//! Taking what a file stands for, behind what the files before it stand for.
 
 ghost use Rattle.std.specs.Prelude.{◌≡◌, ◌∷◌, ◌++◌, [], IfErr, IfOk, OnOk};
 ghost use Rattle.yd_ops.specs.Valid.{IsValidUpdate};
 ghost use Rattle.yd_ops.specs.View.{update_value};
-ghost use Rattle.yd_files.specs.Reading.{RefusedBy, TakesFile, TakesRead};
-ghost use Rattle.yd_files.specs.Seen.{inputs_with};
+ghost use Rattle.yd_v1.specs.Log.{TakesMore};
+ghost use Rattle.yd_files.specs.Reading.{HaveTaken, RefusedBy, TakesFile, TakesRead};
 ghost use Rattle.yd_files.specs.Verdict.{HasFirstFaultIn};
 
 use crate::inputs::Others;
@@ -15,27 +15,28 @@ use yd_ids::Vector;
 use yd_ops::Update;
 use yd_parts::ReadError;
 use yd_script::read_script;
-use yd_v1::{UpdateTaker, read_v1, read_vector, take_log};
+use yd_v1::{UpdateTaker, read_vector, take_log};
 use yd_v2::read_v2;
 
-/// Reads the bytes of a file of this kind, and takes in what they stand for, or tells the first
-/// fault in them. What was taken in before an error is left open.
+/// Reads the bytes of a file of this kind, and takes what they stand for, or tells the first fault
+/// in them (own). Updates are handed on, and what is none stands behind the others. After an error
+/// it is left open what was taken.
 pub fn take_file<T: UpdateTaker>(
     alloc: Global,
     kind: Kind,
     bytes: &[u8],
     others: &mut Others,
-    taker: &mut T,
+    updates: &mut T,
 ) -> Result<(), ReadError>
-    ensures read { OnOk result (TakesFile kind bytes.now
-        (inputs_with others.old (T.taken taker.old)) (inputs_with others.new (T.taken taker.new))) }
+    ensures taken { OnOk result (TakesFile kind bytes.now
+        (HaveTaken others.old (T.took updates.old)) (HaveTaken others.new (T.took updates.new))) }
     ensures refused { IfErr result (RefusedBy (HasFirstFaultIn kind bytes.now)) }
 {
     others.kinds.push(kind)?;
     match kind {
-        Kind::V1 => take_one(read_v1(alloc, bytes), taker),
-        Kind::V2 => take_one(read_v2(alloc, bytes), taker),
-        Kind::Log => take_log(alloc, bytes, taker),
+        Kind::V1 => updates.take_v1(alloc, bytes),
+        Kind::V2 => take_one(read_v2(alloc, bytes), updates),
+        Kind::Log => take_log(alloc, bytes, updates),
         Kind::Vector => take_vector(read_vector(alloc, bytes), &mut others.vectors),
         Kind::Script => take_script(read_script(alloc, bytes), &mut others.scripts),
     }
@@ -45,7 +46,7 @@ pub fn take_file<T: UpdateTaker>(
 fn take_one<T: UpdateTaker>(read: Result<Update, ReadError>, taker: &mut T) -> Result<(), ReadError>
     requires { IfOk read (λ update. IsValidUpdate (update_value update)) }
     ensures { TakesRead (λ update.
-        T.taken taker.new ≡ T.taken taker.old ++ update_value update ∷ []) read result }
+        TakesMore (T.took taker.old) (T.took taker.new) (update_value update ∷ [])) read result }
 {
     let update = read?;
     if taker.take(update).is_err() {

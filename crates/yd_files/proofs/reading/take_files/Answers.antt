@@ -1,12 +1,12 @@
-use Rattle.std.proofs.Common.{map, ◌∙◌}
-use Rattle.yd_files.proofs.ReadingLemmas.{named_at, so_far_more, so_far_none, stops_at, stops_passed}
+use Rattle.std.proofs.Common.{map, ◌∙◌, arith}
+use Rattle.yd_files.proofs.ReadingLemmas.{named_at, so_far_all, so_far_more, so_far_none, stops_at, stops_passed}
 use Rattle.yd_files.specs.Counts.{count_of}
 use Rattle.yd_files.specs.Reading.{StopsAmong}
 use Rattle.yd_files.specs.Seen.{file_of}
 use Rattle.yd_files.proofs.reading.take_files.Goals as goal
 
 pub loop-file-init : goal.loop-file-init
-loop-file-init g c = rw (c.requires, c.new-others.ensures) (so_far_none _ _ _ _)
+loop-file-init g c = so_far_none _ _ _ _ (g.T.FileTaker.took c.args.taker.now) c.requires
 
 pub returns-in_err-take_next-clause-stops : goal.returns-in_err-take_next-clause-stops
 returns-in_err-take_next-clause-stops g c =
@@ -33,3 +33,6 @@ loop-file-preserved g c =
     let done = c.in_ok-take_next in
     so_far_more c.args.files.now loop.file-index _ c.loop-file-test.true loop.invariant done.ensures.read done.ensures.files done.ensures.counts
     (λ calm named. done.ensures.calm calm named)
+
+pub returns-clause-read : goal.returns-clause-read
+returns-clause-read g c = so_far_all c.args.files.now c.loop-file.file-index (omega (arith, c.loop-file-test.false, c.loop-file.auto.file-index-end)) c.loop-file.invariant
