@@ -1,0 +1,9 @@
+pub mod NotingLemmas
+pub mod ReachLemmas
+pub mod SectionsLemmas
+pub mod BlockWritingLemmas
+pub mod CutterLemmas
+pub mod TailLemmas
+pub mod CuttingLemmas
+pub mod GroupWritingLemmas
+pub mod PartingLemmas

@@ -1,0 +1,9 @@
+pub mod Noting
+pub mod Reaching
+pub mod Sections
+pub mod BlockWriting
+pub mod Cutter
+pub mod Cutting
+pub mod Tails
+pub mod GroupWriting
+pub mod Parting
