@@ -1,0 +1,4 @@
+pub mod BlocksLemmas
+pub mod GatheredLemmas
+pub mod GathererLemmas
+pub mod GrowingLemmas
