@@ -1,6 +1,8 @@
 pub mod CheckLemmas
+pub mod CutLemmas
 pub mod DueLemmas
 pub mod EndsLemmas
+pub mod GatheredLemmas
 pub mod GenerateLemmas
 pub mod LawLemmas
 pub mod MakingLemmas

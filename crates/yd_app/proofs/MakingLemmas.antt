@@ -4,6 +4,11 @@ use Rattle.std.specs.Global.{Vec}
 use Rattle.yd_meaning.specs.Document.{Document}
 use Rattle.yd_meaning.specs.Replica.{IsReplicaDocument}
 use Rattle.yd_modes.specs.declared.mode.Mode.{Mode}
+use Rattle.yd_fields.specs.UpdatePlan.{vector_plan}
+use Rattle.yd_grouping.specs.Merged.{merge_of}
+use Rattle.yd_grouping.specs.Reach.{reach_of}
+use Rattle.yd_ids.specs.declared.id.Client.{Client}
+use Rattle.yd_v1.specs.Grammar.{FillsV1}
 use Rattle.yd_v1.specs.Log.{StandsForLog}
 use Rattle.yd_v1.specs.LogWriting.{log_bytes}
 use Rattle.yd_ops.specs.Received.{Received, received_set}
@@ -19,8 +24,9 @@ use Rattle.yd_files.specs.declared.fault.FileFault.TheVariants as faults
 use Rattle.yd_files.specs.Verdict.{Inputs, StandFor}
 use Rattle.yd_app.proofs.DueLemmas.{weaker}
 use Rattle.yd_asking.specs.Asking.{StopsAsking}
-use Rattle.yd_asking.specs.Command.{Command, pack, show}
+use Rattle.yd_asking.specs.Command.{Command, pack, show, vector}
 use Rattle.yd_app.specs.Commands.Show.{shown_line}
+use Rattle.yd_app.specs.Commands.Vector.{vector_bytes}
 use Rattle.yd_app.specs.Due.{IsDueIn, IsDueOver, no_step_2, output, refusal}
 use Rattle.yd_app.specs.Ending.{Ends}
 use Rattle.yd_app.specs.Output.{IsMadeOf}
@@ -103,6 +109,12 @@ pub refuses_some : (Calm : Type 0) (command : Command) (files : List File) (told
     → StandFor told files inputs → StopsMaking command inputs stop → MakesOn Calm command files told told_now reads result
 refuses_some Calm command files told told_now reads inputs (Ok bytes) stop is stand stops = absurd is.1
 refuses_some Calm command files told told_now reads inputs (Err other) stop is stand stops = inr (inr (inputs, stand, subst (StopsMaking command inputs) (sym is.1) stops))
+
+-- the vector that the updates reach which the files stand for
+pub reaches_files : (told : Option Shelf) (files : List File) (inputs : Inputs) (reached : List (Client × ℕ)) (bytes : List ℕ) → StandFor told files inputs → reached ≡ reach_of (merge_of inputs.updates) → bytes ≡ vector_bytes reached
+    → FillsV1 vector_plan bytes reached → MakesOf vector files told bytes
+reaches_files told files inputs reached bytes stand is written again =
+    (inputs, stand, record { is_output = written ∙ ap vector_bytes is; again = subst (λ v. FillsV1 vector_plan (vector_bytes v) v) is (subst (λ (b : List ℕ). FillsV1 vector_plan b reached) written again) })
 
 -- the log of the updates that the files stand for
 pub packs_files : (told : Option Shelf) (files : List File) (inputs : Inputs) (bytes : List ℕ) → StandFor told files inputs → bytes ≡ log_bytes inputs.updates → StandsForLog bytes inputs.updates → MakesOf pack files told bytes

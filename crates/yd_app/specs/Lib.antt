@@ -1,6 +1,7 @@
 pub mod Commands
 pub mod Due
 pub mod Ending
+pub mod Gathered
 pub mod Law
 pub mod Link
 pub mod Online

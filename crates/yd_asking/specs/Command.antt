@@ -100,10 +100,12 @@ IsOnline (serve address turns) = Unit {0}
 IsOnline (sync address turns) = Unit {0}
 IsOnline command = ⊥
 
--- it is of what the files stand for together, and of nothing else: all are, but `pack`, which writes each update when it is read, and
--- those that use the network. `generate` has no file
+-- it is of what the files stand for together, and of nothing else: all are, but `pack`, `vector` and `cut`, which work while files are
+-- read, and those that use the network. `generate` has no file
 abbrev pub IsOfInputs : Command → Type 0
 IsOfInputs pack = ⊥
+IsOfInputs vector = ⊥
+IsOfInputs (cut name) = ⊥
 IsOfInputs (serve address turns) = ⊥
 IsOfInputs (sync address turns) = ⊥
 IsOfInputs command = Unit {0}

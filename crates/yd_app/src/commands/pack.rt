@@ -8,7 +8,7 @@ ghost use Rattle.yd_asking.specs.Command.{pack as packs};
 ghost use Rattle.yd_app.specs.Stopping.{MakesOf};
 
 use std::alloc::Global;
-use yd_files::{File, FileFault, take_files};
+use yd_files::{File, FileFault, Taken, take_files};
 use yd_v1::LogWriter;
 use yd_world::Library;
 
@@ -27,7 +27,7 @@ pub fn pack<'a, L: Library>(
     ensures calm { L.is_calm library.old → ReadsCalmly (L.told library.old)
         (map file_of files.now) (count_of (L.faults library.old) (L.faults library.new)) }
 {
-    let mut log = LogWriter::new(alloc);
-    take_files(alloc, library, files, &mut log)?;
-    Ok(log.finish())
+    let mut taken = Taken::new(alloc, LogWriter::new(alloc));
+    take_files(alloc, library, files, &mut taken)?;
+    Ok(taken.updates.finish())
 }

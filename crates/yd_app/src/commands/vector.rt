@@ -1,25 +1,36 @@
 //! `vector`: the clock that each client reaches.
 
-ghost use Rattle.std.specs.Prelude.{IfOk};
-ghost use Rattle.yd_words.specs.Each.{Each};
-ghost use Rattle.yd_ops.specs.Valid.{IsValidUpdate};
-ghost use Rattle.yd_files.specs.Seen.{inputs_of};
+ghost use Rattle.std.specs.Prelude.{map, IfOk, IfErr};
+ghost use Rattle.yd_files.specs.Counts.{count_of};
+ghost use Rattle.yd_files.specs.Reading.{ReadsCalmly, StopsAmong};
+ghost use Rattle.yd_files.specs.Seen.{file_of};
 ghost use Rattle.yd_asking.specs.Command.{vector as vectors};
-ghost use Rattle.yd_app.specs.Output.{IsMadeOf};
+ghost use Rattle.yd_app.specs.Stopping.{MakesOf};
 
-use crate::fault::NoMemory;
 use std::alloc::Global;
-use yd_files::Inputs;
-use yd_merge::vector_of_all;
+use yd_files::{File, FileFault, Taken, take_files};
+use yd_skimming::Reach;
 use yd_v1::write_vector;
+use yd_world::Library;
 
-/// The bytes of the state vector of the merge of the updates. Nothing is merged for it.
-pub fn vector(alloc: Global, inputs: &Inputs) -> Result<Vec<u8>, NoMemory>
-    requires { Each IsValidUpdate (inputs_of inputs.now).updates }
-    ensures { IfOk result (λ bytes.
-        IsMadeOf vectors (inputs_of inputs.now) bytes.items) }
+/// The bytes of the state vector of the merge of the files' updates, or why reading them stopped.
+/// Nothing is merged for it, and of each update only its ids are kept.
+pub fn vector<'a, L: Library>(
+    alloc: Global,
+    library: &mut L,
+    files: &[File<'a>],
+) -> Result<Vec<u8>, FileFault<'a>>
+    ensures made { IfOk result (λ bytes.
+        MakesOf vectors (map file_of files.now) (L.told library.old) bytes.items) }
+    ensures stops { IfErr result (StopsAmong (L.is_calm library.old) (L.told library.old)
+        (L.told library.new) (map file_of files.now)
+        (count_of (L.faults library.old) (L.faults library.new))) }
+    ensures calm { L.is_calm library.old → ReadsCalmly (L.told library.old)
+        (map file_of files.now) (count_of (L.faults library.old) (L.faults library.new)) }
 {
-    let reached = vector_of_all(alloc, inputs.updates.as_slice())?;
+    let mut taken = Taken::new(alloc, Reach::new(alloc));
+    take_files(alloc, library, files, &mut taken)?;
+    let reached = taken.updates.vector(alloc)?;
     let written = write_vector(alloc, &reached)?;
     Ok(written)
 }
