@@ -6,6 +6,7 @@ pub mod LentCutLemmas
 pub mod MergingLemmas
 pub mod NamedLemmas
 pub mod ReachingLemmas
+pub mod SortedTurnLemmas
 pub mod ToldLemmas
 pub mod TurnLemmas
 pub mod ValueLemmas

@@ -1,8 +1,10 @@
 -- Groups that are written one wholly before the next: their operations stand in the order of writing, and what updates have, put so, is their merge.
 use Rattle.std.proofs.Common.{◌≡◌, ◌↔◌, ℕ, ◌+◌, ◌<◌, ◌≤◌, true, List, [], ◌∷◌, ◌++◌, inl, inr, map, drop, length, refl, sym, ap, ap₂, ◌∙◌, subst, arith, tests, append_assoc, append-nil}
+use Rattle.std.specs.Global.{Vec}
 use Rattle.std.specs.List.Sorted.{IsPermutation}
+use Rattle.std.specs.Prelude.{Option, Some, None, IfSome, is_some}
 use Rattle.std.proofs.lemmas.List.{drop_all, length-drop}
-use Rattle.std.proofs.lemmas.List.Sorted.{IsPermutation-sym}
+use Rattle.std.proofs.lemmas.List.Sorted.{IsPermutation-map, IsPermutation-sym}
 use Rattle.yd_words.specs.Each.{Each}
 use Rattle.yd_words.specs.Member.{IsIn}
 use Rattle.yd_words.proofs.EachLemmas.{each_permuted, each_weaker}
@@ -67,6 +69,11 @@ updates-operations [] = refl
 updates-operations (update ∷ updates) = groups-append (blocks_groups update.blocks) (updates_groups updates)
     ∙ ap₂ (λ os ps. os ++ ps) (blocks-groups-operations update.blocks) (updates-operations updates)
 
+pub updates-append : (updates others : List UpdateValue) → updates_groups (updates ++ others) ≡ updates_groups updates ++ updates_groups others
+updates-append [] others = refl
+updates-append (update ∷ updates) others = ap (λ gs. blocks_groups update.blocks ++ gs) (updates-append updates others)
+    ∙ sym (append_assoc (blocks_groups update.blocks) (updates_groups updates) (updates_groups others))
+
 -- ---- a group of a valid update
 
 struct_units : (group : Group) → IsStructAt (start_of group).client (start_of group).clock (struct_of group) → 0 < size_of group
@@ -104,12 +111,12 @@ goes_through group next other (inl lt) some (inr (e, le)) = inl (omega (arith, l
 goes_through group next other (inr (e, le)) some (inl more) = inl (omega (arith, e, more))
 goes_through group next other (inr (e, le)) some (inr (f, more)) = inr (e ∙ f, omega (arith, le, some, more))
 
-goes_all : (group : Group) (groups : List Group) → HaveUnits groups → AreInTurn (group ∷ groups) → Each (GoesBefore group) groups
+pub goes_all : (group : Group) (groups : List Group) → HaveUnits groups → AreInTurn (group ∷ groups) → Each (GoesBefore group) groups
 goes_all group [] units turn = tt
 goes_all group (next ∷ groups) units turn =
     (turn.0, each_weaker (GoesBefore next) (GoesBefore group) (λ other goes. goes_through group next other turn.0 units.0 goes) groups (goes_all next groups units.1 turn.1))
 
-turn_rest : (group : Group) (groups : List Group) → AreInTurn (group ∷ groups) → AreInTurn groups
+pub turn_rest : (group : Group) (groups : List Group) → AreInTurn (group ∷ groups) → AreInTurn groups
 turn_rest group [] turn = tt
 turn_rest group (next ∷ groups) turn = turn.1
 
@@ -260,6 +267,13 @@ turn_received updates groups valid each p turn = sym (are_received updates (oper
   (λ i. subst (IsIn o) (updates-operations updates) ((permuted_operations (updates_groups updates) groups p o).1 i)),
 )))
 
+-- and its operations are alike
+pub turn_alike : (updates : List UpdateValue) (groups : List Group) → Each IsOfUpdate groups → IsPermutation (updates_groups updates) groups → AreInTurn groups →
+    AreAlike (operations_of_all updates)
+turn_alike updates groups each p turn =
+    alike_in (operations_of_groups groups) (operations_of_all updates) (turn_written groups (groups_units groups (are_groups groups each)) turn)
+    (λ o i. (permuted_operations (updates_groups updates) groups p o).0 (subst (IsIn o) (sym (updates-operations updates)) i))
+
 -- and is their merge
 pub turn_merge : (updates : List UpdateValue) (groups : List Group) (deletes : List Span) → Each IsValidUpdate updates → Each IsOfUpdate groups →
     IsPermutation (updates_groups updates) groups → AreInTurn groups → deletes ≡ (received_set updates).deletes → grouping_of (operations_of_groups groups) deletes ≡ merge_of updates
@@ -270,6 +284,14 @@ turn_merge updates groups deletes valid each p turn e = ap₂ (λ os ds. groupin
 pub of_update : (lents : List Lent) → Each IsLent lents → Each IsOfUpdate (map lent_group lents)
 of_update [] each = tt
 of_update (lent ∷ lents) each = (each.0.valid, of_update lents each.1)
+
+-- where what is lent by updates was put in turn, their operations are alike
+pub lent_alike : (updates : List UpdateValue) (lents : List Lent) (sorted : Option (Vec Lent)) → Each IsLent lents → map lent_group lents ≡ updates_groups updates →
+    IfSome sorted (λ s. IsPermutation lents s.items) → IfSome sorted (λ s. AreInTurn (map lent_group s.items)) → is_some sorted ≡ true → AreAlike (operations_of_all updates)
+lent_alike updates lents None each groups same turn there = absurd cc
+lent_alike updates lents (Some sorted) each groups same turn there =
+    turn_alike updates (map lent_group sorted.items) (of_update sorted.items (each_permuted IsLent lents sorted.items same each))
+    (subst (λ gs. IsPermutation gs (map lent_group sorted.items)) groups (IsPermutation-map lent_group lents sorted.items same)) turn
 
 -- at the end all are pushed, and so grouped
 pub all_lent : (lents : List Lent) (i : ℕ) (built : Built) (deletes : List Span) → Each IsLent lents → AreInTurn (map lent_group lents) → length lents ≤ i →

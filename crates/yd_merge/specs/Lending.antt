@@ -1,5 +1,6 @@
 -- What the structs of updates have, one after another, and when no two of them have a unit with one id (own).
-use Rattle.std.specs.Prelude.{◌≡◌, ◌⊎◌, ℕ, ◌+◌, ◌<◌, ◌≤◌, List, [], ◌∷◌, ◌++◌, Option, Some, None}
+use Rattle.std.specs.Prelude.{◌≡◌, ◌⊎◌, ℕ, ◌+◌, ◌<◌, ◌≤◌, List, [], ◌∷◌, ◌++◌, Option, Some, None, map}
+use Rattle.std.specs.List.Sorted.{IsPermutation}
 use denote.Ref.{Bor}
 use Rattle.yd_ids.specs.Id.{IsClient, IsClock}
 use Rattle.yd_ids.specs.declared.id.Client.{Client}
@@ -69,3 +70,7 @@ pub record IsLent (lent : Lent) : Type 0 where
   pub id : start_of (lent_group lent) ≡ lent.id
   pub len : size_of (lent_group lent) ≡ lent.len
   pub valid : IsOfUpdate (lent_group lent)
+
+-- in no order are they in turn
+abbrev pub AreNeverInTurn : List Lent → Type 0
+AreNeverInTurn lents = (others : List Lent) → IsPermutation lents others → AreInTurn (map lent_group others) → ⊥

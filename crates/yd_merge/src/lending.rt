@@ -4,11 +4,12 @@ ghost use Rattle.std.specs.Prelude.{◌≡◌, ◌↔◌, ◌+◌, ◌++◌, map
 ghost use Rattle.std.specs.List.Sorted.{IsPermutation};
 ghost use Rattle.yd_words.specs.Each.{Each};
 ghost use Rattle.yd_ids.specs.Id.{IsClient, IsClock};
+ghost use Rattle.yd_ops.specs.Agreement.{AreAlike, operations_of_all};
 ghost use Rattle.yd_ops.specs.Valid.{IsStructAt, IsValidBlock, IsValidUpdate};
 ghost use Rattle.yd_ops.specs.Value.{clocks_of};
 ghost use Rattle.yd_ops.specs.View.{block_value, struct_value, update_value};
 ghost use Rattle.yd_building.specs.Builder.{group_value};
-ghost use Rattle.yd_merge.specs.Lending.{IsLent, GoesBefore, AreInTurn, lent_group};
+ghost use Rattle.yd_merge.specs.Lending.{AreInTurn, AreNeverInTurn, GoesBefore, IsLent, lent_group};
 ghost use Rattle.yd_merge.specs.Lending.{blocks_groups, struct_groups, structs_groups, updates_groups};
 
 use crate::fault::NoMemory;
@@ -56,6 +57,22 @@ impl<'a> Lent<'a> {
     }
 }
 
+/// Whether no two structs of these updates, the others among them, have a unit with one id. Where it
+/// says yes, their operations are alike, and neither their order nor repeats change what is received
+/// of them (`yd_ops::law`). Where it says no, nothing is promised. It takes the time of sorting the
+/// structs, unless they are in the order of writing, and memory for a row of references.
+pub fn are_apart(alloc: Global, updates: &[Update], others: &[Update]) -> Result<bool, NoMemory>
+    requires updates { Each IsValidUpdate (map update_value updates.now) }
+    requires others { Each IsValidUpdate (map update_value others.now) }
+    ensures { IfOk result (λ apart. IsTrue apart → AreAlike (operations_of_all
+        (map update_value updates.now ++ map update_value others.now))) }
+{
+    let mut lents = lent_by(alloc, updates)?;
+    lend_updates(&mut lents, others)?;
+    let apart = in_turn(lents).is_some();
+    Ok(apart)
+}
+
 /// What the structs of updates have, in their order.
 pub fn lent_by<'a>(alloc: Global, updates: &'a [Update]) -> Result<Vec<Lent<'a>>, NoMemory>
     requires { Each IsValidUpdate (map update_value updates.now) }
@@ -64,10 +81,22 @@ pub fn lent_by<'a>(alloc: Global, updates: &'a [Update]) -> Result<Vec<Lent<'a>>
     ensures lent { IfOk result (λ lents. Each IsLent lents.items) }
 {
     let mut lents = Vec::new(alloc);
-    for update in updates {
-        lend_update(&mut lents, update)?;
-    }
+    lend_updates(&mut lents, updates)?;
     Ok(lents)
+}
+
+/// Appends what the structs of updates have.
+fn lend_updates<'a>(lents: &mut Vec<Lent<'a>>, updates: &'a [Update]) -> Result<(), NoMemory>
+    requires updates { Each IsValidUpdate (map update_value updates.now) }
+    requires lent { Each IsLent lents.old.items }
+    ensures groups { OnOk result (map lent_group lents.new.items
+        ≡ map lent_group lents.old.items ++ updates_groups (map update_value updates.now)) }
+    ensures lent { Each IsLent lents.new.items }
+{
+    for update in updates {
+        lend_update(lents, update)?;
+    }
+    Ok(())
 }
 
 /// Appends what the structs of an update have.
@@ -138,13 +167,14 @@ fn lend_struct<'a>(
     }
 }
 
-/// In the order of writing, where no two of them have a unit with one id. It takes no memory, and the
-/// time of sorting them, unless they are in that order.
+/// In the order of writing, in which each is written wholly before the next. There is none where two
+/// of them have a unit with one id. It takes no memory, and the time of sorting them, unless they are
+/// in that order.
 pub fn in_turn<'a>(mut lents: Vec<Lent<'a>>) -> Option<Vec<Lent<'a>>>
     requires { Each IsLent lents.items }
     ensures same { IfSome result (λ sorted. IsPermutation lents.entry.items sorted.items) }
     ensures in_turn { IfSome result (λ sorted. AreInTurn (map lent_group sorted.items)) }
-    ensures none { IfNone result (AreInTurn (map lent_group lents.entry.items) → ⊥) }
+    ensures none { IfNone result (AreNeverInTurn lents.entry.items) }
 {
     if are_in_turn(&lents) {
         return Some(lents);

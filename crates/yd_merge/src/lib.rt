@@ -6,7 +6,8 @@
 //! out by runs. [`write_cut`] writes that of what was received before. All that is written is pushed
 //! into a `yd_building::Builder`, whose update is the grouping of it. [`vector_of`] tells of each
 //! client the smallest clock that an update does not have, and [`vector_of_all`] that of a merge,
-//! without merging. [`group_of`] copies what an entry of a `Received` has.
+//! without merging. [`are_apart`] tells that no two structs have a unit with one id. [`group_of`]
+//! copies what an entry of a `Received` has.
 //!
 //! ```rust
 //! let merged = merge(alloc, &[first, second])?;
@@ -28,6 +29,7 @@ mod writing;
 
 pub use cutting::{cut, write_cut};
 pub use fault::NoMemory;
+pub use lending::are_apart;
 pub use merging::merge;
 pub use parts::group_of;
 pub use reaching::{vector_of, vector_of_all};
