@@ -1,87 +1,59 @@
 -- A gatherer stands for what it took, at each step.
-use Rattle.std.proofs.Common.{◌≡◌, ◌∙◌, ℕ, List, [], ◌∷◌, ◌++◌, map, refl, ap, ap₂, inl, inr}
-use Rattle.std.proofs.lemmas.List.{map-append}
-use Rattle.yd_ids.specs.Set.{set_of}
-use Rattle.yd_ids.specs.declared.id.Span.{Span}
-use Rattle.yd_ops.specs.Operation.{operations_of, operations_of_blocks}
-use Rattle.yd_ops.specs.Valid.{IsValidUpdate}
-use Rattle.yd_ops.specs.Value.{BlockValue, UpdateValue}
-use Rattle.yd_ops.specs.View.{block_value, update_value}
-use Rattle.yd_ops.specs.declared.updates.Update.{Update}
-use Rattle.yd_reading.specs.Taking.{TakesMore as TakesSections, sections_of, sections_of_blocks}
+use Rattle.std.proofs.Common.{◌≡◌, ◌∙◌, ℕ, List, [], ◌∷◌, ◌++◌, map, refl, sym, ap, subst, append-nil, append_assoc}
+use Rattle.yd_ops.specs.Value.{UpdateValue}
 use Rattle.yd_v1.specs.Log.{TakesMore, TakesV1}
-use Rattle.yd_v1.specs.Taking.{TakesStructsV1}
-use Rattle.yd_gathering.specs.Blocks.{HasSections, IsSound, blocks_of}
-use Rattle.yd_gathering.specs.Gathered.{StandsAs, update_of}
-use Rattle.yd_gathering.specs.Gatherer.{Closes, Gathers, updates_of}
-use Rattle.yd_gathering.specs.declared.blocks.Blocks.{Blocks}
+use Rattle.yd_gathering.specs.Gathered.{StandsAs}
+use Rattle.yd_gathering.specs.Gatherer.{Gathers}
+use Rattle.yd_gathering.specs.Late.{HasLate, update_at, updates_late}
+use Rattle.yd_gathering.specs.Row.{HasRow}
+use Rattle.yd_gathering.specs.Said.{SaysInTurn}
+use Rattle.yd_gathering.specs.Settled.{Settles}
 use Rattle.yd_gathering.specs.declared.gatherer.Gatherer.{Gatherer}
-use Rattle.yd_gathering.proofs.BlocksLemmas.{blocks_valid, has_itself, sections-append, sections_have}
-use Rattle.yd_gathering.proofs.GatheredLemmas.{SaysBoth, stand_all, stand_behind, stand_both, stand_empty, stand_full, stand_named}
+use Rattle.yd_gathering.specs.declared.late.Late.{Late}
+use Rattle.yd_gathering.proofs.StandingLemmas.{says_stands}
 
--- ---- an update that is gathered
-
-record MoreBlocks (old new : Blocks) (u : UpdateValue) : Type 0 where
-  pub sound : IsSound new
-  pub operations : operations_of_blocks (blocks_of new) ≡ operations_of_blocks (blocks_of old) ++ operations_of u
-
--- blocks that took the sections of an update have its operations too
-more_blocks : (old new : Blocks) (u : UpdateValue) → IsSound old → TakesSections (HasSections old) (HasSections new) (sections_of u) → MoreBlocks old new u
-more_blocks old new u sound takes =
-    let before = sections_of_blocks (blocks_of old) in
-    let has = takes before (has_itself old sound) in record {
-      sound = has.sound;
-      operations = has.operations ∙ sections-append before (sections_of u)
-          ∙ ap₂ (λ os ps. os ++ ps) (sections_have (blocks_of old)) (sections_have u.blocks);
-    }
-
-says_more : (old new : List BlockValue) (u : UpdateValue) → operations_of_blocks new ≡ operations_of_blocks old ++ operations_of u → SaysBoth (update_of old) (update_of u.blocks) (update_of new)
-says_more old new u is = record { operations = is; deletes = λ x. ((λ h. absurd h), (λ h. elim h [ inl n ↦ n | inr n ↦ n ])) }
+-- where no place is, nothing is put off
+none_late : (late : Late) → late.places.items ≡ [] → updates_late late ≡ []
+none_late late none = ap (map (update_at late.bytes.items)) none
 
 -- ---- lemmas for callers
 
--- an update is gathered
-pub gathered : (old new : Gatherer) (u : UpdateValue) → IsValidUpdate u → TakesSections (HasSections old.blocks) (HasSections new.blocks) (sections_of u) → new.kept ≡ old.kept → new.names.items ≡ old.names.items ++ u.deletes →
-    TakesMore (Gathers old) (Gathers new) (u ∷ [])
-gathered old new u valid takes kept names = λ taken g.
-    let more = more_blocks old.blocks new.blocks u g.sound takes in
-    let front = map update_value old.kept in
-    let both = stand_both taken front old.names.items (update_of (blocks_of old.blocks)) (update_of u.blocks) (update_of (blocks_of new.blocks)) (record { blocks = valid.blocks; deletes = tt })
-    (record { blocks = blocks_valid new.blocks more.sound; deletes = tt }) (says_more (blocks_of old.blocks) (blocks_of new.blocks) u more.operations) g.stand in
+-- an update is gathered at once
+pub gathers_row : (old new : Gatherer) (u : UpdateValue) → old.late.places.items ≡ [] → new.late ≡ old.late → TakesMore (HasRow old.row) (HasRow new.row) (u ∷ []) → TakesMore (Gathers old) (Gathers new) (u ∷ [])
+gathers_row old new u none late takes = λ taken g.
+    let none_now : updates_late new.late ≡ [] = ap updates_late late ∙ none_late old.late none in
+    let front : taken ≡ g.front = g.all ∙ ap (λ us. g.front ++ us) (none_late old.late none) ∙ append-nil g.front in
     record {
-      stand = rw (kept, names) (stand_named taken (front ++ update_of (blocks_of new.blocks) ∷ []) old.names.items u valid both);
-      sound = more.sound;
+      front = g.front ++ u ∷ [];
+      row = takes g.front g.row;
+      bodies = rw late g.bodies;
+      all = ap (λ us. us ++ u ∷ []) front ∙ sym (ap (λ us. (g.front ++ u ∷ []) ++ us) none_now ∙ append-nil (g.front ++ u ∷ []));
     }
 
-pub gathered_v1 : (bytes : List ℕ) (old new : Gatherer) (deletes : List Span) → TakesStructsV1 bytes deletes (HasSections old.blocks) (HasSections new.blocks) → new.kept ≡ old.kept → new.names.items ≡ old.names.items ++ deletes →
-    TakesV1 bytes (Gathers old) (Gathers new)
-gathered_v1 bytes old new deletes t kept names = record {
-  update = t.update;
-  read = t.is_read;
-  valid = t.valid;
-  taken = gathered old new t.update t.valid t.taken kept (names ∙ ap (λ ds. old.names.items ++ ds) t.deletes_are);
-}
-
--- an update is kept as it is
-pub kept_whole : (old mid new : Gatherer) (update : Update) → Closes old mid → new.kept ≡ mid.kept ++ update ∷ [] → new.names ≡ mid.names → new.blocks ≡ mid.blocks → IsValidUpdate (update_value update) →
-    TakesMore (Gathers old) (Gathers new) (update_value update ∷ [])
-kept_whole old mid new update closes kept names blocks valid = λ taken g.
-    let u = update_value update in
-    let before = map update_value old.kept ++ updates_of (blocks_of old.blocks) in
-    let kept_are : map update_value new.kept ≡ before ++ u ∷ [] = ap (map update_value) kept ∙ map-append update_value mid.kept (update ∷ []) ∙ ap (λ us. us ++ u ∷ []) closes.kept in
-    let none : blocks_of new.blocks ≡ [] = ap blocks_of blocks ∙ closes.none in
-    let names_are : new.names ≡ old.names = names ∙ closes.names in
-    let full = stand_full taken (map update_value old.kept) old.names.items (blocks_of old.blocks) g.stand in
-    let all = stand_empty (taken ++ u ∷ []) (before ++ u ∷ []) old.names.items (stand_behind taken before old.names.items u valid full) in
+-- or put off
+pub gathers_late : (old new : Gatherer) (u : UpdateValue) → new.row ≡ old.row → TakesMore (HasLate old.late) (HasLate new.late) (u ∷ []) → TakesMore (Gathers old) (Gathers new) (u ∷ [])
+gathers_late old new u row takes = λ taken g.
+    let has = takes (updates_late old.late) (record { bodies = g.bodies; are = refl }) in
     record {
-      stand = rw (kept_are, none, names_are) all;
-      sound = rw blocks closes.sound;
+      front = g.front;
+      row = rw row g.row;
+      bodies = has.bodies;
+      all = ap (λ us. us ++ u ∷ []) g.all ∙ append_assoc g.front (updates_late old.late) (u ∷ []) ∙ ap (λ us. g.front ++ us) has.are;
     }
 
--- the end
-pub finished : (g : Gatherer) (list : List Update) (update : Update) (taken : List UpdateValue) → map block_value update.blocks ≡ blocks_of g.blocks → update.deletes ≡ set_of g.names.items → list ≡ g.kept ++ update ∷ [] →
-    Gathers g taken → StandsAs taken (map update_value list)
-finished g list update taken blocks deletes is gathers =
-    let last : update_value update ≡ record { blocks = blocks_of g.blocks; deletes = set_of g.names.items } = rw (blocks, deletes) refl in
-    let all = ap (map update_value) is ∙ map-append update_value g.kept (update ∷ []) ∙ ap (λ u. map update_value g.kept ++ u ∷ []) last in
-    rw all (stand_all taken (map update_value g.kept) g.names.items (blocks_of g.blocks) gathers.stand)
+-- and so it is of an update in V1
+pub gathers_row_v1 : (old new : Gatherer) (bytes : List ℕ) → old.late.places.items ≡ [] → new.late ≡ old.late → TakesV1 bytes (HasRow old.row) (HasRow new.row) → TakesV1 bytes (Gathers old) (Gathers new)
+gathers_row_v1 old new bytes none late t = record { update = t.update; read = t.read; valid = t.valid; taken = gathers_row old new t.update none late t.taken }
+
+pub gathers_late_v1 : (old new : Gatherer) (bytes : List ℕ) → new.row ≡ old.row → TakesV1 bytes (HasLate old.late) (HasLate new.late) → TakesV1 bytes (Gathers old) (Gathers new)
+gathers_late_v1 old new bytes row t = record { update = t.update; read = t.read; valid = t.valid; taken = gathers_late old new t.update row t.taken }
+
+-- the end, where nothing was put off
+pub finished_row : (g : Gatherer) (kept taken : List UpdateValue) → g.late.places.items ≡ [] → ((front : List UpdateValue) → HasRow g.row front → SaysInTurn front kept) → Gathers g taken → StandsAs taken kept
+finished_row g kept taken none says gathers = subst (λ us. StandsAs us kept) (sym (gathers.all ∙ ap (λ us. gathers.front ++ us) (none_late g.late none) ∙ append-nil gathers.front))
+    (says_stands gathers.front kept (says gathers.front gathers.row))
+
+-- and where something was
+pub finished_late : (g : Gatherer) (kept behind taken : List UpdateValue) → ((front : List UpdateValue) → HasRow g.row front → SaysInTurn front kept) → Settles kept g.late behind → Gathers g taken →
+    StandsAs taken (kept ++ behind)
+finished_late g kept behind taken says settles gathers = subst (λ us. StandsAs us (kept ++ behind)) (sym gathers.all) (settles gathers.front (says gathers.front gathers.row))

@@ -1,4 +1,7 @@
 pub mod BlocksLemmas
-pub mod GatheredLemmas
 pub mod GathererLemmas
 pub mod GrowingLemmas
+pub mod LateLemmas
+pub mod RowLemmas
+pub mod SaidLemmas
+pub mod StandingLemmas

@@ -1,28 +1,13 @@
 -- What a gatherer has of the updates that it took (own).
-use Rattle.std.specs.Prelude.{◌≡◌, ◌++◌, List, [], ◌∷◌, map}
-use Rattle.yd_ops.specs.Value.{BlockValue, UpdateValue}
-use Rattle.yd_ops.specs.View.{update_value}
-use Rattle.yd_gathering.specs.Blocks.{IsSound, blocks_of}
-use Rattle.yd_gathering.specs.Gathered.{StandWith, update_of}
+use Rattle.std.specs.Prelude.{◌≡◌, ◌++◌, List}
+use Rattle.yd_ops.specs.Value.{UpdateValue}
+use Rattle.yd_gathering.specs.Late.{AreBodies, updates_late}
+use Rattle.yd_gathering.specs.Row.{HasRow}
 use Rattle.yd_gathering.specs.declared.gatherer.Gatherer.{Gatherer}
 
--- the updates that it keeps, and behind them one of the blocks that it gathered
-abbrev pub kept_of : Gatherer → List UpdateValue
-kept_of g = map update_value g.kept ++ update_of (blocks_of g.blocks) ∷ []
-
--- it took these updates: what it keeps stands for them with the deletions that it noted, and its blocks are valid
+-- it took these updates: the first of them into its row, and those that it put off behind them
 pub record Gathers (g : Gatherer) (taken : List UpdateValue) : Type 0 where
-  pub stand : StandWith taken (kept_of g) g.names.items
-  pub sound : IsSound g.blocks
-
--- an update of the blocks, if there are any
-abbrev pub updates_of : List BlockValue → List UpdateValue
-updates_of [] = []
-updates_of (block ∷ blocks) = update_of (block ∷ blocks) ∷ []
-
--- the blocks that it gathered are kept now, and it has no others
-pub record Closes (old new : Gatherer) : Type 0 where
-  pub kept : map update_value new.kept ≡ map update_value old.kept ++ updates_of (blocks_of old.blocks)
-  pub none : blocks_of new.blocks ≡ []
-  pub sound : IsSound new.blocks
-  pub names : new.names ≡ old.names
+  pub front : List UpdateValue
+  pub row : HasRow g.row front
+  pub bodies : AreBodies g.late
+  pub all : taken ≡ front ++ updates_late g.late

@@ -17,6 +17,9 @@ use yd_parts::NoMemory;
 use yd_reading::StructTaker;
 use yd_units::Units;
 
+/// So many blocks are many: by then a log whose updates go on where others ended has few.
+const MANY: usize = 64;
+
 /// Blocks that take structs: one that begins where the last block ends goes into that, and any
 /// other one begins a block.
 #[derive(Drop)]
@@ -37,6 +40,11 @@ impl Blocks {
             done: BlockList::new(alloc),
             last: None,
         }
+    }
+
+    /// Whether there are many. It says only what is worth while.
+    pub fn are_many(&self) -> bool {
+        self.done.as_slice().len() >= MANY
     }
 
     /// The blocks.

@@ -1,32 +1,31 @@
 //! What gathers updates.
 
-ghost use Rattle.std.specs.Prelude.{◌≡◌, [], ◌++◌, List, map, IfOk, OnOk};
+ghost use Rattle.std.specs.Prelude.{◌≡◌, [], ◌++◌, List, map, IsTrue, IfOk};
+ghost use Rattle.yd_words.specs.Each.{Each};
+ghost use Rattle.yd_ops.specs.Valid.{IsValidUpdate};
 ghost use Rattle.yd_ops.specs.Value.{UpdateValue};
 ghost use Rattle.yd_ops.specs.View.{update_value};
 ghost use Rattle.yd_gathering.specs.Gathered.{StandsAs};
-ghost use Rattle.yd_gathering.specs.Gatherer.{Closes, Gathers};
+ghost use Rattle.yd_gathering.specs.Gatherer.{Gathers};
 
-use crate::blocks::Blocks;
+use crate::late::Late;
+use crate::row::Row;
+use crate::settling::settled;
 use std::alloc::Global;
-use std::mem;
-use yd_ids::{IdSet, Span};
 use yd_ops::Update;
 use yd_parts::{NoMemory, ReadError};
-use yd_v1::{UpdateList, UpdateTaker, take_structs_v1};
+use yd_v1::{UpdateList, UpdateTaker};
 
-/// Takes updates, and keeps fewer that say the same. Those in V1 are gathered while they are read:
-/// a struct that begins where the one before it ends goes into the same block, and runs that join
-/// become one. An update that was read before stays as it is, and what comes next is gathered
-/// behind it.
+/// Takes updates, and keeps fewer that say the same. They are gathered while they are read, as long
+/// as most of them go on where one before them ended. Where many did not, those that follow are put
+/// off as bytes, and at the end they are gathered in the order of their ids.
 #[derive(Drop)]
 pub struct Gatherer {
     alloc: Global,
-    // Updates that stay as they came, and what was gathered before each.
-    kept: UpdateList,
-    // What is gathered behind them.
-    blocks: Blocks,
-    // The deletions of the updates that were gathered.
-    names: Vec<Span>,
+    // The first of them, which are gathered.
+    row: Row,
+    // Those behind them, which are put off.
+    late: Late,
 }
 
 impl Gatherer {
@@ -36,50 +35,33 @@ impl Gatherer {
     {
         Gatherer {
             alloc,
-            kept: UpdateList::new(alloc),
-            blocks: Blocks::new(alloc),
-            names: Vec::new(alloc),
+            row: Row::new(alloc),
+            late: Late::new(alloc),
         }
     }
 
-    /// Updates that stand for those that were taken: what is received of them is the same (own).
-    /// Where all were taken in V1, it is one update. It takes the time of sorting the deletions.
+    /// Updates that stand for those that were taken: what is received of them is the same (own). It
+    /// takes the time of sorting the deletions and what was put off.
     pub fn finish(self) -> Result<UpdateList, NoMemory>
         requires { (taken : List UpdateValue) × Gathers self taken }
         ensures { IfOk result (λ list. (taken : List UpdateValue)
             → Gathers self taken → StandsAs taken (map update_value list)) }
     {
-        let Gatherer {
-            alloc,
-            kept,
-            blocks,
-            names,
-        } = self;
-        let Ok(blocks) = blocks.into_list() else {
-            return Err(NoMemory);
-        };
-        let Ok(deletes) = IdSet::of_spans(alloc, names) else {
-            return Err(NoMemory);
-        };
-        let mut list = kept;
-        list.push(Update { blocks, deletes })?;
+        let Gatherer { alloc, row, late } = self;
+        let mut list = row.finish()?;
+        if late.is_empty() {
+            return Ok(list);
+        }
+        let behind = settled(alloc, list.as_slice(), &late)?;
+        list.append(behind)?;
         Ok(list)
     }
 
-    // Puts what was gathered, if there is something, behind the updates that are kept.
-    fn close(&mut self) -> Result<(), NoMemory>
-        ensures { OnOk result (Closes self.old self.new) }
+    // The next update is gathered at once, and none before it was put off.
+    fn is_in_turn(&self) -> bool
+        ensures { IsTrue result → self.now.late.places.items ≡ [] }
     {
-        let gathered = mem::replace(&mut self.blocks, Blocks::new(self.alloc));
-        let Ok(blocks) = gathered.into_list() else {
-            return Err(NoMemory);
-        };
-        if blocks.as_slice().is_empty() {
-            return Ok(());
-        }
-        let deletes = IdSet::new(self.alloc);
-        self.kept.push(Update { blocks, deletes })?;
-        Ok(())
+        self.late.is_empty() && !self.row.is_scattered()
     }
 }
 
@@ -87,24 +69,20 @@ impl UpdateTaker for Gatherer {
     ghost took = { Gathers };
 
     fn take(&mut self, update: Update) -> Result<(), NoMemory> {
-        self.close()?;
-        self.kept.push(update)?;
+        if self.is_in_turn() {
+            self.row.take(update)?;
+            return Ok(());
+        }
+        self.late.put(self.alloc, &update)?;
         Ok(())
     }
 
     fn take_v1(&mut self, alloc: Global, bytes: &[u8]) -> Result<(), ReadError> {
-        let deletes = take_structs_v1(alloc, bytes, &mut self.blocks)?;
-        note(&mut self.names, &deletes)?;
+        if self.is_in_turn() {
+            self.row.take_v1(alloc, bytes)?;
+            return Ok(());
+        }
+        self.late.put_v1(alloc, bytes)?;
         Ok(())
     }
-}
-
-// Notes the spans of a set.
-fn note(names: &mut Vec<Span>, deletes: &IdSet) -> Result<(), NoMemory>
-    ensures { OnOk result (names.new.items ≡ names.old.items ++ deletes.now) }
-{
-    for span in deletes.spans() {
-        names.push(span)?;
-    }
-    Ok(())
 }

@@ -1,5 +1,5 @@
--- What is kept stands for what was taken, at each step.
-use Rattle.std.proofs.Common.{◌≡◌, ◌↔◌, ◌⊎◌, ◌∙◌, List, [], ◌∷◌, ◌++◌, inl, inr, refl, sym, ap, subst, append-nil}
+-- What is kept says in turn what was taken, at each step.
+use Rattle.std.proofs.Common.{◌≡◌, ◌↔◌, ◌⊎◌, ◌∙◌, List, [], ◌∷◌, ◌++◌, inl, inr, refl, sym, ap, ap₂, subst, append-nil, append_assoc}
 use Rattle.yd_words.specs.Each.{Each}
 use Rattle.yd_words.proofs.EachLemmas.{each_append}
 use Rattle.yd_words.proofs.MemberLemmas.{in_left_part, in_parts, in_right_part}
@@ -9,39 +9,39 @@ use Rattle.yd_ids.specs.declared.id.Id.{Id}
 use Rattle.yd_ids.specs.declared.id.Span.{Span}
 use Rattle.yd_ids.proofs.SetLemmas.{has_either, has_front}
 use Rattle.yd_ids.proofs.SetOfLemmas.{set_of_ids, set_of_maximal}
-use Rattle.yd_ids.proofs.UnionLemmas.{sets_same}
-use Rattle.yd_ops.specs.Agreement.{DeleteId}
+use Rattle.yd_ops.specs.Agreement.{DeleteId, operations_of_all}
 use Rattle.yd_ops.specs.Deletes.{SpellLess, deletes_of}
-use Rattle.yd_ops.specs.Operation.{Operation, operations_of}
-use Rattle.yd_ops.specs.Received.{IsWritten, Received, all_taken, groups_of, mended, nothing_received, received_after, received_more, received_set, with_group, with_groups}
+use Rattle.yd_ops.specs.Operation.{operations_of}
 use Rattle.yd_ops.specs.Valid.{IsValidUpdate}
 use Rattle.yd_ops.specs.Value.{BlockValue, UpdateValue}
-use Rattle.yd_ops.proofs.AgreementLemmas.{received_deletes}
-use Rattle.yd_ops.proofs.GroupLemmas.{all_of, all_of-append, deletes_of-ids, update_groups, update_partners, update_written}
-use Rattle.yd_ops.proofs.MendingLemmas.{HasPartners, paired_has}
-use Rattle.yd_ops.proofs.OnceLemmas.{groups_once, update_once}
-use Rattle.yd_ops.proofs.ReceivedLemmas.{one_received, set_is_received}
-use Rattle.yd_gathering.specs.Gathered.{StandWith, StandsAs, update_of}
-use Rattle.yd_gathering.specs.Gatherer.{updates_of}
+use Rattle.yd_ops.proofs.GroupLemmas.{deletes_of-ids}
+use Rattle.yd_gathering.specs.Row.{updates_of}
+use Rattle.yd_gathering.specs.Said.{SayWith, SaysInTurn, update_of}
 
--- ---- one update more
+-- ---- more updates
 
-more-append : (r : Received) (us vs : List UpdateValue) → received_more r (us ++ vs) ≡ received_more (received_more r us) vs
-more-append r [] vs = refl
-more-append r (u ∷ us) vs = more-append (received_after r u) us vs
+pub all-append : (us vs : List UpdateValue) → operations_of_all (us ++ vs) ≡ operations_of_all us ++ operations_of_all vs
+all-append [] vs = refl
+all-append (u ∷ us) vs = ap (λ os. operations_of u ++ os) (all-append us vs) ∙ sym (append_assoc (operations_of u) (operations_of_all us) (operations_of_all vs))
 
--- the operations that are received with one update more
-operations_more : (us : List UpdateValue) (u : UpdateValue) → (received_set (us ++ u ∷ [])).operations ≡ with_groups (groups_of u) (received_set us).operations
-operations_more us u = ap (λ (r : Received). r.operations) (more-append nothing_received us (u ∷ []))
-
--- and what is deleted
-delete_more : (us : List UpdateValue) (u : UpdateValue) (x : Id) → DeleteId (us ++ u ∷ []) x ↔ (DeleteId us x ⊎ HasId (deletes_of u) x)
-delete_more [] u x = ((λ d. elim d [ inl h ↦ inr h | inr n ↦ absurd n ]), (λ d. elim d [ inl n ↦ absurd n | inr h ↦ inl h ]))
-delete_more (v ∷ us) u x =
-    let rest = delete_more us u x in (
+-- what is deleted by two lists
+pub deletes-append : (us vs : List UpdateValue) (x : Id) → DeleteId (us ++ vs) x ↔ (DeleteId us x ⊎ DeleteId vs x)
+deletes-append [] vs x = ((λ d. inr d), (λ d. elim d [ inl n ↦ absurd n | inr h ↦ h ]))
+deletes-append (u ∷ us) vs x =
+    let rest = deletes-append us vs x in (
       λ d. elim d [ inl h ↦ inl (inl h) | inr k ↦ elim (rest.0 k) [ inl a ↦ inl (inr a) | inr b ↦ inr b ] ],
       λ d. elim d [ inl k ↦ elim k [ inl h ↦ inl h | inr a ↦ inr (rest.1 (inl a)) ] | inr b ↦ inr (rest.1 (inr b)) ],
     )
+
+-- with one update more
+all_more : (us : List UpdateValue) (u : UpdateValue) → operations_of_all (us ++ u ∷ []) ≡ operations_of_all us ++ operations_of u
+all_more us u = all-append us (u ∷ []) ∙ ap (λ os. operations_of_all us ++ os) (append-nil (operations_of u))
+
+delete_more : (us : List UpdateValue) (u : UpdateValue) (x : Id) → DeleteId (us ++ u ∷ []) x ↔ (DeleteId us x ⊎ HasId (deletes_of u) x)
+delete_more us u x = let both = deletes-append us (u ∷ []) x in (
+  λ d. elim (both.0 d) [ inl a ↦ inl a | inr b ↦ elim b [ inl h ↦ inr h | inr n ↦ absurd n ] ],
+  λ d. elim d [ inl a ↦ both.1 (inl a) | inr h ↦ both.1 (inr (inl h)) ],
+)
 
 each_front_part : {X : Type 0} (P : X → Type 0) (xs ys : List X) → Each P (xs ++ ys) → Each P xs
 each_front_part P [] ys each = tt
@@ -51,10 +51,6 @@ each_last : {X : Type 0} (P : X → Type 0) (xs : List X) (x : X) → Each P (xs
 each_last P [] x each = each.0
 each_last P (y ∷ xs) x each = each_last P xs x each.1
 
-with_groups-append : (groups others : List (List Operation)) (taken : List Operation) → with_groups (groups ++ others) taken ≡ with_groups others (with_groups groups taken)
-with_groups-append [] others taken = refl
-with_groups-append (group ∷ groups) others taken = with_groups-append groups others (with_group group taken)
-
 -- ---- one update in place of two
 
 -- both operations in a row, and all deletions
@@ -62,22 +58,7 @@ pub record SaysBoth (one other both : UpdateValue) : Type 0 where
   pub operations : operations_of both ≡ operations_of one ++ operations_of other
   pub deletes : (x : Id) → HasId both.deletes x ↔ (HasId one.deletes x ⊎ HasId other.deletes x)
 
--- the same is taken in
-taken_both : (one other both : UpdateValue) (us : List UpdateValue) → Each IsValidUpdate us → IsValidUpdate one → IsValidUpdate other → IsValidUpdate both → SaysBoth one other both →
-    with_groups (groups_of both) (received_set us).operations ≡ with_groups (groups_of other) (with_groups (groups_of one) (received_set us).operations)
-taken_both one other both us valid valid_one valid_other valid_both says =
-    let taken = (received_set us).operations in
-    let is = set_is_received us valid in
-    let groups = groups_of one ++ groups_of other in
-    let same : operations_of both ≡ all_of groups =
-    says.operations ∙ rw (← update_groups one, ← update_groups other) (sym (all_of-append (groups_of one) (groups_of other))) in
-    update_once both taken valid_both is.written is.paired
-    ∙ ap (λ os. mended (all_taken os taken)) same
-    ∙ sym (groups_once groups taken (each_append IsWritten (groups_of one) (groups_of other) (update_written one) (update_written other))
-    (each_append HasPartners (groups_of one) (groups_of other) (update_partners one valid_one) (update_partners other valid_other)) is.written (paired_has taken is.paired))
-    ∙ with_groups-append (groups_of one) (groups_of other) taken
-
--- and the same is deleted
+-- the same is deleted
 deleted_both : (one other both : UpdateValue) → SaysBoth one other both → (x : Id) → HasId (deletes_of both) x ↔ (HasId (deletes_of one) x ⊎ HasId (deletes_of other) x)
 deleted_both one other both says x = (there, back)
   where
@@ -105,12 +86,12 @@ empty_valid = record { blocks = tt; deletes = tt }
 -- ---- lemmas for callers
 
 -- an update is kept as it is
-pub stand_behind : (taken kept : List UpdateValue) (names : List Span) (u : UpdateValue) → IsValidUpdate u → StandWith taken kept names → StandWith (taken ++ u ∷ []) (kept ++ u ∷ []) names
-stand_behind taken kept names u valid s = record {
+pub say_behind : (taken kept : List UpdateValue) (names : List Span) (u : UpdateValue) → IsValidUpdate u → SayWith taken kept names → SayWith (taken ++ u ∷ []) (kept ++ u ∷ []) names
+say_behind taken kept names u valid s = record {
   taken_valid = each_append IsValidUpdate taken (u ∷ []) s.taken_valid (valid, tt);
   valid = each_append IsValidUpdate kept (u ∷ []) s.valid (valid, tt);
   spans = s.spans;
-  operations = operations_more kept u ∙ ap (λ os. with_groups (groups_of u) os) s.operations ∙ sym (operations_more taken u);
+  operations = all_more kept u ∙ ap (λ os. os ++ operations_of u) s.operations ∙ sym (all_more taken u);
   deletes = λ x.
       let there = delete_more taken u x in
       let here = delete_more kept u x in
@@ -121,12 +102,12 @@ stand_behind taken kept names u valid s = record {
 }
 
 -- one without blocks is kept too
-pub stand_empty : (taken kept : List UpdateValue) (names : List Span) → StandWith taken kept names → StandWith taken (kept ++ update_of [] ∷ []) names
-stand_empty taken kept names s = record {
+pub say_empty : (taken kept : List UpdateValue) (names : List Span) → SayWith taken kept names → SayWith taken (kept ++ update_of [] ∷ []) names
+say_empty taken kept names s = record {
   taken_valid = s.taken_valid;
   valid = each_append IsValidUpdate kept (update_of [] ∷ []) s.valid (empty_valid, tt);
   spans = s.spans;
-  operations = operations_more kept (update_of []) ∙ s.operations;
+  operations = all_more kept (update_of []) ∙ append-nil (operations_of_all kept) ∙ s.operations;
   deletes = λ x.
       let here = delete_more kept (update_of []) x in
       let known = s.deletes x in (
@@ -136,15 +117,15 @@ stand_empty taken kept names s = record {
 }
 
 -- and is left out
-pub stand_full : (taken kept : List UpdateValue) (names : List Span) (blocks : List BlockValue) → StandWith taken (kept ++ update_of blocks ∷ []) names → StandWith taken (kept ++ updates_of blocks) names
-stand_full taken kept names (block ∷ blocks) s = s
-stand_full taken kept names [] s =
-    subst (λ us. StandWith taken us names) (sym (append-nil kept))
+pub say_full : (taken kept : List UpdateValue) (names : List Span) (blocks : List BlockValue) → SayWith taken (kept ++ update_of blocks ∷ []) names → SayWith taken (kept ++ updates_of blocks) names
+say_full taken kept names (block ∷ blocks) s = s
+say_full taken kept names [] s =
+    subst (λ us. SayWith taken us names) (sym (append-nil kept))
     (record {
       taken_valid = s.taken_valid;
       valid = each_front_part IsValidUpdate kept (update_of [] ∷ []) s.valid;
       spans = s.spans;
-      operations = sym (operations_more kept (update_of [])) ∙ s.operations;
+      operations = sym (all_more kept (update_of []) ∙ append-nil (operations_of_all kept)) ∙ s.operations;
       deletes = λ x.
           let here = delete_more kept (update_of []) x in
           let known = s.deletes x in (
@@ -154,17 +135,16 @@ stand_full taken kept names [] s =
     })
 
 -- one that is kept last says also what another says
-pub stand_both : (taken kept : List UpdateValue) (names : List Span) (one other both : UpdateValue) → IsValidUpdate other → IsValidUpdate both → SaysBoth one other both →
-    StandWith taken (kept ++ one ∷ []) names → StandWith (taken ++ other ∷ []) (kept ++ both ∷ []) names
-stand_both taken kept names one other both valid valid_both says s =
+pub say_both : (taken kept : List UpdateValue) (names : List Span) (one other both : UpdateValue) → IsValidUpdate other → IsValidUpdate both → SaysBoth one other both →
+    SayWith taken (kept ++ one ∷ []) names → SayWith (taken ++ other ∷ []) (kept ++ both ∷ []) names
+say_both taken kept names one other both valid valid_both says s =
     let front = each_front_part IsValidUpdate kept (one ∷ []) s.valid in
-    let valid_one = each_last IsValidUpdate kept one s.valid in
     record {
       taken_valid = each_append IsValidUpdate taken (other ∷ []) s.taken_valid (valid, tt);
       valid = each_append IsValidUpdate kept (both ∷ []) front (valid_both, tt);
       spans = s.spans;
-      operations = operations_more kept both ∙ taken_both one other both kept front valid_one valid valid_both says
-          ∙ ap (λ os. with_groups (groups_of other) os) (sym (operations_more kept one) ∙ s.operations) ∙ sym (operations_more taken other);
+      operations = all_more kept both ∙ ap (λ os. operations_of_all kept ++ os) says.operations ∙ sym (append_assoc (operations_of_all kept) (operations_of one) (operations_of other))
+          ∙ ap (λ os. os ++ operations_of other) (sym (all_more kept one) ∙ s.operations) ∙ sym (all_more taken other);
       deletes = λ x.
           let there = delete_more taken other x in
           let before = delete_more kept one x in
@@ -200,15 +180,15 @@ apart u x = (
 )
 
 -- the deletions of an update are noted, whose blocks are there
-pub stand_named : (taken kept : List UpdateValue) (names : List Span) (u : UpdateValue) → IsValidUpdate u → StandWith (taken ++ update_of u.blocks ∷ []) kept names →
-    StandWith (taken ++ u ∷ []) kept (names ++ u.deletes)
-stand_named taken kept names u valid s =
+pub say_named : (taken kept : List UpdateValue) (names : List Span) (u : UpdateValue) → IsValidUpdate u → SayWith (taken ++ update_of u.blocks ∷ []) kept names →
+    SayWith (taken ++ u ∷ []) kept (names ++ u.deletes)
+say_named taken kept names u valid s =
     let bare = update_of u.blocks in
     record {
       taken_valid = each_append IsValidUpdate taken (u ∷ []) (each_front_part IsValidUpdate taken (bare ∷ []) s.taken_valid) (valid, tt);
       valid = s.valid;
       spans = each_append IsSpan names u.deletes s.spans (maximal_spans u.deletes valid.deletes);
-      operations = s.operations ∙ operations_more taken bare ∙ sym (operations_more taken u);
+      operations = s.operations ∙ all_more taken bare ∙ sym (all_more taken u);
       deletes = λ x.
           let there = delete_more taken u x in
           let before = delete_more taken bare x in
@@ -232,33 +212,43 @@ stand_named taken kept names u valid s =
     }
 
 -- the deletions are said by the update that is kept last
-pub stand_all : (taken kept : List UpdateValue) (names : List Span) (blocks : List BlockValue) → StandWith taken (kept ++ update_of blocks ∷ []) names →
-    StandsAs taken (kept ++ record { blocks = blocks; deletes = set_of names } ∷ [])
-stand_all taken kept names blocks s =
+pub say_all : (taken kept : List UpdateValue) (names : List Span) (blocks : List BlockValue) → SayWith taken (kept ++ update_of blocks ∷ []) names →
+    SaysInTurn taken (kept ++ record { blocks = blocks; deletes = set_of names } ∷ [])
+say_all taken kept names blocks s =
     let bare = update_of blocks in
     let last : UpdateValue = record { blocks = blocks; deletes = set_of names } in
-    let all = kept ++ last ∷ [] in
     let valid_bare = each_last IsValidUpdate kept bare s.valid in
-    let valid : Each IsValidUpdate all =
-    each_append IsValidUpdate kept (last ∷ []) (each_front_part IsValidUpdate kept (bare ∷ []) s.valid) (record { blocks = valid_bare.blocks; deletes = set_of_maximal names s.spans }, tt) in
-    let ids : (x : Id) → HasId (received_set all).deletes x ↔ HasId (received_set taken).deletes x =
-    λ x.
-    let here = delete_more kept last x in
-    let before = delete_more kept bare x in
-    let two = apart last x in
-    let known = s.deletes x in
-    let set = set_of_ids names x in (
-      λ h. (received_deletes taken x).1 (elim (here.0 ((received_deletes all x).0 h)) [
-        | inl k ↦ known.0 (inl (before.1 (inl k)))
-        | inr n ↦ elim (two.0 n) [ inl b ↦ known.0 (inl (before.1 (inr b))) | inr m ↦ known.0 (inr (set.0 m)) ]
-      ]),
-      λ h. (received_deletes all x).1 (elim (known.1 ((received_deletes taken x).0 h)) [
-        | inl k ↦ elim (before.0 k) [ inl a ↦ here.1 (inl a) | inr b ↦ here.1 (inr (two.1 (inl b))) ]
-        | inr n ↦ here.1 (inr (two.1 (inr (set.1 n))))
-      ]),
-    ) in
     record {
-      valid = valid;
-      received = one_received (received_set all) (received_set taken) (operations_more kept last ∙ sym (operations_more kept bare) ∙ s.operations)
-          (sets_same (received_set all).deletes (received_set taken).deletes (set_is_received all valid).maximal (set_is_received taken s.taken_valid).maximal ids);
+      taken_valid = s.taken_valid;
+      valid = each_append IsValidUpdate kept (last ∷ []) (each_front_part IsValidUpdate kept (bare ∷ []) s.valid) (record { blocks = valid_bare.blocks; deletes = set_of_maximal names s.spans }, tt);
+      operations = all_more kept last ∙ sym (all_more kept bare) ∙ s.operations;
+      deletes = λ x.
+          let here = delete_more kept last x in
+          let before = delete_more kept bare x in
+          let two = apart last x in
+          let known = s.deletes x in
+          let set = set_of_ids names x in (
+            λ d. elim (here.0 d) [
+              | inl k ↦ known.0 (inl (before.1 (inl k)))
+              | inr n ↦ elim (two.0 n) [ inl b ↦ known.0 (inl (before.1 (inr b))) | inr m ↦ known.0 (inr (set.0 m)) ]
+            ],
+            λ d. elim (known.1 d) [
+              | inl k ↦ elim (before.0 k) [ inl a ↦ here.1 (inl a) | inr b ↦ here.1 (inr (two.1 (inl b))) ]
+              | inr n ↦ here.1 (inr (two.1 (inr (set.1 n))))
+            ],
+          );
     }
+
+-- two lists one behind the other
+pub says_both : (taken kept more kept_more : List UpdateValue) → SaysInTurn taken kept → SaysInTurn more kept_more → SaysInTurn (taken ++ more) (kept ++ kept_more)
+says_both taken kept more kept_more s t = record {
+  taken_valid = each_append IsValidUpdate taken more s.taken_valid t.taken_valid;
+  valid = each_append IsValidUpdate kept kept_more s.valid t.valid;
+  operations = all-append kept kept_more ∙ ap₂ (λ os ps. os ++ ps) s.operations t.operations ∙ sym (all-append taken more);
+  deletes = λ x.
+      let here = deletes-append kept kept_more x in
+      let there = deletes-append taken more x in (
+        λ d. elim (here.0 d) [ inl a ↦ there.1 (inl ((s.deletes x).0 a)) | inr b ↦ there.1 (inr ((t.deletes x).0 b)) ],
+        λ d. elim (there.0 d) [ inl a ↦ here.1 (inl ((s.deletes x).1 a)) | inr b ↦ here.1 (inr ((t.deletes x).1 b)) ],
+      );
+}

@@ -1,5 +1,5 @@
 use Rattle.std.proofs.Common.{◌≡◌, ◌++◌}
-use Rattle.yd_gathering.proofs.gatherer.note.Given as goal
+use Rattle.yd_gathering.proofs.row.note.Given as goal
 
 -- with the spans that are left, all are noted
 abbrev pub invariant-loop-span : goal.invariant-loop-span
