@@ -1,8 +1,7 @@
 -- The last place of a code, as codes come and go at the end.
 use Rattle.std.proofs.Common.{◌≡◌, ◌∙◌, ℕ, zero, suc, ◌<◌, ◌≤◌, ◌⊎◌, Bool, true, false, cond, List, [], ◌∷◌, ◌++◌, Option, Some, None, inl, inr, length, take, refl, sym, ap, subst, arith, tests, nat_eq, nat_lt}
 use Rattle.std.specs.Prelude.{slice_get, IsSome}
-use Rattle.std.specs.Ordering.{nat_cmp}
-use Rattle.std.specs.BTreeMap.{BTreeMap, get, is_at}
+use Rattle.std.specs.HashMap.{HashMap, get}
 use Rattle.std.proofs.lemmas.List.{take-append-le}
 use Rattle.std.proofs.lemmas.Option.{slice_get_within}
 use Rattle.yd_words.proofs.OptionLemmas.{some_is}
@@ -12,16 +11,6 @@ use Rattle.yd_names.specs.Codes.{one_later, place_or, last_place, AreFound}
 tested : (b : Bool) → (b ≡ true) ⊎ (b ≡ false)
 tested true = inl refl
 tested false = inr refl
-
--- the two tests of a key are one
-at_same : (m n : ℕ) → is_at (nat_cmp m) n ≡ nat_eq m n
-at_same m n = elim (tested (nat_lt m n)) [
-  | inl less ↦ rw less (sym (other m n less))
-  | inr more ↦ elim (tested (nat_eq m n)) [ inl same ↦ rw (more, same) | inr apart ↦ rw (more, apart) ]
-]
-  where
-    other : (a b : ℕ) → nat_lt a b ≡ true → nat_eq a b ≡ false
-    other a b e = grind (arith, tests)
 
 module _ {X : Type 0} where
   got_stays : (xs ys : List X) (m : ℕ) (y : X) → slice_get xs m ≡ Some y → slice_get (xs ++ ys) m ≡ Some y
@@ -67,12 +56,11 @@ same_number : (m n : ℕ) → nat_eq m n ≡ true → m ≡ n
 same_number m n e = grind (arith, tests)
 
 -- with a code at the end all are found
-pub pushed_found : (cs : List ℕ) (code : ℕ) (last more : BTreeMap ℕ ℕ) (bs : List (Option ℕ)) (was : Option ℕ) → AreFound cs last bs → was ≡ last_place code cs →
-    ((q : ℕ) → get nat_cmp more q ≡ cond (is_at (nat_cmp code) q) (Some (length cs)) (get nat_cmp last q)) → AreFound (cs ++ code ∷ []) more (bs ++ was ∷ [])
+pub pushed_found : {S : Type 0} (cs : List ℕ) (code : ℕ) (last more : HashMap ℕ ℕ S) (bs : List (Option ℕ)) (was : Option ℕ) → AreFound cs last bs → was ≡ last_place code cs →
+    ((q : ℕ) → get nat_eq more q ≡ cond (nat_eq code q) (Some (length cs)) (get nat_eq last q)) → AreFound (cs ++ code ∷ []) more (bs ++ was ∷ [])
 pushed_found cs code last more bs was f e upd = record {
   each = one_longer was bs ∙ ap suc f.each ∙ sym (one_longer code cs);
-  latest = λ q. upd q ∙ ap (λ b. cond b (Some (length cs)) (get nat_cmp last q)) (at_same code q)
-      ∙ ap (λ o. cond (nat_eq code q) (Some (length cs)) o) (f.latest q) ∙ sym (last-snoc q code cs);
+  latest = λ q. upd q ∙ ap (λ o. cond (nat_eq code q) (Some (length cs)) o) (f.latest q) ∙ sym (last-snoc q code cs);
   earlier = λ n c g. elim (got_before code cs n c g) [
     | inl h ↦ got_stays bs (was ∷ []) n (last_place c (take n (cs ++ code ∷ [])))
         (f.earlier n c h ∙ ap (λ l. Some (last_place c l)) (sym (take-append-le n cs (code ∷ []) (within n c h))))
@@ -85,11 +73,11 @@ pushed_found cs code last more bs was f e upd = record {
     within n c h = let lt : n < length cs = slice_get_within cs n c h in omega arith
 
 -- without the code at the end all others are found, where its place is known no more
-pub popped_found : (cs : List ℕ) (code : ℕ) (last less : BTreeMap ℕ ℕ) (bs : List (Option ℕ)) (was : Option ℕ) → AreFound (cs ++ code ∷ []) last (bs ++ was ∷ []) →
-    ((q : ℕ) → get nat_cmp less q ≡ cond (is_at (nat_cmp code) q) was (get nat_cmp last q)) → AreFound cs less bs
+pub popped_found : {S : Type 0} (cs : List ℕ) (code : ℕ) (last less : HashMap ℕ ℕ S) (bs : List (Option ℕ)) (was : Option ℕ) → AreFound (cs ++ code ∷ []) last (bs ++ was ∷ []) →
+    ((q : ℕ) → get nat_eq less q ≡ cond (nat_eq code q) was (get nat_eq last q)) → AreFound cs less bs
 popped_found cs code last less bs was f upd = record {
   each = each;
-  latest = λ q. upd q ∙ ap (λ b. cond b was (get nat_cmp last q)) (at_same code q) ∙ found q;
+  latest = λ q. upd q ∙ found q;
   earlier = λ n c g. let lt : n < length cs = slice_get_within cs n c g in
       sym (got_front was bs n (subst (λ k. n < k) (sym each) lt)) ∙ f.earlier n c (got_stays cs (code ∷ []) n c g)
       ∙ ap (λ l. Some (last_place c l)) (take-append-le n cs (code ∷ []) (omega arith));
@@ -102,14 +90,14 @@ popped_found cs code last less bs was f upd = record {
     known = some_is was (last_place code cs) (sym (got_last was bs (length cs) (sym each)) ∙ f.earlier (length cs) code (got_last code cs (length cs) refl)
         ∙ ap (λ l. Some (last_place code l)) (take_all code cs))
 
-    found : (q : ℕ) → cond (nat_eq code q) was (get nat_cmp last q) ≡ last_place q cs
+    found : (q : ℕ) → cond (nat_eq code q) was (get nat_eq last q) ≡ last_place q cs
     found q = elim (tested (nat_eq code q)) [
       | inl same ↦ rw same (known ∙ ap (λ c. last_place c cs) (same_number code q same))
       | inr apart ↦ rw apart (f.latest q ∙ last-snoc q code cs ∙ ap (λ b. cond b (Some (length cs)) (last_place q cs)) apart)
     ]
 
 -- the last place of the code at the end is known
-pub stands_last : (cs : List ℕ) (code : ℕ) (last : BTreeMap ℕ ℕ) (bs : List (Option ℕ)) → AreFound (cs ++ code ∷ []) last bs → IsSome (get nat_cmp last code)
+pub stands_last : {S : Type 0} (cs : List ℕ) (code : ℕ) (last : HashMap ℕ ℕ S) (bs : List (Option ℕ)) → AreFound (cs ++ code ∷ []) last bs → IsSome (get nat_eq last code)
 stands_last cs code last bs f = subst (λ o. IsSome o) (sym (f.latest code ∙ last-snoc code code cs ∙ ap (λ b. cond b (Some (length cs)) (last_place code cs)) (equal code))) cc
   where
     equal : (n : ℕ) → nat_eq n n ≡ true

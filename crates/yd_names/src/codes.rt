@@ -1,12 +1,11 @@
 //! A list of codes that knows where each of them stands.
 
-ghost use Rattle.std.specs.Prelude.{◌≡◌, ◌<◌, ◌-◌, ◌++◌, ◌∷◌, [], ℕ, Some, length, take, slice_get, IsSome, IfSome, OnOk, OnErr, if◌then◌else◌};
-ghost use Rattle.std.specs.Ordering.{nat_cmp};
-ghost use Rattle.std.specs.BTreeMap.{get, is_at};
+ghost use Rattle.std.specs.Prelude.{◌≡◌, ◌<◌, ◌-◌, ◌++◌, ◌∷◌, [], ℕ, Some, length, take, slice_get, IsSome, IfSome, OnOk, OnErr, nat_eq, if◌then◌else◌};
+ghost use Rattle.std.specs.HashMap.{get};
 ghost use Rattle.yd_names.specs.Codes.{last_place};
 
 use std::alloc::Global;
-use std::collections::BTreeMap;
+use std::collections::HashMap;
 use std::marker::Model;
 use yd_ops::NoMemory;
 
@@ -14,7 +13,7 @@ use yd_ops::NoMemory;
 #[derive(Drop)]
 pub struct Codes {
     codes: Vec<u64>,
-    last: BTreeMap<u64, usize>,
+    last: HashMap<u64, usize>,
     before: Vec<Option<usize>>,
 }
 
@@ -36,7 +35,7 @@ impl Codes {
     {
         Codes {
             codes: Vec::new(alloc),
-            last: BTreeMap::new(alloc),
+            last: HashMap::new(alloc),
             before: Vec::new(alloc),
         }
     }
@@ -94,10 +93,10 @@ impl Codes {
 }
 
 /// Puts back the place where a code stood last before.
-fn put_back(last: &mut BTreeMap<u64, usize>, code: u64, was: Option<usize>)
-    requires { IsSome (get nat_cmp last.old code) }
-    ensures { (other : ℕ) → get nat_cmp last.new other
-        ≡ (if is_at (nat_cmp code) other then was else get nat_cmp last.old other) }
+fn put_back(last: &mut HashMap<u64, usize>, code: u64, was: Option<usize>)
+    requires { IsSome (get nat_eq last.old code) }
+    ensures { (other : ℕ) → get nat_eq last.new other
+        ≡ (if nat_eq code other then was else get nat_eq last.old other) }
 {
     match was {
         Some(place) => {

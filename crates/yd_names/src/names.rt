@@ -65,9 +65,8 @@ impl Names {
         &self.names
     }
 
-    /// The number of a name, and none where it is not there. It takes time with the logarithm of how
-    /// many names there are, and with the length of this one; names that share a code are looked at one
-    /// by one.
+    /// The number of a name, and none where it is not there. It takes a look-up by a hash, and time with
+    /// the length of the name; names that share a code are looked at one by one.
     pub fn number_of(&self, name: &List) -> Option<usize>
         ensures there { IfSome result (λ n. slice_get self.now n ≡ Some name.now) }
         ensures none { IfNone result ((n : ℕ) → slice_get self.now n ≢ Some name.now) }
@@ -83,8 +82,8 @@ impl Names {
     }
 
     /// The last of a parent's lists, or the last one before another of them. So all lists of a parent
-    /// are found from the last one on. It takes time with the logarithm of how many names there are;
-    /// parents that share a code are looked at one by one.
+    /// are found from the last one on. It takes a look-up by a hash; parents that share a code are looked
+    /// at one by one.
     pub fn last_of(&self, parent: &Parent, before: Option<usize>) -> Option<usize>
         requires { IfSome before (λ n. IsOf self.now parent.now n) }
         ensures { IsLastOf self.now parent.now (top_of self.now before) result }

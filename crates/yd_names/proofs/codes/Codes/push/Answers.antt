@@ -1,6 +1,5 @@
-use Rattle.std.proofs.Common.{◌≡◌, ◌∙◌, ℕ, Some, ◌++◌, ◌∷◌, [], cond, length, sym, ap, subst}
-use Rattle.std.specs.Ordering.{nat_cmp}
-use Rattle.std.specs.BTreeMap.{get, is_at}
+use Rattle.std.proofs.Common.{◌≡◌, ◌∙◌, ℕ, Some, ◌++◌, ◌∷◌, [], cond, length, nat_eq, sym, ap, subst}
+use Rattle.std.specs.HashMap.{get}
 use Rattle.yd_names.specs.Codes.{last_place, AreFound}
 use Rattle.yd_names.proofs.CodesLemmas.{pushed_found}
 use Rattle.yd_names.proofs.codes.Codes.push.Goals as goal
@@ -19,8 +18,8 @@ invariant_of-self-2 c =
     known : c.last_of-was.result ≡ last_place c.args.code c.reserve.new.self.items
     known = cc
 
-    placed : (q : ℕ) → get nat_cmp c.insert.new.self q ≡ cond (is_at (nat_cmp c.args.code) q) (Some (length c.reserve.new.self.items)) (get nat_cmp c.self.inside.last q)
-    placed q = c.in_ok-insert.ensures.updates.0 q ∙ ap (λ n. cond (is_at (nat_cmp c.args.code) q) (Some n) (get nat_cmp c.self.inside.last q)) same
+    placed : (q : ℕ) → get nat_eq c.insert.new.self q ≡ cond (nat_eq c.args.code q) (Some (length c.reserve.new.self.items)) (get nat_eq c.self.inside.last q)
+    placed q = c.in_ok-insert.ensures.updates.0 q ∙ ap (λ n. cond (nat_eq c.args.code q) (Some n) (get nat_eq c.self.inside.last q)) same
       where
         same : c.len-place.result ≡ length c.reserve.new.self.items
         same = c.len-place.ensures ∙ ap (λ l. length l) (sym c.self.view_is ∙ sym c.reserve.ensures.items)
