@@ -1,5 +1,5 @@
 -- What was held is held alike where waiting units were added: it has the same operations, clocks and places, and what waited is noted alike.
-use Rattle.std.proofs.Common.{◌≡◌, ℕ, ◌<◌, Bool, true, false, cond, List, [], ◌∷◌, Some, inl, inr, length, refl, sym, ap, ◌∙◌, subst, arith, true≢false}
+use Rattle.std.proofs.Common.{◌≡◌, ℕ, ◌<◌, true, List, [], Some, inl, inr, length, refl, sym, ap, ◌∙◌, subst, arith, true≢false}
 use Rattle.std.specs.Prelude.{◌↔◌, filter, slice_get}
 use Rattle.std.proofs.lemmas.Bool.{cases_Bool}
 use Rattle.std.specs.Global.{Vec}
@@ -31,9 +31,9 @@ use Rattle.yd_entries.proofs.TakenLemmas.{grown_get, grown_in}
 use Rattle.yd_entries.proofs.WrittenLemmas.{taken_written}
 use Rattle.yd_held.specs.declared.noting.Lack.{Lack}
 use Rattle.yd_held.specs.Held.{HeldValue, HoldsAll}
-use Rattle.yd_held.specs.Holding.{IsHolding, MarkChanges}
+use Rattle.yd_held.specs.Holding.{IsHolding}
 use Rattle.yd_held.specs.Noted.{IsNotedOrTried, AreNoted}
-use Rattle.yd_held.specs.Numbered.{is_in_list, number_of}
+use Rattle.yd_held.specs.Numbered.{number_of}
 use Rattle.yd_held.specs.Placed.{IsPlaced, ArePlaced}
 use Rattle.yd_held.specs.Readiness.{IsOriginOf}
 use Rattle.yd_held.specs.Turn.{HoldsInTurn}
@@ -90,37 +90,6 @@ noted_grown old new vector lacks ts grow each noted = record {
         there = there.there;
       })
     ]
-
--- ---- lists
-
-listed_held : (n : ℕ) (ts : List Entry) → filter (is_in_list n) (filter is_held ts) ≡ filter (is_in_list n) ts
-listed_held n [] = refl
-listed_held n (t ∷ ts) = go t.place refl (listed_held n ts)
-  where
-    keeps : is_held t ≡ true → filter (is_in_list n) (filter is_held ts) ≡ filter (is_in_list n) ts → filter (is_in_list n) (filter is_held (t ∷ ts)) ≡ filter (is_in_list n) (t ∷ ts)
-    keeps held rest = rw held (ap (λ us. cond (is_in_list n t) (t ∷ us) us) rest)
-
-    go : (p : Place) → t.place ≡ p → filter (is_in_list n) (filter is_held ts) ≡ filter (is_in_list n) ts →
-        filter (is_in_list n) (filter is_held (t ∷ ts)) ≡ filter (is_in_list n) (t ∷ ts)
-    go Lost e rest = keeps (ap is_held_at e) rest
-    go (In m) e rest = keeps (ap is_held_at e) rest
-    go Waits e rest =
-        let waits : is_held t ≡ false = ap is_held_at e in
-        let other : is_in_list n t ≡ false = rw e refl in
-        rw (waits, other) rest
-
--- marks tell the same of a change where the same entries were held before
-pub marked_alike : (stale : List Bool) (old mid new : List Entry) (count lists : ℕ) → filter is_held mid ≡ filter is_held old →
-    MarkChanges stale mid new count lists → MarkChanges stale old new count lists
-marked_alike stale old mid new count lists same marks = record {
-  each = marks.each;
-  made = marks.made;
-  kept = λ n e. marks.kept n e ∙ listed n;
-  more = λ n e. subst (λ us. length us < length (filter (is_in_list n) new)) (listed n) (marks.more n e);
-}
-  where
-    listed : (n : ℕ) → filter (is_in_list n) mid ≡ filter (is_in_list n) old
-    listed n = sym (listed_held n mid) ∙ ap (filter (is_in_list n)) same ∙ listed_held n old
 
 -- ---- lemmas for callers, where waiting units were added
 

@@ -40,7 +40,7 @@ module _ {X : Type 0} (x : X) where
   got_stays (z ∷ zs) zero y e = e
   got_stays (z ∷ zs) (suc m) y e = got_stays zs m y e
 
-  pub got_before : (xs : List X) (m : ℕ) (y : X) → slice_get (xs ++ x ∷ []) m ≡ Some y → (slice_get xs m ≡ Some y) ⊎ ((m ≡ length xs) × (y ≡ x))
+  got_before : (xs : List X) (m : ℕ) (y : X) → slice_get (xs ++ x ∷ []) m ≡ Some y → (slice_get xs m ≡ Some y) ⊎ ((m ≡ length xs) × (y ≡ x))
   got_before [] zero y e = inr (refl, cc)
   got_before [] (suc m) y e = absurd cc
   got_before (z ∷ zs) zero y e = inl e

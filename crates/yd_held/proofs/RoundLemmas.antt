@@ -1,20 +1,19 @@
 -- One round of holding: units that were found ready are held, and what lacked them is to be tried.
-use Rattle.std.proofs.Common.{◌≡◌, ℕ, zero, suc, ◌≤◌, ◌<◌, Bool, true, false, List, [], ◌∷◌, ◌++◌, inl, inr, Some, None, length, set, get_or, refl, sym, ap, ◌∙◌, subst, arith, append-nil, append_assoc}
-use Rattle.std.specs.Prelude.{slice_get, replicate}
+use Rattle.std.proofs.Common.{◌≡◌, ℕ, zero, suc, ◌≤◌, true, List, [], ◌∷◌, ◌++◌, Some, None, set, get_or, refl, sym, ap, ◌∙◌, subst, arith, append-nil, append_assoc}
+use Rattle.std.specs.Prelude.{slice_get}
 use Rattle.std.proofs.lemmas.Option.{slice_get_within, slice_get-get_or}
 use Rattle.yd_words.proofs.OptionLemmas.{some_is}
 use Rattle.yd_ids.specs.declared.id.Client.{Client}
 use Rattle.yd_ids.specs.Vector.{clock_of}
 use Rattle.yd_entries.specs.declared.entry.Entry.{Entry}
 use Rattle.yd_entries.specs.Entries.{GrowBy}
-use Rattle.yd_received.specs.Received.{ReceivedValue}
+use Rattle.yd_received.specs.Received.{taken_of}
 use Rattle.yd_held.specs.declared.noting.Lack.{Lack}
 use Rattle.yd_held.specs.Held.{HeldValue}
-use Rattle.yd_held.specs.Holding.{IsHolding, HoldsMore, HoldsEntry, HoldsRest, OnlyHolds, MarkChanges, AreUnready}
+use Rattle.yd_held.specs.Holding.{IsHolding, HoldsEntry, HoldsRest, OnlyHolds, AreUnready}
 use Rattle.yd_held.specs.Noted.{AreNoted, AreMissing, StayMissing, Finds, Wakes}
 use Rattle.yd_held.specs.Readiness.{is_ready}
 use Rattle.yd_held.specs.Turn.{AreHeldInTurn, HoldsInTurn}
-use Rattle.yd_held.proofs.HoldAtLemmas.{more_then}
 use Rattle.yd_held.proofs.HoldingLemmas.{IsReady, ready_is}
 use Rattle.yd_held.proofs.ListedLemmas.{numbered_all}
 use Rattle.yd_held.proofs.NotedLemmas.{noted_after, missing_after}
@@ -25,9 +24,9 @@ use Rattle.yd_held.proofs.UndoneLemmas.{undone_after, rises_after}
 use Rattle.yd_held.proofs.UnreadyLemmas.{none_ready}
 
 -- what stays true from round to round, with the clients that are still to be tried
-pub record IsRound (first k : HeldValue) (unset marks : List Bool) (tries : List Client) (order : List ℕ) : Type 0 where
+pub record IsRound (first k : HeldValue) (tries : List Client) (order : List ℕ) : Type 0 where
   pub holding : IsHolding k
-  pub more : HoldsMore first.received k.received unset marks (length k.names)
+  pub operations : taken_of k.received ≡ taken_of first.received
   pub noted : AreNoted k.vector k.received.runs k.lacks tries k.received.entries
   pub missing : AreMissing k.vector k.lacks
   pub rises : (client : ℕ) → clock_of first.vector client ≤ clock_of k.vector client
@@ -47,26 +46,11 @@ only_none k = record { runs_are = refl; undone_is = refl; grows = grow_none k.na
 
 -- ---- before the first round
 
-no_mark : (count n : ℕ) (b : Bool) → slice_get (replicate count false) n ≡ Some b → b ≡ false
-no_mark zero n b e = absurd cc
-no_mark (suc count) zero b e = cc
-no_mark (suc count) (suc n) b e = no_mark count n b e
-
-length-marks : (count : ℕ) → length (replicate count false) ≡ count
-length-marks zero = refl
-length-marks (suc count) = ap suc (length-marks count)
-
-pub round_first : (k : HeldValue) (count : ℕ) (marks : List Bool) (tries : List Client) (order : List ℕ) → order ≡ [] → marks ≡ replicate count false → count ≡ length k.names → IsHolding k →
-    AreNoted k.vector k.received.runs k.lacks tries k.received.entries → AreMissing k.vector k.lacks → IsRound k k marks marks tries order
-round_first k count marks tries order none unset each h noted missing = record {
+pub round_first : (k : HeldValue) (tries : List Client) (order : List ℕ) → order ≡ [] → IsHolding k → AreNoted k.vector k.received.runs k.lacks tries k.received.entries →
+    AreMissing k.vector k.lacks → IsRound k k tries order
+round_first k tries order none h noted missing = record {
   holding = h;
-  more = record {
-    operations = refl;
-    each = ap length unset ∙ length-marks count ∙ each;
-    kept = λ n e. (e, refl);
-    more = λ n e. inl e;
-    no_less = λ n. omega arith;
-  };
+  operations = refl;
   noted = noted;
   missing = missing;
   rises = λ client. omega arith;
@@ -113,10 +97,10 @@ module _ (first old new : HeldValue) (at : ℕ) (lacks : List Lack) (tries : Lis
         got_set (w ∷ ws) (suc k) u v e = got_set ws k u v e
 
     -- all stays true in the next round
-    pub round_then : (unset marks marked : List Bool) (pending : List Client) (order news : List ℕ) → news ≡ order ++ at ∷ [] → IsRound first old unset marks pending order → StayMissing old.vector old.lacks old.vector lacks →
-        IsHolding new → HoldsMore old.received new.received marks marked (length new.names) →
-        IsRound first (record { received = new.received; vector = new.vector; names = new.names; lacks = left }) unset marked more news
-    round_then unset marks marked pending order news one_more r missing holding changed = record {
+    pub round_then : (pending : List Client) (order news : List ℕ) → news ≡ order ++ at ∷ [] → IsRound first old pending order → StayMissing old.vector old.lacks old.vector lacks →
+        IsHolding new → taken_of new.received ≡ taken_of old.received →
+        IsRound first (record { received = new.received; vector = new.vector; names = new.names; lacks = left }) more news
+    round_then pending order news one_more r missing holding same = record {
       holding = record {
         in_order = holding.in_order;
         own = holding.own;
@@ -125,7 +109,7 @@ module _ (first old new : HeldValue) (at : ℕ) (lacks : List Lack) (tries : Lis
         distinct = holding.distinct;
         parents = holding.parents;
       };
-      more = more_then first.received old.received new.received unset marks marked _ _ r.more changed;
+      operations = same ∙ r.operations;
       noted = subst (λ rs. AreNoted new.vector rs left more new.received.entries) (sym runs)
           (noted_after old.vector old.received.runs lacks left tries more at old.received.entries new.received.entries new.vector h entry_wakes begins here.1);
       missing = missing_after old.vector old.received.runs lacks left tries more at old.received.entries new.received.entries new.vector h entry_wakes begins (missing r.missing);
@@ -140,32 +124,11 @@ module _ (first old new : HeldValue) (at : ℕ) (lacks : List Lack) (tries : Lis
 
 -- ---- behind the last round
 
--- the marks tell which lists are new or have more
-all_marked : (old new : ReceivedValue) (count lists : ℕ) (marks : List Bool) → HoldsMore old new (replicate count false) marks lists → MarkChanges marks old.entries new.entries count lists
-all_marked old new count lists marks more = record {
-  each = more.each;
-  made = λ n le lt. let (b, there) = mark_at marks n (omega (arith, lt, more.each)) in go n b there le;
-  kept = λ n e. (more.kept n e).1;
-  more = λ n e. elim (more.more n e) [ inl f ↦ absurd (clash (no_mark count n true f)) | inr g ↦ g ];
-}
-  where
-    clash : true ≡ false → ⊥
-    clash e = cc
-
-    mark_at : (marks : List Bool) (n : ℕ) → n < length marks → (b : Bool) × (slice_get marks n ≡ Some b)
-    mark_at [] n lt = absurd (omega arith)
-    mark_at (m ∷ ms) zero lt = (m, refl)
-    mark_at (m ∷ ms) (suc n) lt = mark_at ms n (omega arith)
-
-    go : (n : ℕ) (b : Bool) → slice_get marks n ≡ Some b → count ≤ n → slice_get marks n ≡ Some true
-    go n true there le = there
-    go n false there le = absurd (omega (arith, le, length-marks count, slice_get_within (replicate count false) n false (more.kept n there).0))
-
 -- where nothing more is ready, all is held that can be
-pub round_last : (first k : HeldValue) (count : ℕ) (unset marks : List Bool) (tries : List Client) (lacks : List Lack) (order : List ℕ) → IsRound first k unset marks tries order → unset ≡ replicate count false →
-    count ≡ length first.names → Finds k.vector k.received.runs k.received.entries lacks [] None → StayMissing k.vector k.lacks k.vector lacks →
-    HoldsRest first (record { received = k.received; vector = k.vector; names = k.names; lacks = lacks }) marks
-round_last first k count unset marks tries lacks order r none each noted missing = record {
+pub round_last : (first k : HeldValue) (tries : List Client) (lacks : List Lack) (order : List ℕ) → IsRound first k tries order →
+    Finds k.vector k.received.runs k.received.entries lacks [] None → StayMissing k.vector k.lacks k.vector lacks →
+    HoldsRest first (record { received = k.received; vector = k.vector; names = k.names; lacks = lacks })
+round_last first k tries lacks order r noted missing = record {
   holds = record {
     in_order = r.holding.in_order;
     held = held_all k r.holding unready;
@@ -176,9 +139,7 @@ round_last first k count unset marks tries lacks order r none each noted missing
     noted = noted;
     missing = missing r.missing;
   };
-  operations = r.more.operations;
-  marked = subst (λ n. MarkChanges marks first.received.entries k.received.entries n (length k.names)) each
-      (all_marked first.received k.received count (length k.names) marks (subst (λ bs. HoldsMore first.received k.received bs marks (length k.names)) none r.more));
+  operations = r.operations;
 }
   where
     unready : AreUnready k.vector k.received.runs k.received.entries

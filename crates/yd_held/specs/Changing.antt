@@ -1,5 +1,5 @@
 -- What a change of what is held tells, and how it is put back (own).
-use Rattle.std.specs.Prelude.{◌≡◌, ℕ, Bool, true, false, List, [], length, take}
+use Rattle.std.specs.Prelude.{◌≡◌, ℕ, Bool, true, false, List, length, take}
 use Rattle.yd_ids.specs.declared.id.Client.{Client}
 use Rattle.yd_ops.specs.declared.lists.List.{List as DocList}
 use Rattle.yd_entries.specs.Entries.{GrowBy}
@@ -8,19 +8,11 @@ use Rattle.yd_held.specs.declared.parts.Before.{Before}
 use Rattle.yd_held.specs.declared.parts.Kept.{Kept}
 use Rattle.yd_held.specs.declared.parts.Kept.TheVariants.{Count, All}
 use Rattle.yd_held.specs.Held.{HeldValue}
-use Rattle.yd_held.specs.Holding.{MarkChanges}
-use Rattle.yd_held.specs.Turn.{TellsOrder}
 
--- which lists got units: those that there were keep their numbers; where all was held anew, each list did
-abbrev pub TellsChanges : Bool → List Bool → HeldValue → HeldValue → Type 0
-TellsChanges false stale old new =
-    MarkChanges stale old.received.entries new.received.entries (length old.names) (length new.names) × GrowBy old.names new.names
-TellsChanges true stale old new = MarkChanges stale [] new.received.entries 0 (length new.names)
-
--- what a change told is so: which lists got units, and in which order entries became held
-pub record TellsAll (anew : Bool) (stale : List Bool) (order : List ℕ) (old new : HeldValue) : Type 0 where
-  pub changes : TellsChanges anew stale old new
-  pub order_is : TellsOrder anew order old new
+-- the lists that there were keep their numbers, unless all was held anew
+abbrev pub KeepsNumbers : Bool → List DocList → List DocList → Type 0
+KeepsNumbers false old new = GrowBy old new
+KeepsNumbers true old new = Unit {0}
 
 -- ---- putting back
 

@@ -6,17 +6,17 @@ ghost use Rattle.yd_ops.specs.View.{update_value};
 ghost use Rattle.yd_ops.specs.Received.{with_groups, groups_of};
 ghost use Rattle.yd_received.specs.Received.{taken_of, brings};
 ghost use Rattle.yd_entries.specs.Taking.{BringsOperation};
-ghost use Rattle.yd_held.specs.Changing.{TellsAll, IsOf, back_to};
+ghost use Rattle.yd_held.specs.Changing.{KeepsNumbers, IsOf, back_to};
 ghost use Rattle.yd_held.specs.Held.{held_value, HoldsAll};
 ghost use Rattle.yd_held.specs.Holding.{IsHolding, HoldsRest, OnlyHolds};
 ghost use Rattle.yd_held.specs.Noted.{AreNoted, AreMissing};
-ghost use Rattle.yd_held.specs.Turn.{HoldsInTurn};
+ghost use Rattle.yd_held.specs.Turn.{HoldsInTurn, TellsOrder};
 ghost use Rattle.yd_held.specs.declared.parts.Kept.TheVariants.{All};
 ghost use Rattle.yd_entries.specs.Entries.{is_held, is_of_first};
 ghost use Rattle.yd_received.specs.Received.{IsReceived};
 
 use crate::fault::NoMemory;
-use crate::holding::{Gains, hold_all};
+use crate::holding::hold_all;
 use crate::parts::{Before, HeldParts, Kept};
 use crate::trying::{clients_from, clients_of};
 use std::mem;
@@ -32,8 +32,6 @@ pub(crate) struct Changed {
     pub brings: bool,
     /// All was held anew.
     pub anew: bool,
-    /// A mark for each list: one with a mark got units, and one without got none.
-    pub stale: Vec<bool>,
     /// The numbers of the entries that became held, in the order in which they did.
     pub order: Vec<usize>,
 }
@@ -53,8 +51,10 @@ pub(crate) fn change(
         ≡ with_groups (groups_of (update_value update.now)) (taken_of held.old.received)) }
     ensures brings { IfOk result (λ changed. IsTrue changed.brings
         ↔ BringsOperation (update_value update.now) (taken_of held.old.received)) }
-    ensures told { IfOk result (λ changed. TellsAll changed.anew changed.stale.items
-        changed.order.items (held_value held.old) (held_value held.new)) }
+    ensures order { IfOk result (λ changed. TellsOrder changed.anew changed.order.items
+        (held_value held.old) (held_value held.new)) }
+    ensures numbers { IfOk result (λ changed. KeepsNumbers changed.anew
+        held.old.names held.new.names) }
     ensures holds { OnOk result (HoldsAll (held_value held.new)) }
     ensures back { back_to before.new (held_value held.new) ≡ held_value held.old }
 {
@@ -63,19 +63,17 @@ pub(crate) fn change(
     let brings = brings(&brought);
     if let Brought::Lowered(entries) = brought {
         set_aside(held, before, entries);
-        let Gains { stale, order } = hold_anew(held)?;
+        let order = hold_anew(held)?;
         return Ok(Changed {
             brings,
             anew: true,
-            stale,
             order,
         });
     }
-    let Gains { stale, order } = hold_new(held, from)?;
+    let order = hold_new(held, from)?;
     Ok(Changed {
         brings,
         anew: false,
-        stale,
         order,
     })
 }
@@ -91,22 +89,21 @@ fn brings(brought: &Brought) -> bool
 }
 
 /// Holds what can be held when the runs from one on are new.
-fn hold_new(held: &mut HeldParts, from: usize) -> Result<Gains, NoMemory>
+fn hold_new(held: &mut HeldParts, from: usize) -> Result<Vec<usize>, NoMemory>
     requires from { from ≤ length held.old.received.runs }
     requires holding { IsHolding (held_value held.old) }
     requires noted { AreNoted held.old.vector held.old.received.runs held.old.lacks.items []
         (filter (is_of_first from) held.old.received.entries) }
     requires missing { AreMissing held.old.vector held.old.lacks.items }
-    ensures held { IfOk result (λ gains.
-        HoldsRest (held_value held.old) (held_value held.new) gains.stale.items) }
-    ensures turn { IfOk result (λ gains.
-        HoldsInTurn gains.order.items (held_value held.old) (held_value held.new)) }
+    ensures held { OnOk result (HoldsRest (held_value held.old) (held_value held.new)) }
+    ensures turn { IfOk result (λ order.
+        HoldsInTurn order.items (held_value held.old) (held_value held.new)) }
     ensures only { OnlyHolds (held_value held.old) (held_value held.new) }
 {
     let alloc = held.received.allocator();
     let tries = clients_from(alloc, held.received.runs(), from)?;
-    let gains = hold_all(held, tries)?;
-    Ok(gains)
+    let order = hold_all(held, tries)?;
+    Ok(order)
 }
 
 /// Puts aside which lists there are and what is lacked, so that nothing is held.
@@ -132,7 +129,7 @@ fn set_aside(held: &mut HeldParts, before: &mut Before, entries: Vec<Entry>)
 }
 
 /// Holds what can be held of what is received, when nothing is.
-fn hold_anew(held: &mut HeldParts) -> Result<Gains, NoMemory>
+fn hold_anew(held: &mut HeldParts) -> Result<Vec<usize>, NoMemory>
     requires received { IsReceived held.old.received }
     requires waits { filter is_held held.old.received.entries ≡ [] }
     requires nothing { held_value held.old ≡ record {
@@ -141,14 +138,13 @@ fn hold_anew(held: &mut HeldParts) -> Result<Gains, NoMemory>
       names = [];
       lacks = [];
     } }
-    ensures held { IfOk result (λ gains.
-        HoldsRest (held_value held.old) (held_value held.new) gains.stale.items) }
-    ensures turn { IfOk result (λ gains.
-        HoldsInTurn gains.order.items (held_value held.old) (held_value held.new)) }
+    ensures held { OnOk result (HoldsRest (held_value held.old) (held_value held.new)) }
+    ensures turn { IfOk result (λ order.
+        HoldsInTurn order.items (held_value held.old) (held_value held.new)) }
     ensures only { OnlyHolds (held_value held.old) (held_value held.new) }
 {
     let alloc = held.received.allocator();
     let tries = clients_of(alloc, held.received.entries())?;
-    let gains = hold_all(held, tries)?;
-    Ok(gains)
+    let order = hold_all(held, tries)?;
+    Ok(order)
 }

@@ -7,7 +7,7 @@ ghost use Rattle.yd_ops.specs.Received.{with_groups, groups_of};
 ghost use Rattle.yd_names.specs.Names.{IsOf, IsLastOf, top_of};
 ghost use Rattle.yd_received.specs.Received.{taken_of};
 ghost use Rattle.yd_entries.specs.Taking.{BringsOperation};
-ghost use Rattle.yd_held.specs.Changing.{TellsChanges, back_to};
+ghost use Rattle.yd_held.specs.Changing.{KeepsNumbers, back_to};
 ghost use Rattle.yd_held.specs.Held.{HoldsAll};
 ghost use Rattle.yd_held.specs.Turn.{TellsOrder};
 
@@ -49,8 +49,6 @@ pub struct Taken {
     pub brings: bool,
     /// All was held anew, and the lists have other numbers than before.
     pub anew: bool,
-    /// A mark for each list: one with a mark got units, and one without got none.
-    pub stale: Vec<bool>,
     /// The numbers of the entries that became held, in the order in which they did: each after what
     /// it stands on, and after the smaller clocks of its client.
     pub order: Vec<usize>,
@@ -97,8 +95,8 @@ impl Held {
         self.parts.names.as_slice()
     }
 
-    /// The number of the list with a name, and none where no unit stood in it. It takes time with the
-    /// logarithm of how many lists there are.
+    /// The number of the list with a name, and none where no unit stood in it. It takes a look-up by
+    /// a hash.
     pub fn number_of(&self, list: &List) -> Option<usize>
         ensures there { IfSome result (λ n. slice_get self.now.names n ≡ Some list.now) }
         ensures none { IfNone result ((n : ℕ) → slice_get self.now.names n ≢ Some list.now) }
@@ -128,10 +126,10 @@ impl Held {
             ≡ with_groups (groups_of (update_value update.now)) (taken_of self.old.received)) }
         ensures brings { IfOk result (λ taken. IsTrue taken.brings
             ↔ BringsOperation (update_value update.now) (taken_of self.old.received)) }
-        ensures told { IfOk result (λ taken. TellsChanges taken.anew taken.stale.items
-            self.old self.new) }
         ensures order { IfOk result (λ taken. TellsOrder taken.anew taken.order.items
             self.old self.new) }
+        ensures numbers { IfOk result (λ taken. KeepsNumbers taken.anew
+            self.old.names self.new.names) }
         ensures holds { HoldsAll self.new }
         ensures back { IfOk result (λ taken. back_to taken.before self.new ≡ self.old) }
         ensures unchanged { OnErr result (self.new ≡ self.old) }
@@ -142,13 +140,11 @@ impl Held {
                 Changed {
                     brings,
                     anew,
-                    stale,
                     order,
                 },
             ) => Ok(Taken {
                 brings,
                 anew,
-                stale,
                 order,
                 before,
             }),

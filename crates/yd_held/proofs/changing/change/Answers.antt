@@ -1,7 +1,7 @@
 use Rattle.std.proofs.Common.{length, ap}
 use Rattle.yd_held.specs.Held.{held_value}
 use Rattle.yd_held.proofs.BackLemmas.{none_back, added_back}
-use Rattle.yd_held.proofs.KeptLemmas.{brought_adds, holding_added, noted_added, marked_alike, turn_alike}
+use Rattle.yd_held.proofs.KeptLemmas.{brought_adds, holding_added, noted_added, turn_alike}
 use Rattle.yd_held.proofs.changing.change.Goals as goal
 
 pub returns-in_err-brought-clause-back : goal.returns-in_err-brought-clause-back
@@ -17,8 +17,8 @@ hold_new-requires-clause-noted c =
     let adds = brought_adds c.args.held.now.received c.take.new.self c.in_ok-brought.brought c.in_default.not-Lowered c.in_ok-brought.ensures.brought in
     noted_added (held_value c.args.held.now) c.take.new.self c.requires.holds c.in_ok-brought.ensures.grows c.take.ensures.kept adds _ (ap length c.runs-from.ensures)
 
-pub returns-in_err-stale-2-clause-back : goal.returns-in_err-stale-2-clause-back
-returns-in_err-stale-2-clause-back c =
+pub returns-in_err-order-2-clause-back : goal.returns-in_err-order-2-clause-back
+returns-in_err-order-2-clause-back c =
     let adds = brought_adds c.args.held.now.received c.take.new.self c.in_ok-brought.brought c.in_default.not-Lowered c.in_ok-brought.ensures.brought in
     added_back (held_value c.args.held.now) c.requires.holds c.take.new.self c.in_ok-brought.ensures.grows adds (held_value c.hold_new.new.held) c.hold_new.ensures.only
     c.args.before.now c.requires.before
@@ -29,15 +29,8 @@ returns-clause-back c =
     added_back (held_value c.args.held.now) c.requires.holds c.take.new.self c.in_ok-brought.ensures.grows adds (held_value c.hold_new.new.held) c.hold_new.ensures.only
     c.args.before.now c.requires.before
 
-pub returns-clause-told : goal.returns-clause-told
-returns-clause-told c =
-    let old = held_value c.args.held.now in
+pub returns-clause-order : goal.returns-clause-order
+returns-clause-order c =
     let adds = brought_adds c.args.held.now.received c.take.new.self c.in_ok-brought.brought c.in_default.not-Lowered c.in_ok-brought.ensures.brought in
-    record {
-      changes = (
-        marked_alike c.in_ok-stale-2.field-0.stale.items c.args.held.now.received.entries c.take.new.self.entries c.hold_new.new.held.received.entries _ _ adds.held
-            c.in_ok-stale-2.ensures.held.marked,
-        c.hold_new.ensures.only.grows,
-      );
-      order_is = turn_alike old c.take.new.self c.requires.holds c.in_ok-brought.ensures.grows c.take.ensures.kept adds (held_value c.hold_new.new.held) c.in_ok-stale-2.field-0.order.items c.in_ok-stale-2.ensures.turn;
-    }
+    turn_alike (held_value c.args.held.now) c.take.new.self c.requires.holds c.in_ok-brought.ensures.grows c.take.ensures.kept adds (held_value c.hold_new.new.held)
+    c.in_ok-order-2.order.items c.in_ok-order-2.ensures.turn

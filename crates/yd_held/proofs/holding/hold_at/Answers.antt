@@ -1,8 +1,7 @@
-use Rattle.std.proofs.Common.{refl, sym, subst}
+use Rattle.std.proofs.Common.{refl}
 use Rattle.yd_entries.proofs.EntryLemmas.{no_entry}
 use Rattle.yd_held.specs.Held.{held_value}
-use Rattle.yd_held.specs.Holding.{IsWithin}
-use Rattle.yd_held.proofs.HoldAtLemmas.{origins_covered, is_entry, within, fewer_waiting, holds_entry, holding_then, holds_more}
+use Rattle.yd_held.proofs.HoldAtLemmas.{origins_covered, is_entry, fewer_waiting, holds_entry, holding_then, same_received}
 use Rattle.yd_held.proofs.holding.hold_at.Goals as goal
 
 pub place_for-requires-clause-entry : goal.place_for-requires-clause-entry
@@ -12,11 +11,6 @@ pub place_for-requires-clause-held : goal.place_for-requires-clause-held
 place_for-requires-clause-held c =
     origins_covered (held_value c.args.held.now) c.entries.result.now c.args.at no_entry c.entries.ensures.entries c.requires.holding c.requires.inside c.requires.ready
 
-pub mark_place-requires : goal.mark_place-requires
-mark_place-requires c = subst (λ n. IsWithin n c.in_ok-place.place) (sym c.requires.marks)
-    (within (held_value c.args.held.now) c.entries.result.now c.args.at no_entry c.entries.ensures.entries c.requires.holding c.requires.inside c.requires.ready
-    c.place_for.new.names c.in_ok-place.place c.in_ok-place.ensures.place)
-
 pub returns-clause-holding : goal.returns-clause-holding
 returns-clause-holding c =
     holding_then (held_value c.args.held.now) c.entries.result.now c.args.at no_entry c.entries.ensures.entries c.requires.holding c.requires.inside c.requires.ready
@@ -24,11 +18,10 @@ returns-clause-holding c =
     (record { received = c.hold.new.self; vector = c.raise.new.self; names = c.place_for.new.names; lacks = c.args.held.now.lacks.items })
     refl c.in_ok-raise.ensures.raised refl
 
-pub returns-clause-more : goal.returns-clause-more
-returns-clause-more c =
-    holds_more (held_value c.args.held.now) c.entries.result.now c.args.at no_entry c.entries.ensures.entries c.requires.holding c.requires.inside c.requires.ready
+pub returns-clause-operations : goal.returns-clause-operations
+returns-clause-operations c =
+    same_received (held_value c.args.held.now) c.entries.result.now c.args.at no_entry c.entries.ensures.entries c.requires.holding c.requires.inside c.requires.ready
     c.in_ok-place.place c.hold.new.self c.hold.ensures c.place_for.new.names c.in_ok-place.ensures.place
-    c.args.stale.now.items c.mark_place.new.stale.items c.requires.marks c.in_ok-mark_place.ensures
 
 pub returns-clause-fewer : goal.returns-clause-fewer
 returns-clause-fewer c =
