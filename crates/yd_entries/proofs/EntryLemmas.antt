@@ -2,9 +2,9 @@
 use Rattle.std.proofs.Common.{◌≡◌, ℕ, zero, suc, ◌+◌, ◌-◌, ◌<◌, ◌≤◌, true, false, List, [], ◌∷◌, length, get_or, take, drop, min, None, inl, inr, refl, sym, ap, ◌∙◌, subst, arith, tests}
 use Rattle.std.specs.List.Sorted.{IsPartitionedBy}
 use Rattle.std.proofs.lemmas.Bool.{cases_lt, or_left, or_right}
-use Rattle.std.proofs.lemmas.List.{take-append-drop}
+use Rattle.std.proofs.lemmas.List.{get_or_default, take_all, take-append-drop}
 use Rattle.yd_words.specs.Each.{Each}
-use Rattle.yd_words.proofs.EachLemmas.{each_weaker, each_append, each_at}
+use Rattle.yd_words.proofs.EachLemmas.{each_weaker, each_append, each_at, each_take}
 use Rattle.yd_ids.specs.declared.id.Id.{Id}
 use Rattle.yd_ids.proofs.IdLemmas.{same_client}
 use Rattle.yd_ops.specs.Operation.{later_id}
@@ -65,6 +65,12 @@ entries_parted xs id o i j d le lt t = elim (cases_lt i j) [
   | inl less ↦ ends_is id (get_or xs i d) (ends_through id (get_or xs i d) (get_or xs j d) (apart_at xs i j d o less lt) (ends_true id (get_or xs j d) t))
   | inr ge ↦ let same : i ≡ j = omega arith in rw same t
 ]
+
+-- where the last one ends by an id, all do
+pub all_end : (xs : List Entry) (id : Id) (d : Entry) → AreInOrder xs → 0 < length xs → ends_by id (get_or xs (length xs - 1) d) ≡ true → Each (EndsBy id) xs
+all_end xs id d o some e = subst (Each (EndsBy id)) (take_all (length xs) xs (omega arith)) (each_take (EndsBy id) xs (length xs) (λ k c low lt. ends_true id (get_or xs k c)
+    (entries_parted xs id o k (length xs - 1) c (omega (arith, lt)) (omega (arith, some))
+    (subst (λ t. ends_by id t ≡ true) (get_or_default xs (length xs - 1) d c (omega (arith, some))) e))))
 
 pub each_from : (P : Entry → Type 0) (xs : List Entry) (n : ℕ) (d : Entry) → Each P (drop n xs) → n < length xs → P (get_or xs n d)
 each_from P [] n d e lt = absurd (omega arith)

@@ -1,12 +1,14 @@
 -- Where an id stands among what was taken: only the last entry that begins at the id or before it can have it.
-use Rattle.std.proofs.Common.{◌≡◌, ◌≢◌, ℕ, zero, suc, ◌<◌, ◌≤◌, Bool, true, false, not, ◌||◌, ◌&&◌, nat_eq, List, [], ◌∷◌, inl, inr, length, get_or, take, drop, refl, sym, ap, ◌∙◌, subst, arith, tests, true≢false}
+use Rattle.std.proofs.Common.{◌≡◌, ◌≢◌, ℕ, zero, suc, ◌+◌, ◌<◌, ◌≤◌, Bool, true, false, not, ◌||◌, ◌&&◌, nat_eq, List, [], ◌∷◌, inl, inr, length, get_or, take, drop, refl, sym, ap, ◌∙◌, subst, arith, tests, true≢false}
 use Rattle.std.specs.List.Sorted.{IsPartitionedBy}
+use Rattle.std.proofs.lemmas.List.{get_or_default}
 use Rattle.yd_words.specs.Each.{Each}
 use Rattle.yd_words.proofs.EachLemmas.{each_weaker}
 use Rattle.yd_ids.specs.declared.id.Id.{Id}
 use Rattle.yd_entries.specs.declared.entry.Entry.{Entry}
 use Rattle.yd_entries.specs.Entries.{covers, StandsBefore, AreInOrder}
-use Rattle.yd_entries.specs.Lookup.{begins_by}
+use Rattle.yd_entries.specs.Lookup.{PartsAt, begins_by}
+use Rattle.yd_entries.specs.declared.lookup.Bounds.{Bounds}
 use Rattle.yd_entries.specs.Taking.{is_covered, HasUnits}
 
 -- what stands before something that begins by the id begins by it too
@@ -26,6 +28,34 @@ taken_parted (t ∷ ts) x order zero zero d le lt e = e
 taken_parted (t ∷ ts) x order zero (suc j) d le lt e = parted_from t ts x order.0 j d (omega arith) e
 taken_parted (t ∷ ts) x order (suc i) zero d le lt e = absurd (omega arith)
 taken_parted (t ∷ ts) x order (suc i) (suc j) d le lt e = taken_parted ts x order.1 i j d (omega arith) (omega arith) e
+
+-- ---- bounds
+
+not_begun : (ts : List Entry) (x : Id) (at k : ℕ) (d : Entry) → AreInOrder ts → at ≤ k → k < length ts → begins_by (get_or ts at d) x ≡ false → begins_by (get_or ts k d) x ≡ false
+not_begun ts x at k d order le lt none = go (begins_by (get_or ts k d) x) refl
+  where
+    go : (b : Bool) → begins_by (get_or ts k d) x ≡ b → b ≡ false
+    go false e = refl
+    go true e = absurd (true≢false (sym (taken_parted ts x order at k d le lt e) ∙ none))
+
+-- an entry between them begins by the id, and so do all before it
+pub parts_low : (ts : List Entry) (x : Id) (bounds : Bounds) (at : ℕ) (d : Entry) → AreInOrder ts → at < length ts → begins_by (get_or ts at d) x ≡ true → PartsAt ts x bounds →
+    PartsAt ts x (record { low = at + 1; high = bounds.high })
+parts_low ts x bounds at d order lt begun parts = record { before = before; behind = parts.behind }
+  where
+    before : (k : ℕ) (e : Entry) → k < at + 1 → begins_by (get_or ts k e) x ≡ true
+    before k e less = taken_parted ts x order k at e (omega (arith, less)) lt (subst (λ t. begins_by t x ≡ true) (get_or_default ts at d e lt) begun)
+
+-- or it does not, and no entry behind it does
+pub parts_high : (ts : List Entry) (x : Id) (bounds : Bounds) (at : ℕ) (d : Entry) → AreInOrder ts → at < length ts → begins_by (get_or ts at d) x ≡ false → PartsAt ts x bounds →
+    PartsAt ts x (record { low = bounds.low; high = at })
+parts_high ts x bounds at d order lt none parts = record {
+  before = parts.before;
+  behind = λ k e le less. not_begun ts x at k e order le less (subst (λ t. begins_by t x ≡ false) (get_or_default ts at d e lt) none);
+}
+
+pub parts_none : (ts : List Entry) (x : Id) → PartsAt ts x (record { low = 0; high = length ts })
+parts_none ts x = record { before = λ k d lt. absurd (omega (arith, lt)); behind = λ k d le lt. absurd (omega (arith, le, lt)) }
 
 -- ---- the entry of an id
 

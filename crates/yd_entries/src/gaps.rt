@@ -1,6 +1,6 @@
 //! Which ids came before, looked up by bisection.
 
-ghost use Rattle.std.specs.Prelude.{◌≡◌, ◌≤◌, ◌<◌, ◌+◌, false, length, take, drop};
+ghost use Rattle.std.specs.Prelude.{◌≡◌, ◌≤◌, ◌<◌, ◌+◌, false, length, take, drop, IsTrue};
 ghost use Rattle.std.specs.Bool.{OnTrue, OnFalse};
 ghost use Rattle.yd_words.specs.Each.{Each};
 ghost use Rattle.yd_ids.specs.Id.{IsClock};
@@ -86,7 +86,20 @@ pub(crate) fn place(taken: &[Entry], id: Id) -> usize
     ensures before { Each (EndsBy id) (take result taken.now) }
     ensures behind { Each (EndsBehind id) (drop result taken.now) }
 {
+    // What comes in order goes behind all others.
+    if is_behind(taken, id) {
+        return taken.len();
+    }
     taken.partition_point(|entry| ends_by(*entry, id))
+}
+
+/// The last entry is written wholly before the id.
+fn is_behind(taken: &[Entry], id: Id) -> bool
+    requires { AreInOrder taken.now }
+    ensures { IsTrue result → Each (EndsBy id) taken.now }
+{
+    let count = taken.len();
+    count > 0 && ends_by(taken[count - 1], id)
 }
 
 fn ends_by(entry: Entry, id: Id) -> bool

@@ -1,10 +1,10 @@
 //! Where an id stands among what was taken.
 
-ghost use Rattle.std.specs.Prelude.{◌≡◌, ◌≢◌, ◌<◌, ◌≤◌, true, false, length, take, drop};
+ghost use Rattle.std.specs.Prelude.{◌≡◌, ◌≢◌, ◌<◌, ◌≤◌, ◌-◌, true, false, length, take, drop};
 ghost use Rattle.std.specs.Prelude.{HoldsAt, IfSome, IfNone};
 ghost use Rattle.yd_words.specs.Each.{Each};
 ghost use Rattle.yd_entries.specs.Entries.{AreInOrder, covers};
-ghost use Rattle.yd_entries.specs.Lookup.{begins_by};
+ghost use Rattle.yd_entries.specs.Lookup.{PartsAt, begins_by};
 ghost use Rattle.yd_entries.specs.Taking.{is_covered, HasUnits};
 
 use crate::entry::Entry;
@@ -37,14 +37,91 @@ pub fn entry_at(taken: &[Entry], id: Id) -> Option<usize>
     Some(count - 1)
 }
 
-/// How many entries begin at the id or before it.
+/// Places between which the first entry lies that begins behind an id.
+#[derive(Clone, Copy)]
+struct Bounds {
+    /// All entries below begin at the id or before it.
+    low: usize,
+    /// No entry from here on does.
+    high: usize,
+}
+
+/// How many entries begin at the id or before it. It looks where the id would lie if clocks rose evenly,
+/// and every second time in the middle, so it takes time with the logarithm of how many there are.
 fn place(taken: &[Entry], id: Id) -> usize
     requires { AreInOrder taken.now }
     ensures bound { result ≤ length taken.now }
     ensures before { Each (λ t. begins_by t id ≡ true) (take result taken.now) }
     ensures behind { Each (λ t. begins_by t id ≡ false) (drop result taken.now) }
 {
-    taken.partition_point(|entry| is_begun(*entry, id))
+    let mut bounds = Bounds {
+        low: 0,
+        high: taken.len(),
+    };
+    let mut is_even = true;
+    while bounds.low < bounds.high {
+        let at = probe(taken, bounds, id, is_even);
+        bounds = look(taken, bounds, at, id);
+        // Often the next one tells that it was the last.
+        if bounds.low < bounds.high {
+            bounds = look(taken, bounds, bounds.low, id);
+        }
+        is_even = !is_even;
+    }
+    bounds.low
+}
+
+/// The bounds, once the entry at a place between them is looked at.
+fn look(taken: &[Entry], bounds: Bounds, at: usize, id: Id) -> Bounds
+    requires order { AreInOrder taken.now }
+    requires within { bounds.high ≤ length taken.now }
+    requires at { (bounds.low ≤ at) × (at < bounds.high) }
+    ensures part { PartsAt taken.now id bounds → PartsAt taken.now id result }
+    ensures within { (bounds.low ≤ result.low) × (result.low ≤ result.high) × (result.high ≤ bounds.high) }
+    ensures nearer { result.high - result.low < bounds.high - bounds.low }
+{
+    if is_begun(taken[at], id) {
+        return Bounds {
+            low: at + 1,
+            high: bounds.high,
+        };
+    }
+    Bounds {
+        low: bounds.low,
+        high: at,
+    }
+}
+
+/// A place between the bounds: where the id would lie if clocks rose evenly, where that is wanted and the
+/// entries at the bounds are of its client, and else the one in the middle.
+fn probe(taken: &[Entry], bounds: Bounds, id: Id, is_even: bool) -> usize
+    requires some { bounds.low < bounds.high }
+    requires within { bounds.high ≤ length taken.now }
+    ensures { (bounds.low ≤ result) × (result < bounds.high) }
+{
+    let low = bounds.low;
+    let last = bounds.high - 1;
+    let first_id = taken[low].id;
+    let last_id = taken[last].id;
+    let middle = low + (last - low) / 2;
+    if !is_even || first_id.client != id.client || last_id.client != id.client {
+        return middle;
+    }
+    low + share(first_id.clock, last_id.clock, id.clock, last - low).min(last - low)
+}
+
+/// As much of a count as a clock lies on the way from one to another. It chooses where to look alone.
+fn share(from: u64, to: u64, clock: u64, count: usize) -> usize {
+    if clock <= from {
+        return 0;
+    }
+    if clock >= to {
+        return count;
+    }
+    match (clock - from).checked_mul(count as u64) {
+        Some(product) => (product / (to - from)) as usize,
+        None => count / 2,
+    }
 }
 
 /// The entry begins at the id or before it.

@@ -1,6 +1,6 @@
-use Rattle.std.proofs.Common.{get_or, rules, of_calls}
+use Rattle.std.proofs.Common.{length, get_or, arith, rules, of_calls}
 use Rattle.std.proofs.lemmas.Fn.{always_returns_same}
-use Rattle.yd_words.proofs.EachLemmas.{each_take, each_drop}
+use Rattle.yd_words.proofs.EachLemmas.{each_at, each_take, each_drop}
 use Rattle.yd_entries.specs.declared.entry.Entry.{Entry}
 use Rattle.yd_entries.specs.Taking.{EndsBy, EndsBehind, ends_by}
 use Rattle.yd_entries.proofs.EntryLemmas.{ends_true, ends_false, entries_parted}
@@ -15,4 +15,13 @@ returns c =
       bound = c.partition_point.ensures.bound;
       before = each_take (EndsBy id) taken c.partition_point.result (λ k d low lt. ends_true id (get_or taken k d) (point.0 k d low lt));
       behind = each_drop (EndsBehind id) taken c.partition_point.result (λ k d low lt. ends_false id (get_or taken k d) (point.1 k d low lt));
+    }
+
+pub returns-then-is_behind : goal.returns-then-is_behind
+returns-then-is_behind c =
+    let taken = c.args.taken.now in
+    record {
+      bound = omega arith;
+      before = each_take (EndsBy c.args.id) taken (length taken) (λ k d low lt. each_at (EndsBy c.args.id) taken k d (c.is_behind.ensures c.if-is_behind.true) lt);
+      behind = each_drop (EndsBehind c.args.id) taken (length taken) (λ k d low lt. absurd (omega (arith, low, lt)));
     }
