@@ -72,8 +72,8 @@ impl Kept {
         self.names.as_slice()
     }
 
-    /// The number of the list with a name, and none where there is no such list. It takes time with
-    /// the logarithm of how many lists there are.
+    /// The number of the list with a name, and none where there is no such list. It takes a look-up
+    /// by a hash.
     pub fn number_of(&self, name: &List) -> Option<usize>
         ensures there { IfSome result (λ n. slice_get self.now.names n ≡ Some name.now) }
         ensures within { IfSome result (λ n. n < count_of self.now.store.placed) }

@@ -15,7 +15,7 @@ use yd_kept::Kept;
 use yd_ops::List;
 
 /// The id of the unit that stands last in the list with a name, deleted or not, and none where the
-/// list has no unit. It takes time with the logarithm of how many lists there are.
+/// list has no unit. It takes a look-up by a hash.
 pub fn last_of(kept: &Kept, name: &List) -> Option<Id>
     requires { IsTold kept.now }
     ensures { (document : Document) → Tells kept.now document →

@@ -1,9 +1,8 @@
 //! The lists of a store by their names, lent run by run, and single units by their ids.
 //!
-//! What is told is said of each document that the store tells: its lists are those of the store,
-//! and its deleted ids those that are marked (`specs/Listing.antt`). A list is found in time with the
-//! logarithm of how many lists there are, and a unit by a bisection. Reading takes a few loads a run,
-//! from either end, and no memory.
+//! What is told is said of each document that the store tells: its lists are those of the store, and
+//! its deleted ids those that are marked (`specs/Listing.antt`). A list is found in a look-up by a
+//! hash, and a unit by a bisection. Reading takes a few loads a run, from either end, and no memory.
 //!
 //! ```rust
 //! let mut view = list(&kept, &name);

@@ -43,7 +43,7 @@ impl<'a> Model for ListView<'a> {
 }
 
 /// The units of the list with a name, in order, deleted ones too, and none where there is no such
-/// list. It takes time with the logarithm of how many lists there are.
+/// list. It takes a look-up by a hash.
 pub fn list<'a>(kept: &'a Kept, name: &List) -> ListView<'a>
     requires { IsTold kept.now }
     ensures { (document : Document) → Tells kept.now document →
@@ -69,8 +69,7 @@ pub fn list_at(kept: &Kept, n: usize) -> ListView<'_>
 }
 
 /// The units of the list with a name from the run on that has the unit with an id, deleted ones too,
-/// and none where no unit of the list has the id. It takes a bisection, and time with the logarithm of
-/// how many lists there are.
+/// and none where no unit of the list has the id. It takes a bisection, and a look-up by a hash.
 pub fn list_from<'a>(kept: &'a Kept, name: &List, id: Id) -> ListView<'a>
     requires { IsTold kept.now }
     ensures { (document : Document) → Tells kept.now document →
@@ -83,8 +82,7 @@ pub fn list_from<'a>(kept: &'a Kept, name: &List, id: Id) -> ListView<'a>
 }
 
 /// The units of the list with a name from the run on that stands before the one with an id's unit,
-/// deleted ones too, and all of them where no run does. It takes a bisection, and time with the
-/// logarithm of how many lists there are.
+/// deleted ones too, and all of them where no run does. It takes a bisection, and a look-up by a hash.
 pub fn list_around<'a>(kept: &'a Kept, name: &List, id: Id) -> ListView<'a>
     requires { IsTold kept.now }
     ensures { (document : Document) → Tells kept.now document →

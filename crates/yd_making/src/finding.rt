@@ -37,8 +37,8 @@ pub(crate) fn first_of(state: &State, list: &List) -> Option<Id>
     next_id(&mut view)
 }
 
-/// The unit with the id in a list, if it is one of the list's. It takes a bisection, and time with the
-/// logarithm of how many lists there are.
+/// The unit with the id in a list, if it is one of the list's. It takes a bisection, and a look-up by
+/// a hash.
 pub(crate) fn find(state: &State, list: &List, id: Id) -> Option<Found>
     ensures { result ≡ found_in id (lent_units (document_in state.now) list.now) }
 {

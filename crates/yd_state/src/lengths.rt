@@ -8,8 +8,8 @@ use crate::state::State;
 use yd_ops::List;
 
 impl State {
-    /// How many units of a list count in lengths and are not deleted. It takes time with the logarithm
-    /// of how many lists there are, and walks through no list.
+    /// How many units of a list count in lengths and are not deleted. It takes a look-up by a hash,
+    /// and walks through no list.
     pub fn length(&self, list: &List) -> u64
         ensures { result ≡ length (filter (is_live (document_in self.now).deleted)
             ((document_in self.now).units list.now)) }

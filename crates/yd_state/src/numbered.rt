@@ -23,8 +23,7 @@ impl State {
         self.held.names()
     }
 
-    /// The units of the list with a number, in order, deleted ones too. It takes time with the
-    /// logarithm of how many lists there are.
+    /// The units of the list with a number, in order, deleted ones too. It takes a look-up by a hash.
     pub fn list_at(&self, n: usize) -> ListView<'_>
         requires { n < length self.now.held.names }
         ensures { IfSome (slice_get self.now.held.names n)

@@ -1,6 +1,6 @@
 //! The state that received many updates.
 
-ghost use Rattle.std.specs.Prelude.{◌≡◌, map, IfOk};
+ghost use Rattle.std.specs.Prelude.{◌≡◌, ◌∷◌, [], map, IfOk, IfSome};
 ghost use Rattle.yd_words.specs.Each.{Each};
 ghost use Rattle.yd_ops.specs.Valid.{IsValidUpdate};
 ghost use Rattle.yd_ops.specs.View.{update_value};
@@ -11,21 +11,64 @@ use crate::fault::NoMemory;
 use crate::state::State;
 use std::alloc::Global;
 use yd_merge::merge;
-use yd_ops::Update;
+use yd_ops::{Block, Struct, Update};
+
+/// So many blocks are put in order fast enough while they are taken.
+const FEW_BLOCKS: usize = 64;
 
 impl State {
-    /// The state that received these updates, one after another. They are merged first, so that what
-    /// is held and what is deleted is found once, and each unit is placed once. It takes the time of
-    /// `merge` and of one update that says all of it, and until it ends the memory of both.
+    /// The state that received these updates, one after another. They are merged first, so that what is
+    /// held and what is deleted is found once, and each unit is placed once; one alone that a merge would
+    /// hardly change is not. It takes the time of `merge` and of one update that says all of it, and
+    /// until it ends the memory of both.
     pub fn of_updates(alloc: Global, updates: &[Update]) -> Result<State, NoMemory>
         requires { Each IsValidUpdate (map update_value updates.now) }
         ensures received { IfOk result (λ state.
             received_in state ≡ received_set (map update_value updates.now)) }
         ensures sound { IfOk result IsSound }
     {
-        let merged = merge(alloc, updates)?;
         let mut state = State::new(alloc);
+        if let Some(update) = alone(updates) {
+            let _brings = state.take(update)?;
+            return Ok(state);
+        }
+        let merged = merge(alloc, updates)?;
         let _brings = state.take(&merged)?;
         Ok(state)
     }
+}
+
+/// The update, where there is one alone that a merge would hardly change.
+fn alone(updates: &[Update]) -> Option<&Update>
+    ensures { IfSome result (λ update. updates.now ≡ update.now ∷ []) }
+{
+    match updates {
+        [update] if is_compact(update.blocks.as_slice()) => Some(update),
+        _ => None,
+    }
+}
+
+/// The blocks are few, and no struct joins the one before it. This chooses the faster way alone.
+fn is_compact(blocks: &[Block]) -> bool {
+    if blocks.len() > FEW_BLOCKS {
+        return false;
+    }
+    for block in blocks {
+        if has_joins(block.structs.as_slice()) {
+            return false;
+        }
+    }
+    true
+}
+
+/// A run among the structs joins the one before it. This chooses the faster way alone.
+fn has_joins(structs: &[Struct]) -> bool {
+    for at in 1..structs.len() {
+        if let (Struct::Item(run), Struct::Item(next)) = (&structs[at - 1], &structs[at]) {
+            if run.joins(next) {
+                return true;
+            }
+        }
+    }
+    false
 }

@@ -179,8 +179,8 @@ impl State {
         &self.sets.named
     }
 
-    /// The units of a list in order, deleted ones too; lost ones are in no list. It takes time with the
-    /// logarithm of how many lists there are, and copies no unit.
+    /// The units of a list in order, deleted ones too; lost ones are in no list. It takes a look-up
+    /// by a hash, and copies no unit.
     pub fn list(&self, list: &List) -> ListView<'_>
         ensures units { units_left result ≡ lent_units (document_in self.now) list.now }
         ensures received { (o : Operation) → IsIn o ((document_in self.now).units list.now)
@@ -193,8 +193,7 @@ impl State {
     }
 
     /// The units of a list in order from the run on that has the unit with an id, deleted ones too, and
-    /// none where no unit of the list has the id. It takes a bisection, and time with the logarithm of
-    /// how many lists there are.
+    /// none where no unit of the list has the id. It takes a bisection, and a look-up by a hash.
     pub fn list_from(&self, list: &List, id: Id) -> ListView<'_>
         ensures { IsFrom id (lent_units (document_in self.now) list.now) (units_left result) }
     {
@@ -204,8 +203,7 @@ impl State {
     }
 
     /// The units of a list in order from the run on that stands before the one with an id's unit, deleted
-    /// ones too, and all of them where no run does. It takes a bisection, and time with the logarithm of
-    /// how many lists there are.
+    /// ones too, and all of them where no run does. It takes a bisection, and a look-up by a hash.
     pub fn list_around(&self, list: &List, id: Id) -> ListView<'_>
         ensures around { IsAround id (lent_units (document_in self.now) list.now) (units_left result) }
         ensures received { (o : Operation) → IsIn o ((document_in self.now).units list.now)
@@ -217,7 +215,7 @@ impl State {
     }
 
     /// The id of the unit that stands last in a list, deleted or not, and none where the list has no
-    /// unit. It takes time with the logarithm of how many lists there are.
+    /// unit. It takes a look-up by a hash.
     pub fn last_of(&self, list: &List) -> Option<Id>
         ensures { result ≡ last_unit (document_in self.now) list.now }
     {

@@ -6,7 +6,7 @@ use Rattle.yd_grouping.proofs.MergeLemmas.{merge_received}
 use Rattle.yd_state.proofs.state.State.of_updates.Goals as goal
 
 pub returns-clause-received : goal.returns-clause-received
-returns-clause-received c = c.in_ok-_brings.ensures.received
+returns-clause-received c = c.in_ok-_brings-2.ensures.received
     ∙ ap (λ (r : Received). received_after r (update_value c.in_ok-merged.merged)) c.new-state.ensures.received
     ∙ ap (λ (u : UpdateValue). received_after nothing_received u) c.in_ok-merged.ensures.merged
     ∙ merge_received (map update_value c.args.updates.now) c.requires
