@@ -48,7 +48,7 @@ impl Replica {
     }
 
     /// The unit with the id is one of the list's, deleted or not, and is the first half of a pair. It
-    /// takes a bisection, and time with the logarithm of how many lists there are.
+    /// takes a bisection, and a look-up by a hash.
     pub fn is_high(&self, list: &List, id: Id) -> bool
         ensures { result ≡ has_high ((own_document self.now).units list.now) id }
     {

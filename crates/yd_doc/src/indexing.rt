@@ -15,8 +15,8 @@ use yd_state::RunView;
 
 impl Replica {
     /// How many live counted units a list has: UTF-16 units, values, embeds, byte strings and types.
-    /// Marks are not counted (Yjs 13, the length of a type). It takes time with the logarithm of how
-    /// many lists there are, and walks through no list.
+    /// Marks are not counted (Yjs 13, the length of a type). It takes a look-up by a hash, and walks
+    /// through no list.
     pub fn length(&self, list: &List) -> u64
         ensures { result ≡ length (counted_units (own_document self.now) list.now) }
     {

@@ -13,8 +13,8 @@ use yd_ops::List;
 use yd_state::ListView;
 
 impl Replica {
-    /// The units of a list in order, deleted ones too; lost ones are in no list. It takes time with the
-    /// logarithm of how many lists there are, and copies no unit.
+    /// The units of a list in order, deleted ones too; lost ones are in no list. It takes a look-up
+    /// by a hash, and copies no unit.
     pub fn list(&self, list: &List) -> ListView<'_>
         ensures units { units_left result ≡ lent_units (own_document self.now) list.now }
         ensures received { (o : Operation) → IsIn o ((own_document self.now).units list.now)
@@ -25,8 +25,7 @@ impl Replica {
     }
 
     /// The units of a list in order from the run on that stands before the one with an id's unit, deleted
-    /// ones too, and all of them where no run does. It takes a bisection, and time with the logarithm of
-    /// how many lists there are.
+    /// ones too, and all of them where no run does. It takes a bisection, and a look-up by a hash.
     pub fn list_around(&self, list: &List, id: Id) -> ListView<'_>
         ensures around { IsAround id (lent_units (own_document self.now) list.now) (units_left result) }
         ensures received { (o : Operation) → IsIn o ((own_document self.now).units list.now)
@@ -36,7 +35,7 @@ impl Replica {
     }
 
     /// The id of the unit that stands last in a list, deleted or not, and none where the list has no
-    /// unit. It takes time with the logarithm of how many lists there are, as `list` does.
+    /// unit. It takes a look-up by a hash, as `list` does.
     pub fn last_of(&self, list: &List) -> Option<Id>
         ensures { result ≡ last_unit (own_document self.now) list.now }
     {

@@ -9,6 +9,7 @@ ghost use Rattle.yd_ops.specs.Received.{nothing_received, received_after};
 ghost use Rattle.yd_meaning.specs.Held.{held_set, held_clock, waiting_counts};
 ghost use Rattle.yd_meaning.specs.Document.{AreDeletedIn};
 ghost use Rattle.yd_grouping.specs.Merged.{reply_of};
+ghost use Rattle.yd_listing.specs.Listing.{Tells};
 ghost use Rattle.yd_state.specs.Brings.{BringsUnknown};
 ghost use Rattle.yd_doc.specs.Kept.{received_of, own_deletes, own_document};
 ghost use Rattle.yd_doc.specs.Waiting.{counts_of};
@@ -18,6 +19,7 @@ use crate::waiting::Waiting;
 use std::alloc::Global;
 use std::marker::Model;
 use yd_ids::{Client, IdSet, Vector};
+use yd_kept::Kept;
 use yd_merge::write_cut;
 use yd_ops::Update;
 use yd_state::State;
@@ -131,6 +133,14 @@ impl Replica {
         ensures own { result.now ≡ own_deletes self.now }
     {
         self.state.deletes()
+    }
+
+    /// The store of what is held, and the names of its lists. Each of its lists has the units that
+    /// `list` lends of that name, in the same order, and no others; the deleted ones are marked (own).
+    pub fn store(&self) -> &Kept
+        ensures { Tells result.now (own_document self.now) }
+    {
+        self.state.kept()
     }
 
     /// How much was received that is not held yet: units of runs, and deleted ids. It takes a
