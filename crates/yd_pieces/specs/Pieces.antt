@@ -1,5 +1,5 @@
 -- A list in pieces, and what a contract sees of it (own).
-use Rattle.std.specs.Prelude.{◌≡◌, ◌<◌, ◌≤◌, ◌-◌, ◌++◌, ℕ, Bool, true, false, List, Some, None, Vec, All, HoldsAt, flat_map, length, slice_get, refl}
+use Rattle.std.specs.Prelude.{◌≡◌, ◌<◌, ◌≤◌, ◌-◌, ◌++◌, ℕ, zero, suc, Bool, true, false, List, Option, Some, None, Vec, All, HoldsAt, flat_map, length, slice_get, refl}
 use Rattle.std.specs.Coded.{Coded, code_by, coded×, coded_ℕ, coded_list}
 
 -- the elements, and how many pushes cannot fail
@@ -30,6 +30,18 @@ module _ {T A : Type 0} where
 -- at the place, the element in front passes and the one behind does not, where there are such elements
 abbrev pub IsBoundary : {T : Type 0} → (T → Bool) → List T → ℕ → Type 0
 IsBoundary p xs n = (0 < n → HoldsAt (λ y. p y ≡ true) xs (n - 1)) × (n < length xs → HoldsAt (λ y. p y ≡ false) xs n)
+
+-- the element in front of a place, and none at the start
+abbrev pub in_front : {T : Type 0} → List T → ℕ → Option T
+in_front xs zero = None
+in_front xs (suc n) = slice_get xs n
+
+-- the element in front of a place where those that pass end
+pub record IsLastPassed {T : Type 0} (p : T → Bool) (xs : List T) (found : Option T) : Type 0 where
+  pub place : ℕ
+  pub bound : place ≤ length xs
+  pub boundary : IsBoundary p xs place
+  pub element : found ≡ in_front xs place
 
 -- whether the last element of a piece passes
 abbrev pub ends_with : {T A : Type 0} → (T → Bool) → Vec T A → Bool

@@ -1,11 +1,11 @@
 //! The list in pieces.
 
 ghost use Rattle.std.specs.List.Sorted.{IsPartitionPoint, IsPartitionedBy};
-ghost use Rattle.yd_pieces.specs.Pieces.{IsBoundary};
-ghost use Rattle.std.specs.Prelude.{true, false, take, drop, ◌≡◌, ◌<◌, ◌≤◌, ◌+◌, ◌++◌, ◌∷◌, [], length, insert, remove, slice_index_or, OnOk, OnErr, IfErr, IsOk};
+ghost use Rattle.yd_pieces.specs.Pieces.{IsBoundary, IsLastPassed};
+ghost use Rattle.std.specs.Prelude.{true, false, take, drop, ◌≡◌, ◌<◌, ◌≤◌, ◌+◌, ◌++◌, ◌∷◌, [], length, insert, remove, slice_index_or, option_copied, OnOk, OnErr, IfErr, IsOk};
 
 use crate::cutting::{FULL, close, insert_into, remove_from};
-use crate::searching::{Test, point};
+use crate::searching::{Test, front, point};
 use crate::seeking::{read, rest_of_piece};
 use std::alloc::{AllocError, AllocFailed, Global};
 use std::marker::Model;
@@ -83,6 +83,14 @@ impl<T: Drop> Pieces<T> {
     {
         let before = self.len - self.last.len();
         point(&self.pieces, &self.last, before, test)
+    }
+
+    /// The element in front of such a place as `partition_point` answers, and None where that is the
+    /// start. It is a bisection over pieces and then in one, and takes no sum.
+    pub fn last_passed<P: Test<T>>(&self, test: &P) -> Option<&T>
+        ensures { IsLastPassed (P.passes test.now) self.now.items (option_copied result) }
+    {
+        front(&self.pieces, &self.last, test)
     }
 
     /// The elements from a place on that lie together in memory, one or more. So a list is read

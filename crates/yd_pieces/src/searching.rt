@@ -1,7 +1,7 @@
 //! Where the elements that pass a test end.
 
-ghost use Rattle.std.specs.Prelude.{◌≡◌, ◌<◌, ◌≤◌, ◌+◌, ◌^◌, ◌++◌, Bool, All, length, take};
-ghost use Rattle.yd_pieces.specs.Pieces.{joined, ends_with, IsBoundary, IsFilled};
+ghost use Rattle.std.specs.Prelude.{◌≡◌, ◌<◌, ◌≤◌, ◌+◌, ◌^◌, ◌++◌, Bool, All, length, take, option_copied};
+ghost use Rattle.yd_pieces.specs.Pieces.{joined, ends_with, in_front, IsBoundary, IsFilled, IsLastPassed};
 
 /// A test of elements, which a search goes by. Its ghost member says which elements pass, so that
 /// whoever asks needs no closure.
@@ -100,4 +100,31 @@ pub fn point<T, P: Test<T>>(pieces: &[Vec<T>], last: &[T], before: usize, test: 
         return start + items_passed(&pieces[i], test);
     }
     start + items_passed(last, test)
+}
+
+/// The element in front of a place among items that stand behind pieces.
+fn front_of<'a, T>(before: &'a [Vec<T>], items: &'a [T], n: usize) -> Option<&'a T>
+    requires filled { All IsFilled before.now }
+    requires bound { n ≤ length items.now }
+    ensures { option_copied result ≡
+        in_front (joined before.now ++ items.now) (length (joined before.now) + n) }
+{
+    if n > 0 {
+        return Some(&items[n - 1]);
+    }
+    before.last()?.last()
+}
+
+/// The element in front of a place of the whole between elements that pass and those that do not.
+pub fn front<'a, T, P: Test<T>>(pieces: &'a [Vec<T>], last: &'a [T], test: &P) -> Option<&'a T>
+    requires filled { All IsFilled pieces.now }
+    ensures { IsLastPassed (P.passes test.now) (joined pieces.now ++ last.now)
+        (option_copied result) }
+{
+    let i = pieces_passed(pieces, test);
+    if i < pieces.len() {
+        let piece = &pieces[i];
+        return front_of(&pieces[..i], piece, items_passed(piece, test));
+    }
+    front_of(pieces, last, items_passed(last, test))
 }
