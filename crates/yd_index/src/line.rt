@@ -100,8 +100,7 @@ impl Line {
         if clock >= self.next {
             return None;
         }
-        let n = begun(&self.entries, clock);
-        Some(*self.entries.get(n - 1))
+        self.entries.last_passed(&Below(clock + 1)).copied()
     }
 
     /// Makes room for so many runs, or finds no memory for it. No room is lost.
