@@ -27,6 +27,8 @@ fn elements_stand_where_they_are_put(rt: HostRuntime) -> Result<(), Fail> {
     assert_eq!(rt; list.len(), 3);
     assert_eq!(rt; *list.get(1), 2);
     assert_eq!(rt; list.partition_point(&Below(3)), 2);
+    assert_eq!(rt; list.last_passed(&Below(3)).copied(), Some(2));
+    assert_eq!(rt; list.last_passed(&Below(1)).copied(), None);
     assert_eq!(rt; list.piece_from(1), [2, 3].as_slice());
     assert_eq!(rt; list.remove(0), 1);
     Ok(())
