@@ -4,9 +4,11 @@ pub mod BorderLemmas
 pub mod CountLemmas
 pub mod CutLemmas
 pub mod GrowthLemmas
+pub mod JoiningLemmas
 pub mod ListsLemmas
 pub mod MarkLemmas
 pub mod RowLemmas
 pub mod TakingLemmas
 pub mod TotalLemmas
+pub mod UncutLemmas
 pub mod UnitsLemmas

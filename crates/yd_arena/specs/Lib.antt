@@ -1,4 +1,5 @@
 pub mod Arena
+pub mod Joining
 pub mod Law
 pub mod Lists
 pub mod Marks

@@ -6,6 +6,7 @@ ghost use Rattle.yd_words.specs.Member.{IsIn};
 ghost use Rattle.yd_scan.specs.Stretches.{stretch_at, IsNoLater, EndsLeft};
 ghost use Rattle.yd_arena.specs.Lists.{AreLists};
 ghost use Rattle.yd_arena.specs.Arena.{runs_of, count_of, places_in, next_clock, room_for, IsArena, HasUnit, IsSame, CutsRun, CutsAt, GrowsByRun, AddsLoose, TakesLast};
+ghost use Rattle.yd_arena.specs.Joining.{IsJoint, JoinsLast};
 
 use crate::beside::{Beside, cut_both};
 use crate::growing::add_entry;
@@ -233,5 +234,19 @@ impl Arena {
         let last = self.index.pop(client);
         self.lists.take_out(last.place);
         last.place
+    }
+
+    /// Joins the last run to the one at a place, from where it goes on: see `Lists::joint`. No list and
+    /// no client has other units than before. It takes no memory, and no room is lost.
+    pub fn join_last(&mut self, place: usize)
+        requires { IsJoint self.old.linked place }
+        ensures done { JoinsLast self.old self.new place }
+        ensures lists { AreLists self.new.linked }
+        ensures rooms { (client : ℕ) → room_for self.old client ≤ room_for self.new client }
+    {
+        let last = self.lists.len() - 1;
+        self.lists.are_lists();
+        self.index.uncut(self.lists.stretch(last).id);
+        self.lists.join_last(place);
     }
 }

@@ -1,6 +1,6 @@
 //! Runs at places, and the lists that link them.
 
-ghost use Rattle.std.specs.Prelude.{◌≡◌, ◌<◌, ◌≤◌, ◌+◌, ◌-◌, ◌++◌, ◌∷◌, [], ℕ, None, Some, Option, length, IfSome, IfOk, OnOk, OnErr, IsOk, slice_set, vec_capacity};
+ghost use Rattle.std.specs.Prelude.{◌≡◌, ◌<◌, ◌≤◌, ◌+◌, ◌-◌, ◌^◌, ◌++◌, ◌∷◌, [], ℕ, None, Some, Option, length, IfSome, IfOk, OnOk, OnErr, IsOk, slice_set, vec_capacity};
 ghost use Rattle.yd_ids.specs.declared.id.Id.{Id as Ident};
 ghost use Rattle.yd_words.specs.Member.{IsIn};
 ghost use Rattle.yd_chains.specs.Chain.{first_of, last_of, behind, before, put_behind};
@@ -8,10 +8,12 @@ ghost use Rattle.yd_scan.specs.Stretches.{stretch_at, IsNoLater, IsIndex, EndsLe
 ghost use Rattle.yd_scan.specs.Scanning.{IsScanPlace};
 ghost use Rattle.yd_index.specs.Holding.{cut_stretches};
 ghost use Rattle.yd_arena.specs.Lists.{list_at, AreLists, IsLoose, PutsBehind, TakesOut, emptied};
+ghost use Rattle.yd_arena.specs.Joining.{IsJoint};
 
 use crate::growing::{
     begin_scan, cut_stretch, grow_marks, grow_places, push_stretch, put_part, shorten, take_part,
 };
+use crate::joining::{continues, join_stretch};
 use std::alloc::{AllocError, Global};
 use std::marker::Model;
 use yd_chains::Chains;
@@ -228,6 +230,42 @@ impl Lists {
     {
         take_part(&mut self.chains, place);
         shorten(&mut self.stretches, place, 0);
+    }
+
+    /// The place before the last one in its list, where the last run goes on where the run there ends:
+    /// at its next clock, behind its last unit, and with its right origin.
+    pub fn joint(&self) -> Option<usize>
+        ensures { IfSome result (IsJoint self.now) }
+    {
+        let last = self.stretches.len().checked_sub(1)?;
+        self.chains.chain_of(last)?;
+        let place = self.chains.prev(last)?;
+        if continues(self.stretches[place], self.stretches[last]) {
+            Some(place)
+        } else {
+            None
+        }
+    }
+
+    /// Joins the last run to the one at a place, where it goes on where that ends: see `joint`. Cut
+    /// there again, all is as it was. It takes no memory, and no room is lost.
+    pub fn join_last(&mut self, place: usize)
+        requires joint { IsJoint self.old place }
+        requires fits { (stretch_at self.old.stretches place).len
+            + (stretch_at self.old.stretches (length self.old.stretches - 1)).len < 2 ^ 64 }
+        ensures place { place < length self.new.stretches }
+        ensures stretches { self.old.stretches ≡ cut_stretches self.new.stretches place
+            (stretch_at self.old.stretches place).len }
+        ensures lists { PutsBehind self.new.lists self.old.lists place
+            (length self.new.stretches) }
+        ensures before { AreLists self.old }
+        ensures sound { AreLists self.new }
+        ensures room { self.old.room ≤ self.new.room }
+    {
+        take_part(&mut self.chains, self.stretches.len() - 1);
+        join_stretch(&mut self.stretches, place);
+        // No list has a place twice then either.
+        let _ = self.chains.len();
     }
 
     /// The place behind which a new run goes in a list: that which the scan of its first unit finds

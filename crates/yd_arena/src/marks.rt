@@ -123,6 +123,15 @@ impl Marks {
         push_mark(&mut self.rows, mark);
     }
 
+    /// Takes the last mark away, where its run is one with another. It takes no memory.
+    pub fn drop_last(&mut self)
+        ensures rows { self.new.rows ≡ take (length self.old.rows - 1) self.old.rows }
+        ensures live { self.new.live ≡ self.old.live }
+        ensures room { self.old.room ≤ self.new.room }
+    {
+        self.rows.pop();
+    }
+
     /// Marks the units of a span as deleted, run by run. The span is held, and parts no run. What was
     /// marked stays so, and nothing else is marked (`law::marks_are_units`). It takes no memory.
     pub fn mark_deleted(&mut self, arena: &Arena, span: Span)
