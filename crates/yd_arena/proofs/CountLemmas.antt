@@ -78,16 +78,16 @@ module _ (linked : Linked) (rows : List Mark) (live : List ℕ) (lists : AreList
 
 -- ---- a run that is cut
 
-module _ (old new : Linked) (rows : List Mark) (live : List ℕ) (place n : ℕ) (lists : AreLists old) (counted : AreCounted old rows live) (within : place < length old.stretches) (le : n ≤ (stretch_at old.stretches place).len)
+module _ (old new : Linked) (rows : List Mark) (live : List ℕ) (place n : ℕ) (lists : AreLists old) (each : length rows ≡ length old.stretches) (within : place < length old.stretches) (le : n ≤ (stretch_at old.stretches place).len)
     (cut : new.stretches ≡ cut_stretches old.stretches place n) (puts : PutsBehind old.lists new.lists place (length old.stretches)) where
   abbrev more : List Mark
   more = rows ++ mark_at rows place ∷ []
 
   kept_row : (i : ℕ) → i < length old.stretches → mark_at more i ≡ mark_at rows i
-  kept_row i lt = get_or_append_left rows (mark_at rows place ∷ []) no_mark i (omega (arith, lt, counted.each))
+  kept_row i lt = get_or_append_left rows (mark_at rows place ∷ []) no_mark i (omega (arith, lt, each))
 
   last_row : mark_at more (length old.stretches) ≡ mark_at rows place
-  last_row = get_or_at rows (mark_at rows place) [] no_mark (length old.stretches) counted.each
+  last_row = get_or_at rows (mark_at rows place) [] no_mark (length old.stretches) each
 
   same_run : (i : ℕ) → i < length old.stretches → i ≢ place → live_at old.stretches rows i ≡ live_at (cut_stretches old.stretches place n) more i
   same_run i lt ne = ap₂ (λ m (r : Stretch). live_of m r.len) (sym (kept_row i lt)) (sym (cut_other old.stretches place n within i lt ne))
@@ -98,22 +98,35 @@ module _ (old new : Linked) (rows : List Mark) (live : List ℕ) (place n : ℕ)
       let b = ap₂ (λ m (r : Stretch). live_of m r.len) last_row (cut_rest old.stretches place n within) in
       omega (arith, a, b, parts_live (mark_at rows place) (stretch_at old.stretches place).len n le)
 
-  pub counted_cut : AreCounted new more live
-  counted_cut = record {
-    each = omega (arith, length-append rows (mark_at rows place ∷ []), counted.each, ap length cut, cut_len old.stretches place n within);
+  each_cut : length more ≡ length new.stretches
+  each_cut = omega (arith, length-append rows (mark_at rows place ∷ []), each, ap length cut, cut_len old.stretches place n within)
+
+  same_sum : (k : ℕ) → k < length old.lists → total (live_at old.stretches rows) (list_at old k) ≡ total (live_at new.stretches more) (list_at new k)
+  same_sum k kl = rw cut (elim (has_place place (list_at old k)) [
+    | inl h ↦ omega (
+      arith,
+      total_less (live_at old.stretches rows) (live_at (cut_stretches old.stretches place n) more) place (live_at (cut_stretches old.stretches place n) more (length old.stretches)) (list_at old k) (lists.distinct k kl) h both_parts
+          (λ i ne m. same_run i (lists.within k i kl m) ne),
+      total_put (live_at (cut_stretches old.stretches place n) more) (Some place) (length old.stretches) (list_at old k),
+      ap (total (live_at (cut_stretches old.stretches place n) more)) (puts.own k kl h),
+    )
+    | inr h ↦ total_same (live_at old.stretches rows) (live_at (cut_stretches old.stretches place n) more) (list_at old k) (λ i m. same_run i (lists.within k i kl m) (λ e. h (subst (λ j. IsIn j (list_at old k)) e m)))
+        ∙ ap (total (live_at (cut_stretches old.stretches place n) more)) (sym (puts.others k kl h))
+  ])
+
+  pub counted_cut : AreCounted old rows live → AreCounted new more live
+  counted_cut counted = record {
+    each = each_cut;
     lists = counted.lists ∙ sym puts.count;
-    sums = λ k kl. (let kold : k < length old.lists = omega (arith, kl, puts.count) in
-        counted.sums k kold ∙ rw cut (elim (has_place place (list_at old k)) [
-          | inl h ↦ omega (
-            arith,
-            total_less (live_at old.stretches rows) (live_at (cut_stretches old.stretches place n) more) place (live_at (cut_stretches old.stretches place n) more (length old.stretches)) (list_at old k) (lists.distinct k kold) h both_parts
-                (λ i ne m. same_run i (lists.within k i kold m) ne),
-            total_put (live_at (cut_stretches old.stretches place n) more) (Some place) (length old.stretches) (list_at old k),
-            ap (total (live_at (cut_stretches old.stretches place n) more)) (puts.own k kold h),
-          )
-          | inr h ↦ total_same (live_at old.stretches rows) (live_at (cut_stretches old.stretches place n) more) (list_at old k) (λ i m. same_run i (lists.within k i kold m) (λ e. h (subst (λ j. IsIn j (list_at old k)) e m)))
-              ∙ ap (total (live_at (cut_stretches old.stretches place n) more)) (sym (puts.others k kold h))
-        ]));
+    sums = λ k kl. (let kold : k < length old.lists = omega (arith, kl, puts.count) in counted.sums k kold ∙ same_sum k kold);
+  }
+
+  -- and back
+  pub counted_joined : AreCounted new more live → AreCounted old rows live
+  counted_joined counted = record {
+    each = each;
+    lists = counted.lists ∙ puts.count;
+    sums = λ k kl. counted.sums k (omega (arith, kl, puts.count)) ∙ sym (same_sum k kl);
   }
 
 -- ---- a run that is added

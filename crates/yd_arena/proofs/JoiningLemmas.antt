@@ -33,7 +33,8 @@ rest_again run next c =
     ap₂ (λ id n. run_of id n (Some (record { client = run.id.client; clock = run.id.clock + run.len - 1 })) run.right) (sym c.begins) len
     ∙ ap₂ (run_of next.id next.len) (sym c.behind) (sym c.right)
 
-set_set : {T : Type 0} (xs : List T) (i : ℕ) (a b : T) → set (set xs i a) i b ≡ set xs i b
+-- of two values that are written to one place, the last one stays
+pub set_set : {T : Type 0} (xs : List T) (i : ℕ) (a b : T) → set (set xs i a) i b ≡ set xs i b
 set_set [] zero a b = refl
 set_set [] (suc i) a b = refl
 set_set (x ∷ xs) zero a b = refl

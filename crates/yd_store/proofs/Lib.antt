@@ -1,6 +1,7 @@
 pub mod NotedLemmas
 pub mod StoreLemmas
 pub mod KeepingLemmas
+pub mod JoiningLemmas
 pub mod AddingLemmas
 pub mod IntegratingLemmas
 pub mod DeletingLemmas

@@ -42,6 +42,10 @@ noted_behind : (mark : Mark) (n : ℕ) (z : Option RunValue) → IsNoted mark z 
 noted_behind mark n None of = tt
 noted_behind mark n (Some run) of = λ alive full. (let k = kind_behind n run.content in of alive (sym k.0 ∙ full) ∙ sym k.1)
 
+-- the mark says of a run what it says of its first units
+pub noted_whole : (mark : Mark) (n : ℕ) (run : RunValue) → IsNoted mark (told_before n (Some run)) → IsNoted mark (Some run)
+noted_whole mark n run of = λ alive full. (let k = kind_before n run.content in of alive (k.0 ∙ full) ∙ k.1)
+
 -- what is deleted counts no unit
 pub noted_dead : (mark : Mark) (z : Option RunValue) → mark.deleted ≡ true → IsNoted mark z
 noted_dead mark None dead = tt

@@ -127,7 +127,7 @@ can_cut lines runs it place n id arena are has some = record {
 pub store_cut : (old new : Placed) (marks more : Marked) (contents cut : Contented) (place n : ℕ) → IsStore old marks contents → AreLists old.linked → place < length (runs_of old) → 0 < n → n < (stretch_at (runs_of old) place).len →
     CutsRun old new place n → more.rows ≡ marks.rows ++ mark_at marks.rows place ∷ [] → more.live ≡ marks.live → told_of cut ≡ cut_runs (told_of contents) place n → IsStore new more cut
 store_cut old new marks more contents cut place n store lists within some inside cuts rows live runs = record {
-  counted = rw (rows, live) (counted_cut old.linked new.linked marks.rows marks.live place n lists store.counted within (omega (arith, inside)) cuts.runs cuts.lists);
+  counted = rw (rows, live) (counted_cut old.linked new.linked marks.rows marks.live place n lists store.counted.each within (omega (arith, inside)) cuts.runs cuts.lists store.counted);
   told = rw (cuts.runs, runs) (are_told_cut (runs_of old) (told_of contents) store.told place n within some inside);
   noted = rw (rows, runs) (noted_cut marks.rows (told_of contents) place n store.noted (omega (arith, store.counted.each, store.told.each)) (omega (arith, within, store.told.each)));
 }

@@ -1,6 +1,7 @@
 pub mod Contents
 pub mod Store
 pub mod Units
+pub mod Joining
 pub mod Integrating
 pub mod Deleting
 pub mod Halves

@@ -1,13 +1,15 @@
 //! What the runs of a store hold.
 
-ghost use Rattle.std.specs.Prelude.{◌≡◌, ◌<◌, ◌≤◌, ◌+◌, ◌++◌, ◌∷◌, [], None, slice_set, length, IfOk, OnOk, OnErr, IsOk, option_copied};
+ghost use Rattle.std.specs.Prelude.{◌≡◌, ◌<◌, ◌≤◌, ◌+◌, ◌++◌, ◌∷◌, [], None, true, false, slice_set, length, IfOk, OnOk, OnErr, IsOk, option_copied};
 ghost use Rattle.yd_arena.specs.Arena.{runs_of, next_clock};
 ghost use Rattle.yd_arena.specs.Marks.{IsBorder};
 ghost use Rattle.yd_store.specs.Contents.{told, told_of, run_at, CanCut, CutsTold, KeepsTold};
+ghost use Rattle.yd_store.specs.Joining.{JoinsTold};
 ghost use Rattle.yd_store.specs.Lowering.{told_down, LowersSpan};
 ghost use Rattle.yd_store.specs.Halves.{told_as};
 
 use crate::cutting::{cut_told, drop_told, push_told, put_text};
+use crate::joining::join_told;
 use crate::level::{Level, lower_told};
 use std::alloc::{AllocError, Global};
 use std::marker::Model;
@@ -77,6 +79,21 @@ impl Contents {
         ensures room { self.old.room ≤ self.new.room + 1 }
     {
         push_told(&mut self.runs, run);
+    }
+
+    /// Joins what the last place tells to what another tells, where both are texts or deleted units and
+    /// one goes on where the other ends. Then the last place is there no more. It takes time of what is
+    /// joined, and no room is lost.
+    pub fn join_last(&mut self, place: usize) -> Result<bool, NoMemory>
+        requires { place + 1 < length self.old.rows }
+        ensures joined { IfOk result (λ joined. joined ≡ true →
+            JoinsTold (told_of self.old) (told_of self.new) place) }
+        ensures kept { IfOk result (λ joined. joined ≡ false →
+            told_of self.new ≡ told_of self.old) }
+        ensures unchanged { OnErr result (told_of self.new ≡ told_of self.old) }
+        ensures room { self.old.room ≤ self.new.room }
+    {
+        join_told(&mut self.runs, place)
     }
 
     /// Lets a place tell nothing, as one that is gone. It takes no memory.

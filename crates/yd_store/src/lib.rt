@@ -3,8 +3,9 @@
 //! A store is an arena of runs, and beside it by place the marks of deletion and what the runs
 //! hold. Lists have numbers, in the order in which they were added. An id is found by a bisection;
 //! reading a list follows links and copies nothing. `reserve` takes memory ahead, and then the next
-//! runs of a client go in without any. A call that finds no memory changes no unit, no order and no
-//! mark; one that cuts runs first may have cut them.
+//! runs of a client go in without any. What is typed letter by letter comes as a run for each letter,
+//! and `join_last` joins the last one to the run before it. A call that finds no memory changes no
+//! unit, no order and no mark; one that cuts runs first may have cut them.
 //!
 //! ```rust
 //! let mut store = Store::new(alloc);
@@ -23,6 +24,7 @@ mod deleting;
 mod fault;
 mod halves;
 mod integrating;
+mod joining;
 pub mod law;
 mod level;
 mod lowering;

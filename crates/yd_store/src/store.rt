@@ -15,6 +15,7 @@ ghost use Rattle.yd_store.specs.Store.{spare_of, AreTold, AreNoted, CanCount, Is
 ghost use Rattle.yd_store.specs.Units.{KeepsUnits, AddsUnits};
 ghost use Rattle.yd_store.specs.Taking.{TakesBack, AreDead};
 
+mod joining;
 mod outside;
 mod telling;
 
