@@ -18,7 +18,7 @@ use Rattle.yd_store.specs.Units.{operations_at, KeepsUnits}
 use Rattle.yd_store.proofs.IntegratingLemmas.{keeps_itself}
 use Rattle.yd_kept.specs.Filling.{FillsOn}
 use Rattle.yd_kept.proofs.FillingLemmas.{still_named, filling_is_kept, filling_adds_list, filling_adds_lost, filling_goes_on}
-use Rattle.yd_kept.specs.Kept.{KeptValue, FillsFurther, StaysFilled, FillsByLost, KeepsHeld}
+use Rattle.yd_kept.specs.Kept.{KeptValue, FillsFurther, StaysFilled, FillsByLost, KeepsHeld, JoinsHeld}
 
 -- what follows from both outcomes holds
 pub either_way : {T E : Type 0} (z : Result T E) (P Q R : Type 0) → (P → R) → (Q → R) → OnOk z P → OnErr z Q → R
@@ -67,6 +67,23 @@ units_keep names old new k = record {
   borders = k.borders;
   filled = rows_stay names old new k.count k.rows k.nexts;
 }
+
+pub units_join : (names : List DocList) (old new : Stored) → KeepsUnits new old → JoinsHeld (record { store = old; names = names }) (record { store = new; names = names })
+units_join names old new k =
+    let count : count_of new.placed ≡ count_of old.placed = sym k.count in
+    let rows : (list : ℕ) → list < count_of old.placed → rows_in new.placed list ≡ rows_in old.placed list = (λ list lt. sym (k.rows list (omega (arith, lt, count)))) in
+    let nexts : (client : ℕ) → next_clock new.placed client ≡ next_clock old.placed client = (λ client. sym (k.nexts client)) in
+    record {
+      names = refl;
+      count = count;
+      lists = λ list lt. sym (k.lists list (omega (arith, lt, count)));
+      rows = rows;
+      operations = λ o. ((k.operations o).1, (k.operations o).0);
+      marks = λ id. ((k.marks id).1, (k.marks id).0);
+      live = sym k.live;
+      nexts = nexts;
+      filled = rows_stay names old new count rows nexts;
+    }
 
 pub held_itself : (it : KeptValue) → KeepsHeld it it
 held_itself it = units_keep it.names it.store it.store (keeps_itself it.store)

@@ -85,6 +85,19 @@ pub record KeepsHeld (old new : KeptValue) : Type 0 where
   pub borders : (client clock : ℕ) → IsBorder (runs_of old.store.placed) client clock → IsBorder (runs_of new.store.placed) client clock
   pub filled : StaysFilled old new
 
+-- each list has the operations that it had, in their order, with the rights that the order sees, its name, its live units and its marks; no list and no
+-- clock is added; but a run may go over a clock where two met
+pub record JoinsHeld (old new : KeptValue) : Type 0 where
+  pub names : new.names ≡ old.names
+  pub count : count_of new.store.placed ≡ count_of old.store.placed
+  pub lists : (list : ℕ) → list < count_of old.store.placed → operations_in new.store list ≡ operations_in old.store list
+  pub rows : (list : ℕ) → list < count_of old.store.placed → rows_in new.store.placed list ≡ rows_in old.store.placed list
+  pub operations : (o : Operation) → HasOperation new.store o ↔ HasOperation old.store o
+  pub marks : (id : Id) → HasMarked new.store id ↔ HasMarked old.store id
+  pub live : new.store.marks.live ≡ old.store.marks.live
+  pub nexts : (client : ℕ) → next_clock new.store.placed client ≡ next_clock old.store.placed client
+  pub filled : StaysFilled old new
+
 -- a run goes into a list, which may be made for it, and there its units stand in a row where the scan puts the first
 pub record HoldsRun (old new : KeptValue) (run : RunValue) : Type 0 where
   pub ready : KeptValue

@@ -7,7 +7,7 @@ ghost use Rattle.yd_store.specs.Units.{KeepsUnits};
 ghost use Rattle.yd_store.specs.Deleting.{DeletesUnits};
 ghost use Rattle.yd_store.specs.Lowering.{LowersUnits};
 ghost use Rattle.yd_store.specs.Taking.{TakesBack};
-ghost use Rattle.yd_kept.specs.Kept.{StaysFilled};
+ghost use Rattle.yd_kept.specs.Kept.{StaysFilled, JoinsHeld};
 
 use crate::kept::Kept;
 use yd_ids::{Client, Span};
@@ -59,5 +59,13 @@ impl Kept {
         ensures names { self.new.names ≡ self.old.names }
     {
         self.store.take_back(client, clock);
+    }
+
+    /// Joins the last run to the one before it in its list, where both can be one: see
+    /// `Store::join_last`. No unit changes. Where it finds no memory, both stay as they are.
+    pub fn join_last(&mut self)
+        ensures { JoinsHeld self.old self.new }
+    {
+        let _ = self.store.join_last();
     }
 }
