@@ -2,7 +2,7 @@
 
 use crate::step::Case;
 use crate::step::Step::{
-    self, Add, Back, Delete, Deleted, EmptyLost, Gone, Lost, Lower, Mark, Put, Split,
+    self, Add, Back, Delete, Deleted, EmptyLost, Gone, Join, Lost, Lower, Mark, Put, Split,
 };
 
 /// Three runs at the front: `B` and `A` have no origins, and `C` stands before `B`.
@@ -165,6 +165,72 @@ pub const CUTS: [Case; 19] = [
         Add((1, 0), "a"),
         Add((2, 0), "bc"),
         Mark((2, 0), 1),
+    ),
+];
+
+/// The cases in which runs are joined, and those in which they are not.
+pub const JOINS: [Case; 9] = [
+    Case {
+        name: "letters that are typed are one run",
+        steps: &[
+            A_BY_1,
+            B_BEHIND_A,
+            Join,
+            Put(0, (1, 2), Some((1, 1)), None, "c"),
+            Join,
+        ],
+        ids: &[(1, 0), (1, 1), (1, 2), (1, 3)],
+    },
+    case!(
+        "a run that is split is joined again",
+        Put(0, (1, 0), None, None, "abcdef"),
+        Split((1, 2)),
+        Join,
+    ),
+    case!(
+        "the halves of a pair are joined",
+        Put(0, (1, 0), None, None, "a😀b"),
+        Split((1, 2)),
+        Join,
+    ),
+    Case {
+        name: "deleted runs are joined",
+        steps: &[A_BY_1, B_BEHIND_A, Delete((1, 0), 2), Join],
+        ids: &[(1, 1)],
+    },
+    case!(
+        "units that are known by their neighbours are joined",
+        Deleted((1, 0), None, 1),
+        Deleted((1, 1), Some((1, 0)), 2),
+        Join,
+    ),
+    case!(
+        "a deleted run is not joined to a live one",
+        A_BY_1,
+        B_BEHIND_A,
+        Delete((1, 1), 1),
+        Join,
+    ),
+    case!(
+        "a run is not joined over another",
+        A_BY_1,
+        Put(0, (0, 0), Some((1, 0)), None, "x"),
+        B_BEHIND_A,
+        Join,
+    ),
+    case!(
+        "a run with another right origin is not joined",
+        A_BY_1,
+        Put(0, (2, 0), Some((1, 0)), None, "z"),
+        Put(0, (1, 1), Some((1, 0)), Some((2, 0)), "b"),
+        Join,
+    ),
+    case!(
+        "units that were typed before another run are not joined",
+        A_BY_1,
+        B_BEHIND_A,
+        R_BY_9,
+        Join,
     ),
 ];
 

@@ -39,6 +39,7 @@ pub fn change(alloc: Global, store: &mut Store, step: Step) -> Result<(), NoMemo
         Step::Lower(at, len) => lower(store, span_of(at, len)),
         Step::EmptyLost(at, len) => empty_lost(store, span_of(at, len)),
         Step::Back(at) => take_back(store, id_of(at)),
+        Step::Join => join(store),
     }
 }
 
@@ -222,5 +223,13 @@ fn take_back(store: &mut Store, id: Id) -> Result<(), NoMemory>
         store.part_at(id)?;
         store.take_back(id.client, id.clock);
     }
+    Ok(())
+}
+
+/// Joins the last run, if that can be.
+fn join(store: &mut Store) -> Result<(), NoMemory>
+    ensures { count_of store.new.placed ≡ count_of store.old.placed }
+{
+    store.join_last()?;
     Ok(())
 }

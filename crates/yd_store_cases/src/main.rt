@@ -13,7 +13,7 @@ mod playing;
 mod step;
 mod telling;
 
-use crate::cases::{CUTS, LOSSES, SCANS};
+use crate::cases::{CUTS, JOINS, LOSSES, SCANS};
 use crate::playing::{Retries, play_case};
 use std::process::ExitCode;
 use yd_world::{Sink, StdSink};
@@ -24,7 +24,7 @@ fn main(rt: HostRuntime) -> ExitCode {
         wrong: false,
     };
     let mut lines = Vec::new(rt.alloc());
-    for case in CUTS.iter().chain(&LOSSES).chain(&SCANS) {
+    for case in CUTS.iter().chain(&JOINS).chain(&LOSSES).chain(&SCANS) {
         if play_case(rt.alloc(), case, &mut lines, &mut retries).is_err() {
             return ExitCode::from(5);
         }

@@ -28,6 +28,8 @@ pub enum Step {
     EmptyLost(At, u64),
     /// The client's units from this id on are taken out again.
     Back(At),
+    /// The last run is joined to the one before it in its list, if both can be one.
+    Join,
 }
 
 /// Changes in the order in which they come, and what is asked then.
