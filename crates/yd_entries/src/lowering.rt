@@ -55,6 +55,7 @@ pub fn lower(
         ↔ SaysMore id len level (operations_in runs.old.items taken.old.items)) }
     ensures unchanged { IfOk result (λ says. OnFalse says
         (AreUnchanged runs.old.items taken.old.items runs.new.items taken.new.items)) }
+    ensures aside { IfOk result (λ says. OnFalse says (before.new ≡ before.old)) }
     ensures grows { GrowBy runs.old.items runs.new.items }
     ensures backed { IsBacked (length runs.old.items) before.old taken.old.items
         before.new taken.new.items }
