@@ -1,5 +1,5 @@
 -- What an update did, at the end of it; and what is put back where memory ended.
-use Rattle.std.proofs.Common.{◌≡◌, ◌↔◌, ℕ, Bool, true, false, List, map, length, take, Option, Some, None, refl, sym, ap, ◌∙◌, subst}
+use Rattle.std.proofs.Common.{◌≡◌, ◌↔◌, ℕ, Bool, true, false, List, map, length, take, Option, Some, None, refl, sym, ap, ◌∙◌, subst, true≢false}
 use Rattle.std.specs.Prelude.{filter, IsTrue}
 use Rattle.std.specs.Bool.{OnFalse}
 use Rattle.std.specs.Global.{Vec}
@@ -11,8 +11,8 @@ use Rattle.yd_entries.specs.declared.entry.Entry.{Entry}
 use Rattle.yd_entries.specs.declared.place.Place.TheVariants.{Waits}
 use Rattle.yd_entries.specs.Entries.{AreTaken, is_held, is_of_first, OnlyAdds, GrowBy}
 use Rattle.yd_entries.specs.Lowering.{IsBacked}
-use Rattle.yd_received.specs.Received.{ReceivedValue, brings, IsBrought, with_place}
-use Rattle.yd_received.specs.Structs.{TakesIn, kept_of, IsBroughtBy}
+use Rattle.yd_received.specs.Received.{ReceivedValue, brings, lowers, LowersOne, IsBrought, with_place}
+use Rattle.yd_received.specs.Structs.{TakesIn, KeepsToLower, kept_of, IsBroughtBy}
 use Rattle.yd_entries.specs.Taking.{AreUnchanged}
 use Rattle.yd_received.proofs.PlacingLemmas.{operations-wait, are_taken-wait, none_held-wait}
 use Rattle.yd_received.proofs.RestoringLemmas.{first_back, front_back}
@@ -49,6 +49,18 @@ module _ (count : ℕ) (before : Option (Vec Entry)) (more : Bool) (old_runs run
       go (Some kept) true Nothing b = absurd b.1
       go (Some kept) true Added b = absurd b.1
       go (Some kept) true (Lowered entries) b = refl
+
+  pub end_lowers : (os received : List Operation) → KeepsToLower None before os received → IsBroughtBy count before mid more new result → IsTrue (lowers result) → LowersOne os received
+  end_lowers os received kept brought lowered = go before more kept brought
+    where
+      not_lowered : (r : Brought) → lowers r ≡ false → result ≡ r → ⊥
+      not_lowered r none e = true≢false (sym lowered ∙ ap lowers e ∙ none)
+
+      go : (before : Option (Vec Entry)) (more : Bool) → KeepsToLower None before os received → IsBroughtBy count before mid more new result → LowersOne os received
+      go None false kept b = absurd (not_lowered Nothing refl b.1)
+      go None true kept b = absurd (not_lowered Added refl b.1)
+      go (Some aside) false kept b = kept
+      go (Some aside) true kept b = kept
 
   pub end_brought : AreTaken old_runs old → count ≡ length old_runs → OnFalse more (AreUnchanged old_runs old runs mid) → IsBacked (length old_runs) None old before mid →
       IsBroughtBy count before mid more new result → IsBrought result (record { runs = old_runs; entries = old }) (record { runs = runs; entries = new })

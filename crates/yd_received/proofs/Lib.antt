@@ -1,4 +1,5 @@
 pub mod EndLemmas
+pub mod LoweringLemmas
 pub mod PlacingLemmas
 pub mod RestoringLemmas
 pub mod SequenceLemmas

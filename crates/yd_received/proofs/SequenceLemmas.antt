@@ -1,8 +1,10 @@
--- Structs and blocks that are taken in one after another, and whether they bring something.
-use Rattle.std.proofs.Common.{◌≡◌, ◌↔◌, ℕ, zero, suc, ◌+◌, ◌<◌, Bool, true, false, ◌||◌, List, [], ◌∷◌, ◌++◌, length, take, map, get_or, inl, inr, refl, sym, ap, ap₂, ◌∙◌, subst, arith, append-nil, append_assoc, true≢false}
+-- Structs and blocks that are taken in one after another, whether they bring something, and for what entries are kept aside.
+use Rattle.std.proofs.Common.{◌≡◌, ◌↔◌, ℕ, zero, suc, ◌+◌, ◌<◌, Bool, true, false, ◌||◌, List, [], ◌∷◌, ◌++◌, Option, length, take, map, get_or, inl, inr, refl, sym, ap, ap₂, ◌∙◌, subst, arith, append-nil, append_assoc, true≢false}
 use Rattle.std.specs.Prelude.{IsTrue}
 use Rattle.std.specs.Bool.{OnFalse}
+use Rattle.std.specs.Global.{Vec}
 use Rattle.std.proofs.lemmas.List.{map_more}
+use Rattle.yd_words.specs.Member.{IsIn}
 use Rattle.yd_words.proofs.MemberLemmas.{in_left_part, in_right_part, in_parts}
 use Rattle.yd_ids.specs.declared.id.Client.{Client}
 use Rattle.yd_ids.specs.declared.id.Id.{Id}
@@ -15,14 +17,16 @@ use Rattle.yd_ops.specs.Value.{RunValue, clocks_of, StructValue, item, gone, Blo
 use Rattle.yd_ops.specs.Valid.{AreStructsFrom}
 use Rattle.yd_ops.specs.View.{struct_value, block_value}
 use Rattle.yd_ops.specs.Received.{with_groups, groups_of_structs, groups_of_blocks}
+use Rattle.yd_ops.proofs.GroupLemmas.{all_of, update_groups}
 use Rattle.yd_ops.proofs.MendingLemmas.{paired_has, mended_whole}
 use Rattle.yd_ops.proofs.TurnLemmas.{with_groups-append}
 use Rattle.yd_entries.specs.declared.entry.Entry.{Entry}
 use Rattle.yd_entries.specs.Entries.{AreTaken, operations_in, GrowBy}
-use Rattle.yd_received.specs.Structs.{IsStructOf, TakesIn, gone_run}
+use Rattle.yd_received.specs.Structs.{IsStructOf, TakesIn, KeepsToLower, gone_run}
 use Rattle.yd_entries.specs.Taking.{BringsOne, IsRun, AreUnchanged}
+use Rattle.yd_received.proofs.LoweringLemmas.{HasSource, groups_sources, keeps_more}
 use Rattle.yd_received.proofs.StructLemmas.{unchanged_more}
-use Rattle.yd_entries.proofs.TakenLemmas.{grow_none, grow_more}
+use Rattle.yd_entries.proofs.TakenLemmas.{in_written, grow_none, grow_more}
 
 -- ---- one after another
 
@@ -165,6 +169,49 @@ module _ (a b c : List Run) (x y z : List Entry) (s t : Bool) where
       map_more block_value xs n d lt ∙ ap (λ e. map block_value (take n xs) ++ block_value e ∷ []) (sym here) in
       rw (all, groups_of_blocks-push (map block_value (take n xs)) (block_value d), operations_of_blocks-push (map block_value (take n xs)) (block_value d))
       (taken_more a b c x y z _ _ _ _ s t first takes some same grows)
+
+-- ---- what is kept aside
+
+groups_all : (bs : List BlockValue) → all_of (groups_of_blocks bs) ≡ operations_of_blocks bs
+groups_all bs = update_groups (record { blocks = bs; deletes = [] })
+
+-- those of structs are those of a block of them
+structs_all : (client : Client) (clock : ℕ) (ss : List StructValue) → all_of (groups_of_structs client clock ss) ≡ operations_of_structs client clock ss
+structs_all client clock ss = ap all_of (sym (append-nil (groups_of_structs client clock ss))) ∙ groups_all (record { client = client; clock = clock; structs = ss } ∷ [])
+    ∙ append-nil (operations_of_structs client clock ss)
+
+module _ (a b : List Run) (x y : List Entry) (s : Bool) (k l m : Option (Vec Entry)) (are : AreTaken a x) where
+  keeps_next : (gs : List (List Operation)) (os ps : List Operation) → all_of gs ≡ os → IsTakenIn a x b y gs os s →
+      KeepsToLower k l os (operations_in a x) → KeepsToLower l m ps (operations_in b y) → KeepsToLower k m (os ++ ps) (operations_in a x)
+  keeps_next gs os ps all first kept next = keeps_more k l m os ps (operations_in a x) (operations_in b y) from kept next
+    where
+      from : (q : Operation) → IsIn q (operations_in b y) → HasSource (operations_in a x ++ os) q
+      from q i = subst (λ rs. HasSource (operations_in a x ++ rs) q) all
+          (groups_sources gs (operations_in a x) (in_written a x are.each are.in_order) q (subst (λ rs. IsIn q rs) first.takes.received i))
+
+  -- one struct more
+  pub struct_keeps : (client : Client) (clock : ℕ) (xs : List Struct) (n at : ℕ) (d : Struct) → n < length xs → d ≡ get_or xs n d → at ≡ clock + clocks_of_all (map struct_value (take n xs)) →
+      IsTakenIn a x b y (groups_of_structs client clock (map struct_value (take n xs))) (operations_of_structs client clock (map struct_value (take n xs))) s →
+      KeepsToLower k l (operations_of_structs client clock (map struct_value (take n xs))) (operations_in a x) →
+      KeepsToLower l m (operations_of_struct client at (struct_value d)) (operations_in b y) →
+      KeepsToLower k m (operations_of_structs client clock (map struct_value (take (n + 1) xs))) (operations_in a x)
+  struct_keeps client clock xs n at d lt here e first kept next =
+      let all : map struct_value (take (n + 1) xs) ≡ map struct_value (take n xs) ++ struct_value d ∷ [] =
+      map_more struct_value xs n d lt ∙ ap (λ r. map struct_value (take n xs) ++ struct_value r ∷ []) (sym here) in
+      rw (all, operations_push client clock (map struct_value (take n xs)) (struct_value d), sym e)
+      (keeps_next _ _ _ (structs_all client clock (map struct_value (take n xs))) first kept next)
+
+  -- one block more
+  pub block_keeps : (xs : List Block) (n : ℕ) (d : Block) → n < length xs → d ≡ get_or xs n d →
+      IsTakenIn a x b y (groups_of_blocks (map block_value (take n xs))) (operations_of_blocks (map block_value (take n xs))) s →
+      KeepsToLower k l (operations_of_blocks (map block_value (take n xs))) (operations_in a x) →
+      KeepsToLower l m (operations_of_structs (block_value d).client (block_value d).clock (block_value d).structs) (operations_in b y) →
+      KeepsToLower k m (operations_of_blocks (map block_value (take (n + 1) xs))) (operations_in a x)
+  block_keeps xs n d lt here first kept next =
+      let all : map block_value (take (n + 1) xs) ≡ map block_value (take n xs) ++ block_value d ∷ [] =
+      map_more block_value xs n d lt ∙ ap (λ e. map block_value (take n xs) ++ block_value e ∷ []) (sym here) in
+      rw (all, operations_of_blocks-push (map block_value (take n xs)) (block_value d))
+      (keeps_next _ _ _ (groups_all (map block_value (take n xs))) first kept next)
 
 -- ---- one struct
 

@@ -1,7 +1,8 @@
 -- A struct is taken in: its new operations are added, and it lowers what was there.
-use Rattle.std.proofs.Common.{◌≡◌, ◌↔◌, Bool, true, false, ◌||◌, List, [], ◌∷◌, inl, inr, refl, sym, ap, ◌∙◌, subst, arith, true≢false}
+use Rattle.std.proofs.Common.{◌≡◌, ◌↔◌, Bool, true, false, ◌||◌, List, [], ◌∷◌, ◌<◌, Option, Some, None, inl, inr, refl, sym, ap, ◌∙◌, subst, arith, true≢false}
 use Rattle.std.specs.Prelude.{IsTrue}
 use Rattle.std.specs.Bool.{OnTrue, OnFalse}
+use Rattle.std.specs.Global.{Vec}
 use Rattle.std.proofs.lemmas.Bool.{cases_Bool, or_cases, or_left, or_right}
 use Rattle.yd_words.specs.Member.{IsIn}
 use Rattle.yd_ops.specs.declared.runs.Run.{Run}
@@ -19,7 +20,8 @@ use Rattle.yd_ops.proofs.RunLemmas.{run_partners, run_written}
 use Rattle.yd_entries.specs.declared.entry.Entry.{Entry}
 use Rattle.yd_entries.specs.Entries.{AreTaken, operations_in}
 use Rattle.yd_entries.specs.Lowering.{is_among, lowered_with, level_of_content, level_from, SaysMore, Lowers}
-use Rattle.yd_received.specs.Structs.{TakesIn}
+use Rattle.yd_received.specs.Structs.{TakesIn, KeepsToLower}
+use Rattle.yd_received.proofs.LoweringLemmas.{lowers_received}
 use Rattle.yd_entries.specs.Taking.{BringsOne, IsRun, operations_from_run, IsParted, IsAdded, AddsGroup, AddsOne, AreUnchanged}
 use Rattle.yd_entries.proofs.BorderLemmas.{map_alike}
 use Rattle.yd_entries.proofs.LoweredLemmas.{IsLess, AreWith, lowered_group}
@@ -136,6 +138,16 @@ module _ (is_gone : Bool) (runs : List Run) (old : List Entry) (run : RunValue) 
         in_order = adds.in_order;
       })))
 
+  -- where one says more than the level, it was there before, and one of the group has its id
+  says_more : SaysMore run.id (len_of run.content) (level_from is_gone) (operations_in mid_runs mid) →
+      (o : Operation) × IsIn o group × (p : Operation) × IsIn p (operations_in runs old) × (p.id ≡ o.id) × (level_of o.content < level_of p.content)
+  says_more (p, j, among, higher) = elim ((both p).0 j) [
+    | inl k ↦
+        let (o, i, e) = operation_with group p.id (less.ids p.id ∙ among) in
+        (o, i, p, k, sym e, omega (arith, less.levels o i, higher))
+    | inr (k, new) ↦ absurd (omega (arith, less.levels p k, higher))
+  ]
+
   -- it brings something exactly where it has a new id, or lowers something
   pub less_brings : (added lowered : Bool) → IsTrue added ↔ AddsOne (operations_from_run is_gone run) (operations_in runs old) →
       IsTrue lowered ↔ SaysMore run.id (len_of run.content) (level_from is_gone) (operations_in mid_runs mid) →
@@ -146,12 +158,7 @@ module _ (is_gone : Bool) (runs : List Run) (old : List Entry) (run : RunValue) 
       by_new (o, i, new) = (o, i, inl new)
 
       by_more : SaysMore run.id (len_of run.content) (level_from is_gone) (operations_in mid_runs mid) → BringsOne group (operations_in runs old)
-      by_more (p, j, among, higher) = elim ((both p).0 j) [
-        | inl k ↦
-            let (o, i, e) = operation_with group p.id (less.ids p.id ∙ among) in
-            (o, i, inr (p, k, sym e, omega (arith, less.levels o i, higher)))
-        | inr (k, new) ↦ absurd (omega (arith, less.levels p k, higher))
-      ]
+      by_more more = let (o, i, p, k, e, higher) = says_more more in (o, i, inr (p, k, e, higher))
 
       back : BringsOne group (operations_in runs old) → IsTrue (added || lowered)
       back (o, i, inl new) = or_left added lowered (some.1 (o, i, new))
@@ -161,6 +168,15 @@ module _ (is_gone : Bool) (runs : List Run) (old : List Entry) (run : RunValue) 
         ap (λ x. is_among run.id (len_of run.content) x) e ∙ sym (less.ids o.id) ∙ id_is_there group o i,
         omega (arith, less.levels o i, higher),
       ))
+
+  -- entries are kept aside only where it lowers something
+  pub less_keeps : (lowered : Bool) (before now : Option (Vec Entry)) → IsTrue lowered ↔ SaysMore run.id (len_of run.content) (level_from is_gone) (operations_in mid_runs mid) →
+      OnFalse lowered (now ≡ before) → KeepsToLower before now (operations_from_run is_gone run) (operations_in runs old)
+  less_keeps lowered (Some before) now more same = tt
+  less_keeps lowered None None more same = tt
+  less_keeps false None (Some kept) more same = subst (λ b. KeepsToLower None b group (operations_in runs old)) (sym same) tt
+  less_keeps true None (Some kept) more same =
+      let (o, i, p, k, e, higher) = says_more (more.0 refl) in lowers_received group (operations_in runs old) o p i k e higher
 
 -- where neither of two changed anything, nothing changed
 pub unchanged_more : (a b c : List Run) (x y z : List Entry) (s t : Bool) → OnFalse s (AreUnchanged a x b y) → OnFalse t (AreUnchanged b y c z) →

@@ -1,10 +1,11 @@
 -- What contracts see of a `Received`, and how it changes (own).
-use Rattle.std.specs.Prelude.{◌≡◌, ℕ, Bool, true, false, nat_lt, List, [], Some, map, filter, set, slice_get, take, length, if◌then◌else◌}
+use Rattle.std.specs.Prelude.{◌≡◌, ℕ, ◌<◌, Bool, true, false, nat_lt, List, [], ◌∷◌, ◌++◌, Some, map, filter, set, slice_get, take, length, if◌then◌else◌}
+use Rattle.yd_words.specs.Member.{IsIn}
 use Rattle.yd_ids.specs.declared.id.Client.{Client}
 use Rattle.yd_ids.specs.declared.id.Id.{Id}
 use Rattle.yd_ids.specs.Vector.{clock_of}
 use Rattle.yd_ops.specs.declared.runs.Run.{Run}
-use Rattle.yd_ops.specs.Operation.{Operation}
+use Rattle.yd_ops.specs.Operation.{Operation, level_of}
 use Rattle.yd_received.specs.declared.brought.Brought.{Brought}
 use Rattle.yd_received.specs.declared.brought.Brought.TheVariants.{Nothing, Added, Lowered}
 use Rattle.yd_entries.specs.declared.entry.Entry.{Entry}
@@ -40,6 +41,23 @@ abbrev pub brings : Brought → Bool
 brings Nothing = false
 brings Added = true
 brings (Lowered before) = true
+
+-- whether it lowered something
+abbrev pub lowers : Brought → Bool
+lowers Nothing = false
+lowers Added = false
+lowers (Lowered before) = true
+
+-- one of the operations says less than a received one, or an earlier one of them, that has its id
+pub record LowersOne (os received : List Operation) : Type 0 where
+  pub earlier : List Operation
+  pub later : List Operation
+  pub less : Operation
+  pub more : Operation
+  pub among : os ≡ earlier ++ less ∷ later
+  pub there : IsIn more (received ++ earlier)
+  pub same_id : more.id ≡ less.id
+  pub says_less : level_of less.content < level_of more.content
 
 -- nothing changed, or waiting units were added, or all waits and what was there is told
 abbrev pub IsBrought : Brought → ReceivedValue → ReceivedValue → Type 0

@@ -13,7 +13,7 @@ use Rattle.yd_received.specs.declared.brought.Brought.TheVariants.{Nothing, Adde
 use Rattle.yd_entries.specs.declared.entry.Entry.{Entry}
 use Rattle.yd_entries.specs.declared.place.Place.TheVariants.{Waits}
 use Rattle.yd_entries.specs.Entries.{AreTaken, operations_in, is_of_first}
-use Rattle.yd_received.specs.Received.{with_place}
+use Rattle.yd_received.specs.Received.{LowersOne, with_place}
 
 -- the struct begins at the id, and ends at a clock
 pub record IsStructOf (id : Id) (s : StructValue) : Type 0 where
@@ -29,6 +29,12 @@ gone_run id count = record { id = id; left = None; right = None; list = None; co
 pub record TakesIn (old_runs : List Run) (old : List Entry) (runs : List Run) (taken : List Entry) (groups : List (List Operation)) : Type 0 where
   pub received : operations_in runs taken ≡ with_groups groups (operations_in old_runs old)
   pub kept : AreTaken runs taken
+
+-- where no entries were kept aside and some are now, one of the operations says less than one that was there
+abbrev pub KeepsToLower : Option (Vec Entry) → Option (Vec Entry) → List Operation → List Operation → Type 0
+KeepsToLower None None os received = Unit {0}
+KeepsToLower None (Some kept) os received = LowersOne os received
+KeepsToLower (Some before) new os received = Unit {0}
 
 -- ---- the end
 

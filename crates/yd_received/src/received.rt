@@ -4,11 +4,13 @@ ghost use Rattle.std.specs.Prelude.{◌≡◌, ◌≢◌, ◌↔◌, ◌<◌, []
 ghost use Rattle.std.specs.Prelude.{HoldsAt, true};
 ghost use Rattle.std.specs.Global.{Global as Allocator};
 ghost use Rattle.yd_words.specs.Each.{Each};
+ghost use Rattle.yd_ops.specs.Operation.{operations_of};
 ghost use Rattle.yd_ops.specs.Valid.{IsValidUpdate};
 ghost use Rattle.yd_ops.specs.View.{update_value};
 ghost use Rattle.yd_ops.specs.Received.{with_groups, groups_of};
 ghost use Rattle.yd_entries.specs.Entries.{covers, GrowBy};
-ghost use Rattle.yd_received.specs.Received.{IsReceived, taken_of, brings, IsBrought, GetsPlace, put_back, put_back_entries};
+ghost use Rattle.yd_received.specs.Received.{IsReceived, taken_of, brings, lowers, LowersOne};
+ghost use Rattle.yd_received.specs.Received.{IsBrought, GetsPlace, put_back, put_back_entries};
 ghost use Rattle.yd_entries.specs.Taking.{is_covered, BringsOperation};
 
 use crate::brought::Brought;
@@ -93,6 +95,8 @@ impl Received {
             ≡ with_groups (groups_of (update_value update.now)) (taken_of self.old)) }
         ensures brings { IfOk result (λ brought. IsTrue (brings brought)
             ↔ BringsOperation (update_value update.now) (taken_of self.old)) }
+        ensures lowers { IfOk result (λ brought. IsTrue (lowers brought)
+            → LowersOne (operations_of (update_value update.now)) (taken_of self.old)) }
         ensures brought { IfOk result (λ brought. IsBrought brought self.old self.new) }
         ensures kept { IsReceived self.new }
         ensures grows { OnOk result (GrowBy self.old.runs self.new.runs) }

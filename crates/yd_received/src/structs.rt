@@ -12,7 +12,7 @@ ghost use Rattle.yd_ops.specs.Received.{groups_of_structs, groups_of_blocks};
 ghost use Rattle.yd_entries.specs.Entries.{AreTaken, operations_in, GrowBy};
 ghost use Rattle.yd_entries.specs.Lowering.{level_of_content, IsBacked};
 ghost use Rattle.yd_entries.specs.Taking.{BringsOne, AreUnchanged, IsRun, operations_from_run};
-ghost use Rattle.yd_received.specs.Structs.{IsStructOf, TakesIn, gone_run};
+ghost use Rattle.yd_received.specs.Structs.{IsStructOf, TakesIn, KeepsToLower, gone_run};
 
 use std::alloc::Global;
 use yd_entries::{Entry, NoMemory, add_run, level_from, lower};
@@ -37,6 +37,9 @@ pub(crate) fn take_blocks(
         (operations_in runs.old.items taken.old.items)) }
     ensures unchanged { IfOk result (λ brings. OnFalse brings
         (AreUnchanged runs.old.items taken.old.items runs.new.items taken.new.items)) }
+    ensures lowers { OnOk result (KeepsToLower before.old before.new
+        (operations_of_blocks (map block_value blocks.now))
+        (operations_in runs.old.items taken.old.items)) }
     ensures grows { GrowBy runs.old.items runs.new.items }
     ensures backed { IsBacked (length runs.old.items) before.old taken.old.items
         before.new taken.new.items }
@@ -74,6 +77,9 @@ fn take_structs(
         (operations_in runs.old.items taken.old.items)) }
     ensures unchanged { IfOk result (λ brings. OnFalse brings
         (AreUnchanged runs.old.items taken.old.items runs.new.items taken.new.items)) }
+    ensures lowers { OnOk result (KeepsToLower before.old before.new
+        (operations_of_structs first.client first.clock (map struct_value structs.now))
+        (operations_in runs.old.items taken.old.items)) }
     ensures grows { GrowBy runs.old.items runs.new.items }
     ensures backed { IsBacked (length runs.old.items) before.old taken.old.items
         before.new taken.new.items }
@@ -111,6 +117,9 @@ fn take_struct(
         (operations_in runs.old.items taken.old.items)) }
     ensures unchanged { IfOk result (λ brings. OnFalse brings
         (AreUnchanged runs.old.items taken.old.items runs.new.items taken.new.items)) }
+    ensures lowers { OnOk result (KeepsToLower before.old before.new
+        (operations_of_struct id.client id.clock (struct_value entry.now))
+        (operations_in runs.old.items taken.old.items)) }
     ensures grows { GrowBy runs.old.items runs.new.items }
     ensures backed { IsBacked (length runs.old.items) before.old taken.old.items
         before.new taken.new.items }
@@ -159,6 +168,9 @@ fn take_run(
         (operations_in runs.old.items taken.old.items)) }
     ensures unchanged { IfOk result (λ brings. OnFalse brings
         (AreUnchanged runs.old.items taken.old.items runs.new.items taken.new.items)) }
+    ensures lowers { OnOk result (KeepsToLower before.old before.new
+        (operations_of_run (run_value run.now))
+        (operations_in runs.old.items taken.old.items)) }
     ensures grows { GrowBy runs.old.items runs.new.items }
     ensures backed { IsBacked (length runs.old.items) before.old taken.old.items
         before.new taken.new.items }
@@ -199,6 +211,9 @@ fn take_less(
         (operations_in runs.old.items taken.old.items)) }
     ensures unchanged { IfOk result (λ brings. OnFalse brings
         (AreUnchanged runs.old.items taken.old.items runs.new.items taken.new.items)) }
+    ensures lowers { OnOk result (KeepsToLower before.old before.new
+        (operations_from_run is_gone (run_value run.now))
+        (operations_in runs.old.items taken.old.items)) }
     ensures grows { GrowBy runs.old.items runs.new.items }
     ensures backed { IsBacked (length runs.old.items) before.old taken.old.items
         before.new taken.new.items }

@@ -1,12 +1,13 @@
 //! Taking in an update, and what that did.
 
 ghost use Rattle.std.specs.Prelude.{◌≡◌, ◌↔◌, filter, IsTrue, OnOk, OnErr, IfOk};
+ghost use Rattle.yd_ops.specs.Operation.{operations_of};
 ghost use Rattle.yd_ops.specs.Valid.{IsValidUpdate};
 ghost use Rattle.yd_ops.specs.View.{update_value};
 ghost use Rattle.yd_ops.specs.Received.{groups_of};
 ghost use Rattle.yd_entries.specs.Entries.{AreTaken, operations_in, is_of_first, GrowBy};
 ghost use Rattle.yd_entries.specs.Taking.{BringsOperation, AreUnchanged};
-ghost use Rattle.yd_received.specs.Received.{brings, IsBrought};
+ghost use Rattle.yd_received.specs.Received.{brings, lowers, LowersOne, IsBrought};
 ghost use Rattle.yd_received.specs.Structs.{TakesIn, kept_of, IsBroughtBy};
 
 use crate::brought::Brought;
@@ -27,6 +28,9 @@ pub(crate) fn take_update(
         runs.new.items taken.new.items (groups_of (update_value update.now))) }
     ensures brings { IfOk result (λ brought. IsTrue (brings brought)
         ↔ BringsOperation (update_value update.now)
+        (operations_in runs.old.items taken.old.items)) }
+    ensures lowers { IfOk result (λ brought. IsTrue (lowers brought)
+        → LowersOne (operations_of (update_value update.now))
         (operations_in runs.old.items taken.old.items)) }
     ensures brought { IfOk result (λ brought. IsBrought brought
         (record { runs = runs.old.items; entries = taken.old.items })

@@ -1,6 +1,6 @@
 use Rattle.yd_ops.specs.View.{run_value}
 use Rattle.yd_entries.proofs.BackedLemmas.{backed_adds, backed_grown}
-use Rattle.yd_received.proofs.StructLemmas.{less_taken, less_brings}
+use Rattle.yd_received.proofs.StructLemmas.{less_taken, less_brings, less_keeps}
 use Rattle.yd_received.proofs.structs.take_less.Goals as goal
 
 pub returns-clause-taken : goal.returns-clause-taken
@@ -20,3 +20,9 @@ pub returns-clause-backed : goal.returns-clause-backed
 returns-clause-backed c =
     backed_grown c.args.runs.now.items c.add_run.new.runs.items c.args.before.now c.args.before.now c.lower.new.before c.args.taken.now.items c.add_run.new.taken.items c.lower.new.taken.items
     c.in_ok-adds.ensures.grows (backed_adds _ c.args.before.now c.args.taken.now.items c.add_run.new.taken.items c.in_ok-adds.ensures.adds) c.in_ok-lowers.ensures.backed
+
+pub returns-clause-lowers : goal.returns-clause-lowers
+returns-clause-lowers c =
+    less_keeps c.args.is_gone c.args.runs.now.items c.args.taken.now.items (run_value c.args.run.now) c.requires.taken c.requires.run c.requires.deleted
+    c.add_run.new.runs.items c.add_run.new.taken.items c.in_ok-adds.ensures.added c.in_ok-lowers.lowers c.args.before.now c.lower.new.before
+    (rw (c.len.ensures, c.level_from-level.ensures) at c.in_ok-lowers.ensures.says) c.in_ok-lowers.ensures.aside

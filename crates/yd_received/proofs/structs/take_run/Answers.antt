@@ -1,6 +1,7 @@
 use Rattle.std.proofs.Common.{sym, ◌∙◌}
 use Rattle.yd_ops.specs.View.{run_value, content_value}
 use Rattle.yd_entries.proofs.SpelledLemmas.{full_content}
+use Rattle.yd_received.proofs.LoweringLemmas.{keeps_none}
 use Rattle.yd_received.proofs.StructLemmas.{full_takes, full_brings}
 use Rattle.yd_received.proofs.structs.take_run.Goals as goal
 
@@ -13,3 +14,6 @@ pub returns-clause-brings : goal.returns-clause-brings
 returns-clause-brings c =
     full_brings c.args.runs.now.items c.args.taken.now.items (run_value c.args.run.now) c.requires.taken c.requires.run
     (full_content (content_value c.args.run.now.content) (sym c.is_deleted.ensures ∙ c.if-is_deleted.false)) c.in_ok-brings-2.brings c.in_ok-brings-2.ensures.says
+
+pub returns-clause-lowers : goal.returns-clause-lowers
+returns-clause-lowers c = keeps_none c.args.before.now _ _

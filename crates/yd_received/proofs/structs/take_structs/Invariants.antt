@@ -2,7 +2,9 @@ use Rattle.std.proofs.Common.{◌≡◌, ◌+◌, length, map, take}
 use Rattle.yd_ops.specs.Operation.{operations_of_structs}
 use Rattle.yd_ops.specs.View.{struct_value}
 use Rattle.yd_ops.specs.Received.{groups_of_structs}
+use Rattle.yd_entries.specs.Entries.{operations_in}
 use Rattle.yd_entries.specs.Lowering.{IsBacked}
+use Rattle.yd_received.specs.Structs.{KeepsToLower}
 use Rattle.yd_received.proofs.SequenceLemmas.{IsTakenIn, clocks_of_all}
 use Rattle.yd_received.proofs.structs.take_structs.Given as goal
 
@@ -12,3 +14,4 @@ invariant-loop-entry l =
     (operations_of_structs l.first.client l.first.clock (map struct_value (take l.entry-index l.structs))) l.brings
     × IsBacked (length l.fn.runs.items) l.fn.before l.fn.taken.items l.before l.taken.items
     × (l.clock ≡ l.first.clock + clocks_of_all (map struct_value (take l.entry-index l.structs)))
+    × KeepsToLower l.fn.before l.before (operations_of_structs l.first.client l.first.clock (map struct_value (take l.entry-index l.structs))) (operations_in l.fn.runs.items l.fn.taken.items)
