@@ -1,10 +1,11 @@
 //! An update is taken in, and what can be held then is held.
 
 ghost use Rattle.std.specs.Prelude.{◌≡◌, ◌↔◌, ◌≤◌, [], length, filter, IsTrue, OnOk, IfOk};
+ghost use Rattle.yd_ops.specs.Operation.{operations_of};
 ghost use Rattle.yd_ops.specs.Valid.{IsValidUpdate};
 ghost use Rattle.yd_ops.specs.View.{update_value};
 ghost use Rattle.yd_ops.specs.Received.{with_groups, groups_of};
-ghost use Rattle.yd_received.specs.Received.{taken_of, brings};
+ghost use Rattle.yd_received.specs.Received.{taken_of, brings, LowersOne};
 ghost use Rattle.yd_entries.specs.Taking.{BringsOperation};
 ghost use Rattle.yd_held.specs.Changing.{KeepsNumbers, IsOf, back_to};
 ghost use Rattle.yd_held.specs.Held.{held_value, HoldsAll};
@@ -30,7 +31,8 @@ use yd_received::{Brought, Entry};
 pub(crate) struct Changed {
     /// An operation had a new id, or said less than the one that was there.
     pub brings: bool,
-    /// All was held anew.
+    /// All was held anew, since an operation said less than one with its id that was there, or that
+    /// came earlier in the update.
     pub anew: bool,
     /// The numbers of the entries that became held, in the order in which they did.
     pub order: Vec<usize>,
@@ -51,6 +53,8 @@ pub(crate) fn change(
         ≡ with_groups (groups_of (update_value update.now)) (taken_of held.old.received)) }
     ensures brings { IfOk result (λ changed. IsTrue changed.brings
         ↔ BringsOperation (update_value update.now) (taken_of held.old.received)) }
+    ensures lowers { IfOk result (λ changed. IsTrue changed.anew
+        → LowersOne (operations_of (update_value update.now)) (taken_of held.old.received)) }
     ensures order { IfOk result (λ changed. TellsOrder changed.anew changed.order.items
         (held_value held.old) (held_value held.new)) }
     ensures numbers { IfOk result (λ changed. KeepsNumbers changed.anew

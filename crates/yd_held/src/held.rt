@@ -1,11 +1,12 @@
 //! What is held, as one value.
 
 ghost use Rattle.std.specs.Prelude.{◌≡◌, ◌≢◌, ◌↔◌, [], ℕ, Some, IsTrue, IfSome, IfNone, OnOk, OnErr, IfOk, slice_get};
+ghost use Rattle.yd_ops.specs.Operation.{operations_of};
 ghost use Rattle.yd_ops.specs.Valid.{IsValidUpdate};
 ghost use Rattle.yd_ops.specs.View.{update_value};
 ghost use Rattle.yd_ops.specs.Received.{with_groups, groups_of};
 ghost use Rattle.yd_names.specs.Names.{IsOf, IsLastOf, top_of};
-ghost use Rattle.yd_received.specs.Received.{taken_of};
+ghost use Rattle.yd_received.specs.Received.{taken_of, LowersOne};
 ghost use Rattle.yd_entries.specs.Taking.{BringsOperation};
 ghost use Rattle.yd_held.specs.Changing.{KeepsNumbers, back_to};
 ghost use Rattle.yd_held.specs.Held.{HoldsAll};
@@ -47,7 +48,8 @@ impl Model for Held {
 pub struct Taken {
     /// An operation had a new id, or said less than the one that was there.
     pub brings: bool,
-    /// All was held anew, and the lists have other numbers than before.
+    /// All was held anew, since an operation said less than one with its id that was there, or that
+    /// came earlier in the update. Then the lists may have other numbers than before.
     pub anew: bool,
     /// The numbers of the entries that became held, in the order in which they did: each after what
     /// it stands on, and after the smaller clocks of its client.
@@ -126,6 +128,8 @@ impl Held {
             ≡ with_groups (groups_of (update_value update.now)) (taken_of self.old.received)) }
         ensures brings { IfOk result (λ taken. IsTrue taken.brings
             ↔ BringsOperation (update_value update.now) (taken_of self.old.received)) }
+        ensures lowers { IfOk result (λ taken. IsTrue taken.anew
+            → LowersOne (operations_of (update_value update.now)) (taken_of self.old.received)) }
         ensures order { IfOk result (λ taken. TellsOrder taken.anew taken.order.items
             self.old self.new) }
         ensures numbers { IfOk result (λ taken. KeepsNumbers taken.anew
