@@ -8,6 +8,8 @@ pub mod CutLemmas
 pub mod EntriesLemmas
 pub mod EntryLemmas
 pub mod FirstLemmas
+pub mod JoiningLemmas
+pub mod LongerLemmas
 pub mod LookupLemmas
 pub mod LowerLemmas
 pub mod LoweredLemmas

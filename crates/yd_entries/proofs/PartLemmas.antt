@@ -39,7 +39,7 @@ drop_sum (suc n) m (x ∷ xs) = drop_sum n m xs ∙ ap (λ k. drop k (x ∷ xs))
 drop_less : {X : Type 0} (n len : ℕ) (xs : List X) → n ≤ len → drop n (take len xs) ≡ take (len - n) (drop n xs)
 drop_less n len xs le = ap (λ k. drop n (take k xs)) (omega (arith, le)) ∙ drop-take n (len - n) xs
 
-list_none : (run : Option Run) (n : ℕ) → 0 < n → list_at run n ≡ None
+pub list_none : (run : Option Run) (n : ℕ) → 0 < n → list_at run n ≡ None
 list_none None n some = refl
 list_none (Some run) zero some = absurd (omega arith)
 list_none (Some run) (suc n) some = refl

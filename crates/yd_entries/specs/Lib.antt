@@ -1,4 +1,5 @@
 pub mod Entries
+pub mod Joining
 pub mod Lookup
 pub mod Lowering
 pub mod Splitting
