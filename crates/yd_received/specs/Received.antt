@@ -12,6 +12,7 @@ use Rattle.yd_entries.specs.declared.entry.Entry.{Entry}
 use Rattle.yd_entries.specs.declared.place.Place.{Place}
 use Rattle.yd_entries.specs.declared.place.Place.TheVariants.{Waits}
 use Rattle.yd_entries.specs.Entries.{AreTaken, operations_in, held_in, standing_in, is_held, is_of_first, OnlyAdds}
+use Rattle.yd_entries.specs.Joining.{IsSingle, Joins, TellSame}
 
 -- the runs that are kept, and the entries of the units that were taken of them
 pub record ReceivedValue : Type 0 where
@@ -77,6 +78,20 @@ pub record GetsPlace (at : ℕ) (place : Place) (old new : ReceivedValue) : Type
   pub there : slice_get old.entries at ≡ Some entry
   pub runs_are : new.runs ≡ old.runs
   pub placed : new.entries ≡ set old.entries at (with_place entry place)
+
+-- ---- what is joined
+
+-- no other entry than this one is of the last run
+abbrev pub IsSingleOf : ReceivedValue → ℕ → Type 0
+IsSingleOf r at = IsSingle r.runs r.entries at
+
+-- the same operations are taken and held, the same of them stand, and its entries are still of its runs
+abbrev pub KeepsTold : ReceivedValue → ReceivedValue → Type 0
+KeepsTold old new = TellSame old.runs old.entries new.runs new.entries
+
+-- the entry at a place and the one before it became one
+abbrev pub JoinsAt : ℕ → ReceivedValue → ReceivedValue → Type 0
+JoinsAt at old new = Joins old.runs old.entries new.runs new.entries at
 
 -- ---- what it was before
 

@@ -5,8 +5,8 @@
 //! U+FFFD ([`Received::take`]). What is kept are entries in the order of writing (`yd_entries`), so an
 //! id is found by bisection ([`Received::entry_of`], [`Received::entry_at`]). Where an update lowers
 //! nothing, what was held stays as it was; where it lowers something all waits, to be held anew, and
-//! the contents of what was lowered stay in their runs. A call that finds no memory has changed
-//! nothing.
+//! the contents of what was lowered stay in their runs. A text that goes on where another ends joins
+//! it, and no operation changes ([`Received::join`]). A call that finds no memory has changed nothing.
 //!
 //! ```rust
 //! let mut received = Received::new(alloc);

@@ -3,6 +3,7 @@
 ghost use Rattle.std.specs.Prelude.{◌≡◌, ◌≢◌, ◌↔◌, ◌<◌, [], length, IsTrue, OnOk, OnErr, IfOk, IfSome, IfNone};
 ghost use Rattle.std.specs.Prelude.{HoldsAt, true};
 ghost use Rattle.std.specs.Global.{Global as Allocator};
+ghost use Rattle.std.specs.Bool.{OnTrue, OnFalse};
 ghost use Rattle.yd_words.specs.Each.{Each};
 ghost use Rattle.yd_ops.specs.Operation.{operations_of};
 ghost use Rattle.yd_ops.specs.Valid.{IsValidUpdate};
@@ -11,6 +12,7 @@ ghost use Rattle.yd_ops.specs.Received.{with_groups, groups_of};
 ghost use Rattle.yd_entries.specs.Entries.{covers, GrowBy};
 ghost use Rattle.yd_received.specs.Received.{IsReceived, taken_of, brings, lowers, LowersOne};
 ghost use Rattle.yd_received.specs.Received.{IsBrought, GetsPlace, put_back, put_back_entries};
+ghost use Rattle.yd_received.specs.Received.{IsSingleOf, KeepsTold, JoinsAt};
 ghost use Rattle.yd_entries.specs.Taking.{is_covered, BringsOperation};
 
 use crate::brought::Brought;
@@ -18,11 +20,12 @@ use crate::restoring::{keep_first, undo_holding};
 use crate::updates::take_update;
 use std::alloc::Global;
 use std::marker::Model;
-use yd_entries::{Entry, NoMemory, Place, entry_at, entry_of};
+use yd_entries::{Entry, NoMemory, Place, entry_at, entry_of, join};
 use yd_ids::{Id, Vector};
 use yd_ops::{Run, Update};
 
-/// Runs as they came, and of each the units that were taken: entries in the order of writing.
+/// Runs as they came, or joined, and of each the units that were taken: entries in the order of
+/// writing.
 #[derive(Drop)]
 pub struct Received {
     runs: Vec<Run>,
@@ -133,6 +136,19 @@ impl Received {
     {
         let entry = self.entries[at];
         self.entries[at] = Entry { place, ..entry };
+    }
+
+    /// Joins the entry at a place to the one before it, and says whether it did: where both are texts
+    /// in one list, the entry has all units of the last run, and these go on where the run of the
+    /// other ends. It takes time with the number of units that it appends, and of entries that stand
+    /// behind. Where memory ends nothing has changed.
+    pub fn join(&mut self, at: usize) -> bool
+        requires { IsSingleOf self.old at }
+        ensures same { KeepsTold self.old self.new }
+        ensures joined { OnTrue result (JoinsAt at self.old self.new) }
+        ensures unchanged { OnFalse result (self.new ≡ self.old) }
+    {
+        join(&mut self.runs, &mut self.entries, at)
     }
 
     /// Puts back what it was when it had the first runs alone, and what is not below these clocks
