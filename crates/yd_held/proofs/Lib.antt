@@ -5,6 +5,7 @@ pub mod HeldUnitLemmas
 pub mod HoldAtLemmas
 pub mod HoldStepLemmas
 pub mod HoldingLemmas
+pub mod JoinedLemmas
 pub mod KeptLemmas
 pub mod LackLemmas
 pub mod ListedLemmas
@@ -15,6 +16,7 @@ pub mod NumberingLemmas
 pub mod PlacedLemmas
 pub mod ReadyLemmas
 pub mod RoundLemmas
+pub mod SingleLemmas
 pub mod StandingLemmas
 pub mod TryingLemmas
 pub mod TurnLemmas

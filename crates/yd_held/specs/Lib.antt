@@ -1,6 +1,7 @@
 pub mod Changing
 pub mod Held
 pub mod Holding
+pub mod Joining
 pub mod Noted
 pub mod Numbered
 pub mod Numbering

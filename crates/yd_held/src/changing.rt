@@ -1,6 +1,7 @@
 //! An update is taken in, and what can be held then is held.
 
-ghost use Rattle.std.specs.Prelude.{◌≡◌, ◌↔◌, ◌≤◌, [], length, filter, IsTrue, OnOk, IfOk};
+ghost use Rattle.std.specs.Prelude.{◌≡◌, ◌↔◌, ◌≤◌, ◌<◌, [], length, filter, IsTrue, OnOk, IfOk, IfSome};
+ghost use Rattle.yd_words.specs.Each.{Each};
 ghost use Rattle.yd_ops.specs.Operation.{operations_of};
 ghost use Rattle.yd_ops.specs.Valid.{IsValidUpdate};
 ghost use Rattle.yd_ops.specs.View.{update_value};
@@ -10,6 +11,7 @@ ghost use Rattle.yd_entries.specs.Taking.{BringsOperation};
 ghost use Rattle.yd_held.specs.Changing.{KeepsNumbers, IsOf, back_to};
 ghost use Rattle.yd_held.specs.Held.{held_value, HoldsAll};
 ghost use Rattle.yd_held.specs.Holding.{IsHolding, HoldsRest, OnlyHolds};
+ghost use Rattle.yd_held.specs.Joining.{CameAlone};
 ghost use Rattle.yd_held.specs.Noted.{AreNoted, AreMissing};
 ghost use Rattle.yd_held.specs.Turn.{HoldsInTurn, TellsOrder};
 ghost use Rattle.yd_held.specs.declared.parts.Kept.TheVariants.{All};
@@ -36,6 +38,8 @@ pub(crate) struct Changed {
     pub anew: bool,
     /// The numbers of the entries that became held, in the order in which they did.
     pub order: Vec<usize>,
+    /// The number of the entry that became held, where no other did and no other is of the last run.
+    pub single: Option<usize>,
 }
 
 /// Takes the update in, and holds what can be held then: where it only added units, those that have
@@ -59,10 +63,13 @@ pub(crate) fn change(
         (held_value held.old) (held_value held.new)) }
     ensures numbers { IfOk result (λ changed. KeepsNumbers changed.anew
         held.old.names held.new.names) }
+    ensures single { IfOk result (λ changed. IfSome changed.single
+        (CameAlone changed.order.items (held_value held.new))) }
     ensures holds { OnOk result (HoldsAll (held_value held.new)) }
     ensures back { back_to before.new (held_value held.new) ≡ held_value held.old }
 {
     let from = held.received.runs().len();
+    let count = held.received.entries().len();
     let brought = held.received.take(update)?;
     let brings = brings(&brought);
     if let Brought::Lowered(entries) = brought {
@@ -72,14 +79,37 @@ pub(crate) fn change(
             brings,
             anew: true,
             order,
+            single: None,
         });
     }
     let order = hold_new(held, from)?;
+    let single = single_of(held, from, count, &order);
     Ok(Changed {
         brings,
         anew: false,
         order,
+        single,
     })
+}
+
+/// The number of the entry that became held, where it alone is new, and all of the one new run. So
+/// many runs and entries there were before.
+fn single_of(held: &HeldParts, from: usize, count: usize, order: &[usize]) -> Option<usize>
+    requires from { from ≤ length held.now.received.runs }
+    requires inside { Each (λ at. at < length held.now.received.entries) order.now }
+    requires were { length (filter (is_of_first from) held.now.received.entries) ≡ count }
+    ensures { IfSome result (CameAlone order.now (held_value held.now)) }
+{
+    let runs = held.received.runs();
+    let entries = held.received.entries();
+    if runs.len() - from != 1 || entries.len() - count != 1 || order.len() != 1 {
+        return None;
+    }
+    let at = order[0];
+    if entries[at].run != from {
+        return None;
+    }
+    Some(at)
 }
 
 /// An operation had a new id, or said less than the one that was there.

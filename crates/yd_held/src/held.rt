@@ -6,10 +6,11 @@ ghost use Rattle.yd_ops.specs.Valid.{IsValidUpdate};
 ghost use Rattle.yd_ops.specs.View.{update_value};
 ghost use Rattle.yd_ops.specs.Received.{with_groups, groups_of};
 ghost use Rattle.yd_names.specs.Names.{IsOf, IsLastOf, top_of};
-ghost use Rattle.yd_received.specs.Received.{taken_of, LowersOne};
+ghost use Rattle.yd_received.specs.Received.{taken_of, LowersOne, IsSingleOf};
 ghost use Rattle.yd_entries.specs.Taking.{BringsOperation};
 ghost use Rattle.yd_held.specs.Changing.{KeepsNumbers, back_to};
 ghost use Rattle.yd_held.specs.Held.{HoldsAll};
+ghost use Rattle.yd_held.specs.Joining.{CameAlone, StaysSame};
 ghost use Rattle.yd_held.specs.Turn.{TellsOrder};
 
 use crate::changing::{Changed, change};
@@ -54,6 +55,9 @@ pub struct Taken {
     /// The numbers of the entries that became held, in the order in which they did: each after what
     /// it stands on, and after the smaller clocks of its client.
     pub order: Vec<usize>,
+    /// The number of the entry that became held, where no other did and no other is of the last run.
+    /// So it can be joined to the one before it ([`Held::join`]).
+    pub single: Option<usize>,
     /// What puts back what was held before.
     pub before: Before,
 }
@@ -134,6 +138,8 @@ impl Held {
             self.old self.new) }
         ensures numbers { IfOk result (λ taken. KeepsNumbers taken.anew
             self.old.names self.new.names) }
+        ensures single { IfOk result (λ taken. IfSome taken.single
+            (CameAlone taken.order.items self.new)) }
         ensures holds { HoldsAll self.new }
         ensures back { IfOk result (λ taken. back_to taken.before self.new ≡ self.old) }
         ensures unchanged { OnErr result (self.new ≡ self.old) }
@@ -145,11 +151,13 @@ impl Held {
                     brings,
                     anew,
                     order,
+                    single,
                 },
             ) => Ok(Taken {
                 brings,
                 anew,
                 order,
+                single,
                 before,
             }),
             Err(NoMemory) => {
@@ -157,6 +165,18 @@ impl Held {
                 Err(NoMemory)
             }
         }
+    }
+
+    /// Joins an entry to the one before it, where both are texts in one list, and it goes on where the
+    /// run of the other ends. No operation changes, and what is held stays so. It takes time with the
+    /// number of units that are appended, and of entries that stand behind. Where memory ends nothing
+    /// has changed. After it, what an earlier `take` gave puts nothing back.
+    pub fn join(&mut self, at: usize)
+        requires { IsSingleOf self.old.received at }
+        ensures same { StaysSame self.old self.new }
+        ensures holds { HoldsAll self.new }
+    {
+        self.parts.received.join(at);
     }
 
     /// Puts back what was held before a `take`. It takes time with the number of entries.
