@@ -7,7 +7,9 @@ pub mod CountLemmas
 pub mod DocumentLemmas
 pub mod EntryLemmas
 pub mod ErrorLemmas
+pub mod GrowingLemmas
 pub mod InTurnLemmas
+pub mod JoinedLemmas
 pub mod LawLemmas
 pub mod LengthLemmas
 pub mod LentLemmas

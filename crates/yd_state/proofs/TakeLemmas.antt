@@ -21,7 +21,7 @@ use Rattle.yd_meaning.specs.Held.{is_named}
 use Rattle.yd_meaning.specs.Deletions.{for_loss, AreClosedDeletions}
 use Rattle.yd_kept.specs.Telling.{IsSoundStore}
 use Rattle.yd_kept.proofs.FillingLemmas.{slice_below, within_names}
-use Rattle.yd_kept.specs.Kept.{KeptValue, KeepsHeld}
+use Rattle.yd_kept.specs.Kept.{KeptValue, KeepsHeld, JoinsHeld}
 use Rattle.yd_received.specs.Received.{taken_of, held_of}
 use Rattle.yd_held.specs.Held.{HeldValue, HoldsAll}
 use Rattle.yd_held.specs.Turn.{HoldsInTurn, TellsOrder}
@@ -31,7 +31,7 @@ use Rattle.yd_held.proofs.TryingLemmas.{got_in}
 use Rattle.yd_listing.specs.Falling.{IsNamedIn}
 use Rattle.yd_listing.specs.Law.{BecameNamed}
 use Rattle.yd_listing.proofs.LawLemmas.{find_name, has_named, named_has}
-use Rattle.yd_state.specs.PlacingLaw.{IsEmptyStore}
+use Rattle.yd_state.specs.PlacingLaw.{IsEmptyStore, KeepsLists}
 use Rattle.yd_state.specs.Placing.{KeepsAll}
 use Rattle.yd_state.proofs.PlacingLawLemmas.{entries_can_be_placed, turn_stays_held, keeping_keeps_all}
 use Rattle.yd_state.specs.declared.sets.Sets.{Sets}
@@ -144,9 +144,33 @@ sound_then old sound update valid k holds taken more named of is anew order tell
       (own_then old sound more named is k holds order sets e f g it now anew tells settles.deletes) settles.marks;
 }
 
--- ---- where memory ended
+-- ---- where no unit changed
 
-module _ (old : GrownValue) (sound : IsWhole old) (it : KeptValue) (keeps : KeepsHeld old.kept it) where
+-- so it is where memory ended
+pub held_lists : (old new : KeptValue) → KeepsHeld old new → KeepsLists old new
+held_lists old new keeps = record {
+  names = keeps.names;
+  lists = keeps.lists;
+  made = keeps.made;
+  operations = keeps.operations;
+  marks = keeps.marks;
+  nexts = keeps.nexts;
+  filled = keeps.filled;
+}
+
+-- and where runs are joined
+pub joined_lists : (old new : KeptValue) → JoinsHeld old new → KeepsLists old new
+joined_lists old new joins = record {
+  names = λ n name e. subst (λ names. slice_get names n ≡ Some name) (sym joins.names) e;
+  lists = joins.lists;
+  made = λ list le lt. absurd (omega (arith, le, lt, joins.count));
+  operations = joins.operations;
+  marks = joins.marks;
+  nexts = joins.nexts;
+  filled = joins.filled;
+}
+
+module _ (old : GrownValue) (sound : IsWhole old) (it : KeptValue) (keeps : KeepsLists old.kept it) where
   keeps_all : KeepsAll (held_by old) it
   keeps_all = keeping_keeps_all (held_by old) (is_written old.held (holds_holding old.held sound.holds)) old.kept it sound.keeps keeps
 

@@ -4,6 +4,7 @@ pub mod Brings
 pub mod Coming
 pub mod Deleting
 pub mod Grown
+pub mod Growing
 pub mod Law
 pub mod Lent
 pub mod Novelty

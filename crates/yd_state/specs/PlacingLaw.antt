@@ -1,17 +1,18 @@
 -- The laws of placing, as statements (own).
-use Rattle.std.specs.Prelude.{◌≡◌, ℕ, Bool, List, []}
+use Rattle.std.specs.Prelude.{◌≡◌, ◌↔◌, ◌<◌, ◌≤◌, ℕ, Bool, List, [], Some, slice_get}
 use Rattle.yd_ids.specs.Vector.{clock_of}
 use Rattle.yd_ids.specs.declared.id.Id.{Id}
 use Rattle.yd_ops.specs.declared.lists.List.{List as DocList}
 use Rattle.yd_ops.specs.Operation.{Operation}
 use Rattle.yd_arena.specs.Arena.{runs_of, count_of, next_clock}
+use Rattle.yd_store.specs.Units.{operations_in, HasOperation, HasMarked}
 use Rattle.yd_ops.specs.Received.{IsWritten}
 use Rattle.yd_meaning.specs.Document.{Document, document_with}
 use Rattle.yd_meaning.specs.Grown.{StandsHonest}
 use Rattle.yd_meaning.specs.Own.{HasGrownLists}
 use Rattle.yd_meaning.specs.Staying.{StaysHeld}
 use Rattle.yd_kept.specs.Telling.{IsSoundStore, TellsLists}
-use Rattle.yd_kept.specs.Kept.{KeptValue, KeepsHeld}
+use Rattle.yd_kept.specs.Kept.{KeptValue, StaysFilled}
 use Rattle.yd_received.specs.Received.{held_of}
 use Rattle.yd_held.specs.Held.{HeldValue, HoldsAll}
 use Rattle.yd_held.specs.Turn.{AreHeldInTurn, HoldsInTurn}
@@ -37,9 +38,20 @@ abbrev pub TurnStaysHeld : Type 0
 TurnStaysHeld = (old new : HeldValue) → HoldsAll old → HoldsAll new → (order : List ℕ) → HoldsInTurn order old new →
     StaysHeld (held_of old.received) (held_of new.received)
 
+-- each list of a store has the operations that it had, in their order, under its name; there may be lists more, which are empty; each unit keeps its
+-- mark, and no clock is added
+pub record KeepsLists (old new : KeptValue) : Type 0 where
+  pub names : (n : ℕ) (name : DocList) → slice_get old.names n ≡ Some name → slice_get new.names n ≡ Some name
+  pub lists : (list : ℕ) → list < count_of old.store.placed → operations_in new.store list ≡ operations_in old.store list
+  pub made : (list : ℕ) → count_of old.store.placed ≤ list → list < count_of new.store.placed → operations_in new.store list ≡ []
+  pub operations : (o : Operation) → HasOperation new.store o ↔ HasOperation old.store o
+  pub marks : (id : Id) → HasMarked new.store id ↔ HasMarked old.store id
+  pub nexts : (client : ℕ) → next_clock new.store.placed client ≡ next_clock old.store.placed client
+  pub filled : StaysFilled old new
+
 -- a store that has just what is held has so still where no unit changed
 abbrev pub KeepingKeepsAll : Type 0
-KeepingKeepsAll = (held : List Operation) → IsWritten held → (old new : KeptValue) → KeepsAll held old → KeepsHeld old new → KeepsAll held new
+KeepingKeepsAll = (held : List Operation) → IsWritten held → (old new : KeptValue) → KeepsAll held old → KeepsLists old new → KeepsAll held new
 
 -- a document that tells the lists of a store with just what is held has grown lists; and where what stands keeps the edit
 -- rules, each has the operations that are defined, in the origin order

@@ -4,8 +4,11 @@ use Rattle.yd_ids.specs.declared.id.Id.{Id}
 use Rattle.yd_ids.specs.declared.id.Span.{Span}
 use Rattle.yd_ids.specs.Set.{HasId, union_of}
 use Rattle.yd_ids.specs.Vector.{clock_of}
+use Rattle.yd_ops.specs.declared.lists.List.{List as DocList}
 use Rattle.yd_ops.specs.Operation.{Operation}
-use Rattle.yd_meaning.specs.Held.{is_named, is_lost}
+use Rattle.yd_origins.specs.Growing.{GrowsByScan}
+use Rattle.yd_meaning.specs.Held.{standing, is_named, is_lost}
+use Rattle.yd_meaning.specs.Grown.{table_in}
 use Rattle.yd_meaning.specs.Staying.{StaysHeld}
 use Rattle.yd_kept.specs.Telling.{IsSoundStore}
 use Rattle.yd_kept.specs.Kept.{KeptValue}
@@ -17,7 +20,7 @@ use Rattle.yd_listing.specs.Falling.{IsNamedIn, Drops}
 use Rattle.yd_listing.specs.Law.{BecameNamed}
 use Rattle.yd_state.specs.Placing.{KeepsAll, CanBePlaced}
 use Rattle.yd_state.specs.declared.sets.Sets.{Sets as SetsValue}
-use Rattle.yd_state.specs.Grown.{AreOwnDeletions, AreMarked}
+use Rattle.yd_state.specs.Grown.{ids_of, AreOwnDeletions, AreMarked}
 use Rattle.yd_state.specs.Coming.{AreCame}
 
 -- a set, or what it grew to
@@ -58,7 +61,18 @@ MarksOn k was new deleted now = AreMarked was.store deleted → ((x : Id) → is
 abbrev pub AreLeft : HeldValue → List Span → List Span → List Span → Type 0
 AreLeft k waiting more left = (x : Id) → HasId left x ↔ ((HasId waiting x ⊎ HasId more x) × (clock_of k.vector x.client.0 ≤ x.clock))
 
--- ---- both
+-- ---- how lists grow
+
+-- from a sound store to another each list grew by scans, of what is held then
+abbrev pub ListsGrow : HeldValue → KeptValue → KeptValue → Type 0
+ListsGrow k was new = IsSoundStore was.store → (list : DocList) → GrowsByScan (table_in (standing (held_of k.received)) list) (ids_of was list) (ids_of new list)
+
+-- so it is, unless all was held anew
+abbrev pub GrowsThen : Bool → HeldValue → KeptValue → KeptValue → Type 0
+GrowsThen false k was new = ListsGrow k was new
+GrowsThen true k was new = Unit {0}
+
+-- ---- all of this
 
 -- what became held can be placed: in a store with what was held, or, where all was held anew, in an empty one
 abbrev pub CanSettle : Bool → HeldValue → List ℕ → KeptValue → Type 0
@@ -88,10 +102,11 @@ abbrev pub known_of : Bool → SetsValue → List Span
 known_of false sets = sets.waiting
 known_of true sets = sets.named
 
--- the store has just what is held, what waits and what is deleted is so, and what is deleted is marked
+-- the store has just what is held, what waits and what is deleted is so, what is deleted is marked, and the lists grew
 pub record Settles (anew : Bool) (k : HeldValue) (sets : SetsValue) (more : List Span) (was new : KeptValue) (left now : List Span) : Type 0 where
   pub keeps : KeepsAll (held_of k.received) new
   pub store : IsSoundStore new.store
   pub waits : AreLeft k (known_of anew sets) more left
   pub deletes : DeletesThen anew k sets more was new now
   pub marks : MarksThen anew k sets was new now
+  pub grows : GrowsThen anew k was new

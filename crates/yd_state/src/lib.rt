@@ -8,7 +8,8 @@
 //! nothing.
 //!
 //! What became held goes into the store entry by entry, in the order in which it did; where memory
-//! ends, all that was put in is taken out again (`specs/Placing.antt`).
+//! ends, all that was put in is taken out again (`specs/Placing.antt`). At the end what goes on where
+//! something else ends is joined to it, so text that is typed letter by letter is one run.
 //!
 //! ```rust
 //! let mut state = State::new(alloc);
@@ -22,6 +23,7 @@ mod coming;
 mod counting;
 mod entry;
 mod fault;
+mod joining;
 pub mod law;
 mod lengths;
 mod listing;

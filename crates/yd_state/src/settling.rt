@@ -8,7 +8,7 @@ ghost use Rattle.yd_kept.specs.Marking.{AreHeld, AreParted};
 ghost use Rattle.yd_received.specs.Received.{held_of};
 ghost use Rattle.yd_state.specs.Back.{CanBeTakenOut};
 ghost use Rattle.yd_state.specs.Placing.{KeepsAll, CanBePlaced};
-ghost use Rattle.yd_state.specs.Settling.{grown_to, DeletesBy, DeletesOn, DeletesAnew, MarksOn, MarksAnew};
+ghost use Rattle.yd_state.specs.Settling.{grown_to, DeletesBy, DeletesOn, DeletesAnew, MarksOn, MarksAnew, ListsGrow};
 ghost use Rattle.yd_state.specs.Settling.{CanSettle, known_of, Settles};
 
 use crate::back::put_out;
@@ -123,6 +123,7 @@ fn settle_on(
         kept.old kept.new (grown_to deletes.now grown)) }
     ensures marks { IfOk result (λ grown. MarksOn held.now kept.old kept.new
         deletes.now (grown_to deletes.now grown)) }
+    ensures grows { OnOk result (ListsGrow held.now kept.old kept.new) }
     ensures unchanged { OnErr result (KeepsHeld kept.old kept.new) }
 {
     // What is held, and that the store is sound, says where each unit stands.

@@ -14,10 +14,12 @@ ghost use Rattle.yd_listing.specs.Falling.{IsTold};
 ghost use Rattle.yd_listing.specs.Listing.{Tells, IsFrom};
 ghost use Rattle.yd_state.specs.State.{received_in, document_in, IsSound};
 ghost use Rattle.yd_state.specs.Brings.{BringsUnknown};
+ghost use Rattle.yd_state.specs.Growing.{Grows};
 ghost use Rattle.yd_state.specs.Lent.{lent_units, units_left, last_unit, IsAround};
 
 use crate::counting::{count_ids, count_units};
 use crate::fault::NoMemory;
+use crate::joining::join;
 use crate::listing::ListView;
 use crate::naming::named_by;
 use crate::novelty::brings_deletion;
@@ -103,6 +105,7 @@ impl State {
             ≡ received_after (received_in self.old) (update_value update.now)) }
         ensures brings { IfOk result (λ brings. IsTrue brings
             ↔ BringsUnknown (update_value update.now) (received_in self.old) self.old.deletes) }
+        ensures grows { OnOk result (Grows (update_value update.now) self.old self.new) }
         ensures sound { IsSound self.new }
         ensures unchanged { OnErr result (self.new ≡ self.old) }
     {
@@ -129,6 +132,10 @@ impl State {
                 put(&mut self.sets.named, named);
                 put(&mut self.sets.deletes, grown);
                 self.sets.waiting = waiting;
+                join(&mut self.held, &mut self.kept, taken.single);
+                // That both are sound says that they still tell what they told.
+                let _ = self.held.received();
+                let _ = self.kept.store();
                 Ok(taken.brings || deletes)
             }
             Err(NoMemory) => {

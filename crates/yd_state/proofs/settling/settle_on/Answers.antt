@@ -1,6 +1,7 @@
 use Rattle.yd_kept.specs.Marking.{DeletesEach}
 use Rattle.yd_kept.proofs.MarkingLemmas.{parting_and_marking_deletes}
 use Rattle.yd_state.proofs.CameLemmas.{written}
+use Rattle.yd_state.proofs.GrowingLemmas.{lists_grow}
 use Rattle.yd_state.proofs.MarkingLemmas.{marked_keeps, marked_units, marks_on}
 use Rattle.yd_state.proofs.SettlingLemmas.{deletes_on, own_still}
 use Rattle.yd_state.proofs.UndoingLemmas.{still_out, still_undone}
@@ -53,3 +54,13 @@ pub returns-in-Err-clause-unchanged : goal.returns-in-Err-clause-unchanged
 returns-in-Err-clause-unchanged c =
     (still_undone c.args.held.now c.args.order.now c.place.new.kept c.parted_then.new.kept c.parted_then.ensures.kept c.parted_then.ensures.names
     c.parted_then.ensures.count c.args.kept.now c.in_ok-place.ensures.out).undone c.put_out.new.kept c.put_out.ensures.sound c.put_out.ensures.taken
+
+pub returns-in-Ok-clause-grows : goal.returns-in-Ok-clause-grows
+returns-in-Ok-clause-grows c =
+    let each : DeletesEach c.place.new.kept c.mark_each.new.self c.in-Ok.field-0.besides =
+    parting_and_marking_deletes c.place.new.kept c.parted_then.new.kept c.mark_each.new.self c.in-Ok.field-0.besides c.parted_then.ensures.kept
+    c.parted_then.ensures.names c.parted_then.ensures.count c.mark_each.ensures in
+    lists_grow c.args.held.now c.args.kept.now c.place.new.kept c.mark_each.new.self c.requires.filled c.in_ok-place.ensures.placed.further
+    (record { lists = c.store.ensures.lists; told = c.store.ensures.told })
+    (marked_units (held_of c.args.held.now.received) (written c.args.held.now c.received.ensures.holds c.place.new.kept c.in_ok-place.ensures.all)
+    c.place.new.kept c.mark_each.new.self c.in_ok-place.ensures.all c.in-Ok.field-0.besides each)

@@ -5,12 +5,15 @@ use Rattle.yd_ids.specs.Set.{HasId}
 use Rattle.yd_ops.specs.View.{update_value}
 use Rattle.yd_state.specs.Brings.{BringsUnknown}
 use Rattle.yd_held.specs.Held.{HeldValue}
-use Rattle.yd_state.specs.Grown.{seen_of, IsWhole}
+use Rattle.yd_state.specs.Grown.{GrownValue, seen_of, IsWhole}
+use Rattle.yd_state.specs.Growing.{Grows}
 use Rattle.yd_state.specs.State.{received_in, IsSound}
 use Rattle.yd_state.specs.Settling.{CanSettle, Settles}
 use Rattle.yd_state.proofs.BringsLemmas.{either_tells}
 use Rattle.yd_state.proofs.DocumentLemmas.{seen_sound}
-use Rattle.yd_state.proofs.TakeLemmas.{can_settle, sound_then, still_sound, still_seen}
+use Rattle.yd_state.proofs.GrowingLemmas.{grows_then}
+use Rattle.yd_state.proofs.JoinedLemmas.{joined_whole, joined_grows}
+use Rattle.yd_state.proofs.TakeLemmas.{can_settle, sound_then, held_lists, still_sound, still_seen}
 use Rattle.yd_state.proofs.state.State.take.Goals.{then-taken, else-taken}
 use Rattle.yd_state.proofs.state.State.take.Goals as goal
 
@@ -20,23 +23,9 @@ settle-requires c = subst (λ order. CanSettle c.in_ok-taken.taken.anew c.take.n
     c.in_ok-taken.taken.order.items c.in_ok-taken.ensures.order c.self.inside.kept c.self.invariant.keeps)
 
 pub invariant_of-self-in-Ok : goal.invariant_of-self-in-Ok
-invariant_of-self-in-Ok c = sound_then
-    (record { held = c.self.inside.held; named = c.self.inside.sets.named; waiting = c.self.inside.sets.waiting; kept = c.self.inside.kept; deletes = c.self.inside.sets.deletes })
-    c.self.invariant (update_value c.args.update.now) c.requires c.take.new.self c.in_ok-taken.ensures.holds c.in_ok-taken.ensures.received
-    c.in_ok-more.more c.put.new.set c.in_ok-more.ensures (c.put.ensures ∙ c.in_ok-named.ensures)
-    c.in_ok-taken.taken.anew c.in_ok-taken.taken.order.items c.in_ok-taken.ensures.order c.self.inside.sets refl refl refl
-    c.settle.new.kept c.in-Ok.field-0.waiting c.put-in-Ok.new.set
-    (subst (Settles c.in_ok-taken.taken.anew c.take.new.self c.self.inside.sets c.in_ok-more.more c.self.inside.kept c.settle.new.kept c.in-Ok.field-0.waiting) (sym c.put-in-Ok.ensures)
-    c.in-Ok.ensures.settled)
-
-pub returns-in-Ok-clause-sound : goal.returns-in-Ok-clause-sound
-returns-in-Ok-clause-sound c = seen_sound (record {
-  held = c.take.new.self;
-  named = c.put.new.set;
-  waiting = c.in-Ok.field-0.waiting;
-  kept = c.settle.new.kept;
-  deletes = c.put-in-Ok.new.set;
-}) (sound_then
+invariant_of-self-in-Ok c =
+    let new : GrownValue = record { held = c.take.new.self; named = c.put.new.set; waiting = c.in-Ok.field-0.waiting; kept = c.settle.new.kept; deletes = c.put-in-Ok.new.set } in
+    joined_whole new (sound_then
     (record { held = c.self.inside.held; named = c.self.inside.sets.named; waiting = c.self.inside.sets.waiting; kept = c.self.inside.kept; deletes = c.self.inside.sets.deletes })
     c.self.invariant (update_value c.args.update.now) c.requires c.take.new.self c.in_ok-taken.ensures.holds c.in_ok-taken.ensures.received
     c.in_ok-more.more c.put.new.set c.in_ok-more.ensures (c.put.ensures ∙ c.in_ok-named.ensures)
@@ -44,6 +33,23 @@ returns-in-Ok-clause-sound c = seen_sound (record {
     c.settle.new.kept c.in-Ok.field-0.waiting c.put-in-Ok.new.set
     (subst (Settles c.in_ok-taken.taken.anew c.take.new.self c.self.inside.sets c.in_ok-more.more c.self.inside.kept c.settle.new.kept c.in-Ok.field-0.waiting) (sym c.put-in-Ok.ensures)
     c.in-Ok.ensures.settled))
+    c.join.new.held c.join.ensures.held c.join.new.kept c.join.ensures.kept c.received-in-Ok.ensures.holds
+    (record { lists = c.store.ensures.lists; told = c.store.ensures.told })
+
+pub returns-in-Ok-clause-sound : goal.returns-in-Ok-clause-sound
+returns-in-Ok-clause-sound c =
+    let new : GrownValue = record { held = c.take.new.self; named = c.put.new.set; waiting = c.in-Ok.field-0.waiting; kept = c.settle.new.kept; deletes = c.put-in-Ok.new.set } in
+    seen_sound (record { held = c.join.new.held; named = c.put.new.set; waiting = c.in-Ok.field-0.waiting; kept = c.join.new.kept; deletes = c.put-in-Ok.new.set })
+    (joined_whole new (sound_then
+    (record { held = c.self.inside.held; named = c.self.inside.sets.named; waiting = c.self.inside.sets.waiting; kept = c.self.inside.kept; deletes = c.self.inside.sets.deletes })
+    c.self.invariant (update_value c.args.update.now) c.requires c.take.new.self c.in_ok-taken.ensures.holds c.in_ok-taken.ensures.received
+    c.in_ok-more.more c.put.new.set c.in_ok-more.ensures (c.put.ensures ∙ c.in_ok-named.ensures)
+    c.in_ok-taken.taken.anew c.in_ok-taken.taken.order.items c.in_ok-taken.ensures.order c.self.inside.sets refl refl refl
+    c.settle.new.kept c.in-Ok.field-0.waiting c.put-in-Ok.new.set
+    (subst (Settles c.in_ok-taken.taken.anew c.take.new.self c.self.inside.sets c.in_ok-more.more c.self.inside.kept c.settle.new.kept c.in-Ok.field-0.waiting) (sym c.put-in-Ok.ensures)
+    c.in-Ok.ensures.settled))
+    c.join.new.held c.join.ensures.held c.join.new.kept c.join.ensures.kept c.received-in-Ok.ensures.holds
+    (record { lists = c.store.ensures.lists; told = c.store.ensures.told }))
 
 pub returns-in-Ok-clause-brings : goal.returns-in-Ok-clause-brings
 returns-in-Ok-clause-brings c =
@@ -69,7 +75,7 @@ invariant_of-self-in-Err c = subst (λ (h : HeldValue). IsWhole (record {
   deletes = c.self.inside.sets.deletes;
 })) (sym (c.put_back.ensures ∙ c.in_ok-taken.ensures.back))
     (still_sound (record { held = c.self.inside.held; named = c.self.inside.sets.named; waiting = c.self.inside.sets.waiting; kept = c.self.inside.kept; deletes = c.self.inside.sets.deletes })
-    c.self.invariant c.settle.new.kept c.in-Err.ensures.unchanged (record { lists = c.store.ensures.lists; told = c.store.ensures.told }))
+    c.self.invariant c.settle.new.kept (held_lists c.self.inside.kept c.settle.new.kept c.in-Err.ensures.unchanged) (record { lists = c.store-in-Err.ensures.lists; told = c.store-in-Err.ensures.told }))
 
 pub returns-clause-sound : goal.returns-clause-sound
 returns-clause-sound c = seen_sound (record {
@@ -86,7 +92,7 @@ returns-clause-sound c = seen_sound (record {
   deletes = c.self.inside.sets.deletes;
 })) (sym (c.put_back.ensures ∙ c.in_ok-taken.ensures.back))
     (still_sound (record { held = c.self.inside.held; named = c.self.inside.sets.named; waiting = c.self.inside.sets.waiting; kept = c.self.inside.kept; deletes = c.self.inside.sets.deletes })
-    c.self.invariant c.settle.new.kept c.in-Err.ensures.unchanged (record { lists = c.store.ensures.lists; told = c.store.ensures.told })))
+    c.self.invariant c.settle.new.kept (held_lists c.self.inside.kept c.settle.new.kept c.in-Err.ensures.unchanged) (record { lists = c.store-in-Err.ensures.lists; told = c.store-in-Err.ensures.told })))
 
 pub returns-clause-unchanged : goal.returns-clause-unchanged
 returns-clause-unchanged c = ap (λ (h : HeldValue). seen_of (record {
@@ -97,7 +103,7 @@ returns-clause-unchanged c = ap (λ (h : HeldValue). seen_of (record {
   deletes = c.self.inside.sets.deletes;
 })) (c.put_back.ensures ∙ c.in_ok-taken.ensures.back)
     ∙ still_seen (record { held = c.self.inside.held; named = c.self.inside.sets.named; waiting = c.self.inside.sets.waiting; kept = c.self.inside.kept; deletes = c.self.inside.sets.deletes })
-    c.self.invariant c.settle.new.kept c.in-Err.ensures.unchanged
+    c.self.invariant c.settle.new.kept (held_lists c.self.inside.kept c.settle.new.kept c.in-Err.ensures.unchanged)
     ∙ c.self.view_is
 
 pub returns-in_err-more-clause-sound : goal.returns-in_err-more-clause-sound
@@ -120,3 +126,19 @@ returns-in_err-taken-clause-sound c = seen_sound (record {
   kept = c.self.inside.kept;
   deletes = c.self.inside.sets.deletes;
 })) (sym c.in_err-taken.ensures.unchanged) c.self.invariant)
+
+pub returns-in-Ok-clause-grows : goal.returns-in-Ok-clause-grows
+returns-in-Ok-clause-grows c =
+    let old : GrownValue = record { held = c.self.inside.held; named = c.self.inside.sets.named; waiting = c.self.inside.sets.waiting; kept = c.self.inside.kept; deletes = c.self.inside.sets.deletes } in
+    let new : GrownValue = record { held = c.take.new.self; named = c.put.new.set; waiting = c.in-Ok.field-0.waiting; kept = c.settle.new.kept; deletes = c.put-in-Ok.new.set } in
+    let whole : IsWhole new = sound_then
+    (record { held = c.self.inside.held; named = c.self.inside.sets.named; waiting = c.self.inside.sets.waiting; kept = c.self.inside.kept; deletes = c.self.inside.sets.deletes })
+    c.self.invariant (update_value c.args.update.now) c.requires c.take.new.self c.in_ok-taken.ensures.holds c.in_ok-taken.ensures.received
+    c.in_ok-more.more c.put.new.set c.in_ok-more.ensures (c.put.ensures ∙ c.in_ok-named.ensures)
+    c.in_ok-taken.taken.anew c.in_ok-taken.taken.order.items c.in_ok-taken.ensures.order c.self.inside.sets refl refl refl
+    c.settle.new.kept c.in-Ok.field-0.waiting c.put-in-Ok.new.set
+    (subst (Settles c.in_ok-taken.taken.anew c.take.new.self c.self.inside.sets c.in_ok-more.more c.self.inside.kept c.settle.new.kept c.in-Ok.field-0.waiting) (sym c.put-in-Ok.ensures)
+    c.in-Ok.ensures.settled) in
+    subst (λ s. Grows (update_value c.args.update.now) s (seen_of (record { held = c.join.new.held; named = c.put.new.set; waiting = c.in-Ok.field-0.waiting; kept = c.join.new.kept; deletes = c.put-in-Ok.new.set }))) c.self.view_is
+    (joined_grows new whole c.join.new.held c.join.ensures.held c.join.new.kept c.join.ensures.kept (update_value c.args.update.now) (seen_of old)
+    (grows_then (update_value c.args.update.now) old new c.self.invariant whole c.in_ok-taken.taken.anew c.in_ok-taken.ensures.lowers c.in-Ok.ensures.settled.grows))
