@@ -1,14 +1,18 @@
 -- What an edit does to a replica.
 use Rattle.std.specs.Prelude.{◌≡◌, List, None}
+use Rattle.yd_words.specs.Each.{Each}
 use Rattle.yd_ops.specs.Valid.{IsValidUpdate}
 use Rattle.yd_ops.specs.Value.{UpdateValue}
 use Rattle.yd_ops.specs.Received.{received_after}
 use Rattle.yd_editing.specs.Basis.{Basis}
+use Rattle.yd_editing.specs.Law.{MakesContent}
 use Rattle.yd_editing.specs.Made.{update_of_edit}
 use Rattle.yd_editing.specs.Refused.{refusal_of}
 use Rattle.yd_editing.specs.Step.{Step}
 use Rattle.yd_making.specs.Given.{basis_in}
-use Rattle.yd_doc.specs.Kept.{Kept, received_of}
+use Rattle.yd_state.specs.State.{held_in}
+use Rattle.yd_state.specs.Growing.{GrowsTo, Grows}
+use Rattle.yd_doc.specs.Kept.{Kept, received_of, own_document}
 
 -- what an edit reads of a replica: its client, its own document, and what it holds
 abbrev pub own_basis : Kept → Basis
@@ -20,11 +24,16 @@ pub record IsPrepared (r : Kept) (steps : List Step) (update : UpdateValue) : Ty
   pub made : update ≡ update_of_edit (own_basis r) steps
   pub valid : IsValidUpdate update
 
+-- each list of a replica grew by scans from what it was, where an update says less of nothing
+abbrev pub ListsGrow : UpdateValue → Kept → Kept → Type 0
+ListsGrow update old new = Grows update old.state new.state
+
 -- the replica has taken an update of its own client
 pub record IsCommitted (old new : Kept) (update : UpdateValue) : Type 0 where
   pub received : received_of new ≡ received_after (received_of old) update
   pub client : new.client ≡ old.client
   pub is_behind : new.is_behind ≡ old.is_behind
+  pub grows : ListsGrow update old new
 
 -- the steps were carried out: they are not refused, the update is valid and the one that they make on what was there, and the
 -- replica has taken it
@@ -35,3 +44,9 @@ pub record IsEdit (old new : Kept) (steps : List Step) (update : UpdateValue) : 
   pub received : received_of new ≡ received_after (received_of old) update
   pub client : new.client ≡ old.client
   pub is_behind : new.is_behind ≡ old.is_behind
+  pub grows : ListsGrow update old new
+
+-- an edit says less of nothing: each list of the replica grew by scans from what it was
+abbrev pub EditsGrow : Kept → Type 0
+EditsGrow old = (new : Kept) (steps : List Step) (update : UpdateValue) → Each MakesContent steps → IsEdit old new steps update →
+    GrowsTo (held_in new.state) (own_document old) (own_document new)

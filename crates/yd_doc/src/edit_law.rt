@@ -7,7 +7,7 @@ ghost use Rattle.yd_editing.specs.Law.{MakesContent, EditIsTakenOn, IsStepInRang
 ghost use Rattle.yd_editing.specs.Made.{update_of_edit};
 ghost use Rattle.yd_editing.specs.Refused.{refusal_of};
 ghost use Rattle.yd_editing.specs.Step.{Step};
-ghost use Rattle.yd_doc.specs.Editing.{own_basis};
+ghost use Rattle.yd_doc.specs.Editing.{own_basis, EditsGrow};
 ghost use Rattle.yd_doc.specs.Kept.{received_of};
 
 use crate::replica::Replica;
@@ -37,4 +37,14 @@ pub fn edits_are_grouped(replica: &Replica)
     let _received = replica.state.received();
     yd_editing::law::own_edits_are_taken();
     yd_editing::law::own_edits_are_valid();
+}
+
+/// An edit says less of nothing. So after it each list is what it was with what became held, each
+/// put where the integration scan puts it, for every set of operations.
+pub fn edits_grow(replica: &Replica)
+    ensures { EditsGrow replica.now }
+{
+    // What is kept is looked at, since its invariant says this.
+    let _received = replica.state.received();
+    yd_editing::law::own_edits_are_taken();
 }

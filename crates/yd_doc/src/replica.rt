@@ -11,6 +11,7 @@ ghost use Rattle.yd_meaning.specs.Document.{AreDeletedIn};
 ghost use Rattle.yd_grouping.specs.Merged.{reply_of};
 ghost use Rattle.yd_listing.specs.Listing.{Tells};
 ghost use Rattle.yd_state.specs.Brings.{BringsUnknown};
+ghost use Rattle.yd_doc.specs.Editing.{ListsGrow};
 ghost use Rattle.yd_doc.specs.Kept.{received_of, own_deletes, own_document};
 ghost use Rattle.yd_doc.specs.Waiting.{counts_of};
 
@@ -100,6 +101,7 @@ impl Replica {
             ≡ received_after (received_of self.old) (update_value update.now)) }
         ensures brings { IfOk result (λ brings. IsTrue brings ↔ BringsUnknown
             (update_value update.now) (received_of self.old) (own_deletes self.old)) }
+        ensures grows { OnOk result (ListsGrow (update_value update.now) self.old self.new) }
         ensures caught_up { OnOk result (self.new.is_behind ≡ false) }
         ensures client { self.new.client ≡ self.old.client }
         ensures unchanged { OnErr result (received_of self.new ≡ received_of self.old) }

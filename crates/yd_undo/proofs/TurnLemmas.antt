@@ -33,4 +33,5 @@ undone (Some e) old new update ready taken = record {
   received = taken.received;
   client = taken.client;
   is_behind = taken.is_behind;
+  grows = taken.grows;
 }

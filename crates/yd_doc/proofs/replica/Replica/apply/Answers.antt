@@ -1,8 +1,9 @@
 use Rattle.std.proofs.Common.{subst}
-use Rattle.std.specs.Prelude.{◌↔◌, IfOk, IsTrue}
+use Rattle.std.specs.Prelude.{◌↔◌, IfOk, OnOk, IsTrue}
 use Rattle.yd_ops.specs.View.{update_value}
 use Rattle.yd_state.specs.State.{StateValue, received_in}
 use Rattle.yd_state.specs.Brings.{BringsUnknown}
+use Rattle.yd_state.specs.Growing.{Grows}
 use Rattle.yd_doc.specs.Kept.{Kept, received_of, own_deletes}
 use Rattle.yd_doc.proofs.replica.Replica.apply.Goals as goal
 
@@ -12,3 +13,10 @@ returns-clause-brings c =
     let state : StateValue = c.self.inside.state in
     subst (λ (r : Kept). IsTrue c.in_ok-brings.brings ↔ BringsUnknown update (received_of r) (own_deletes r)) c.self.view_is
     (subst (λ r. IfOk r (λ brings. IsTrue brings ↔ BringsUnknown update (received_in state) state.deletes)) c.in_ok-brings.was c.take-applied.ensures.brings)
+
+pub returns-clause-grows : goal.returns-clause-grows
+returns-clause-grows c =
+    let update = update_value c.args.update.now in
+    let new : StateValue = c.take-applied.new.self in
+    subst (λ (r : Kept). Grows update r.state new) c.self.view_is
+    (subst (λ r. OnOk r (Grows update c.self.inside.state new)) c.in_ok-brings.was c.take-applied.ensures.grows)
