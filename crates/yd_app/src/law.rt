@@ -105,8 +105,8 @@ pub fn run_in_memory(
         → FollowsOnline words.now (Some (shelf_of library.old)) result }
     ensures converges { result ≡ 0 → Writes words.now (Some (shelf_of library.old)) (link_of
         (board_of (Some (traffic_of board.old)) board.old.plan.faults (failed_sends board.old.sent))
-        (board_of (Some (traffic_of board.new)) board.new.plan.faults (failed_sends board.new.sent)))
-        (Some out.old.bytes) (Some out.new.bytes) }
+        (board_of (Some (traffic_of board.new)) board.new.plan.faults
+        (failed_sends board.new.sent))) (Some out.old.bytes) (Some out.new.bytes) }
 {
     run(alloc, words, library, out, err, board)
 }

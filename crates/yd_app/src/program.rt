@@ -86,7 +86,8 @@ fn make<'a, L: Library, B: Switchboard>(
     ensures makes { MakesAsked (L.is_calm library.old) (link_of
         (board_of (B.told board.old) (B.faults board.old) (B.send_faults board.old))
         (board_of (B.told board.new) (B.faults board.new) (B.send_faults board.new)))
-        words.now (L.told library.old) (L.told library.new) (count_of (L.faults library.old) (L.faults library.new)) result }
+        words.now (L.told library.old) (L.told library.new)
+        (count_of (L.faults library.old) (L.faults library.new)) result }
     ensures reads { L.is_calm library.old → ReadsAsked words.now (L.told library.old)
         (count_of (L.faults library.old) (L.faults library.new)) }
     ensures linked { B.is_calm board.old → HasItsTurns words.now (B.told board.old)
