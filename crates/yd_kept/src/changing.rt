@@ -1,11 +1,10 @@
-//! What is held, deleted, told less, and taken back.
+//! What is deleted, taken back, and joined.
 
 ghost use Rattle.std.specs.Prelude.{◌≡◌, ◌≤◌, ◌+◌, OnOk, OnErr};
 ghost use Rattle.yd_arena.specs.Arena.{runs_of, next_clock};
 ghost use Rattle.yd_arena.specs.Marks.{IsBorder};
 ghost use Rattle.yd_store.specs.Units.{KeepsUnits};
 ghost use Rattle.yd_store.specs.Deleting.{DeletesUnits};
-ghost use Rattle.yd_store.specs.Lowering.{LowersUnits};
 ghost use Rattle.yd_store.specs.Taking.{TakesBack};
 ghost use Rattle.yd_kept.specs.Kept.{StaysFilled, JoinsHeld};
 
@@ -24,30 +23,6 @@ impl Kept {
         ensures names { self.new.names ≡ self.old.names }
     {
         self.store.delete(span)
-    }
-
-    /// Spells the units of a span deleted, all of which are held: what they hold is told no more.
-    /// Halves that lose their partner become U+FFFD. Where it finds no memory, no unit changes.
-    pub fn lower(&mut self, span: Span) -> Result<(), NoMemory>
-        requires held { span.clock + span.len ≤ next_clock self.old.store.placed span.client.0 }
-        ensures done { OnOk result (LowersUnits self.old.store self.new.store span 1) }
-        ensures unchanged { OnErr result (KeepsUnits self.old.store self.new.store) }
-        ensures filled { StaysFilled self.old self.new }
-        ensures names { self.new.names ≡ self.old.names }
-    {
-        self.store.lower(span)
-    }
-
-    /// Lets the units of a span be gone, all of which are held and lost. Halves are treated as by
-    /// `lower`. Where it finds no memory, no unit changes.
-    pub fn empty_lost(&mut self, span: Span) -> Result<(), NoMemory>
-        requires held { span.clock + span.len ≤ next_clock self.old.store.placed span.client.0 }
-        ensures done { OnOk result (LowersUnits self.old.store self.new.store span 0) }
-        ensures unchanged { OnErr result (KeepsUnits self.old.store self.new.store) }
-        ensures filled { StaysFilled self.old self.new }
-        ensures names { self.new.names ≡ self.old.names }
-    {
-        self.store.empty_lost(span)
     }
 
     /// Takes the client's units from a clock on out again, where no run goes over that clock. Lists

@@ -24,9 +24,10 @@ mod changing;
 mod holding;
 mod kept;
 pub mod law;
+mod lowering;
 mod marking;
 pub mod one_list;
 mod placing;
 
 pub use kept::Kept;
-pub use yd_store::Unplaced;
+pub use yd_store::{Level, Torn, Unplaced};

@@ -3,14 +3,15 @@ use Rattle.std.proofs.Common.{◌≡◌, ℕ, ◌<◌, Option, Some, None, refl,
 use Rattle.std.specs.Prelude.{IfSome, IfNone}
 use Rattle.yd_ids.specs.declared.id.Id.{Id}
 use Rattle.yd_ids.specs.declared.id.Span.{Span}
-use Rattle.yd_ops.specs.Operation.{UnitContent, text_unit, any_unit, json_unit, bytes, embedded, mark, nested_type, deleted_unit, gone_unit, IsHighUnit, IsLowUnit}
+use Rattle.yd_ids.specs.Span.{InSpan}
+use Rattle.yd_ops.specs.Operation.{UnitContent, Operation, text_unit, any_unit, json_unit, bytes, embedded, mark, nested_type, deleted_unit, gone_unit, IsHighUnit, IsLowUnit}
 use Rattle.yd_store.specs.declared.halves.Torn.{Torn}
 use Rattle.yd_store.specs.Store.{Stored}
 use Rattle.yd_store.specs.Units.{KeepsUnits}
 use Rattle.yd_store.specs.Lowering.{lowered_in, MapsUnits, LowersUnits}
 use Rattle.yd_store.specs.Halves.{HasPair, first_id, end_id, torn_at, IsKnown, IsFreed, half_of}
 use Rattle.yd_store.proofs.LoweredLemmas.{maps_kept, maps_both, maps_none}
-use Rattle.yd_store.proofs.TearingLemmas.{known_kept, alone_kept, alone_torn, tells_less, tells_none}
+use Rattle.yd_store.proofs.TearingLemmas.{LeavesText, torn_leaves, lowered_leaves, known_kept, alone_kept, alone_mapped, if_some, tells_less, tells_none}
 
 -- ---- a half is of a text
 
@@ -58,11 +59,18 @@ freed_kept old new None (Some t) k freed = absurd freed
 freed_kept old new (Some half) None k freed = absurd freed
 freed_kept old new (Some half) (Some t) k freed = (freed.0, freed.1, alone_kept old new half k freed.2)
 
+pub freed_mapped : (old new : Stored) (told : Operation → Operation) (z : Option Id) (t : Option Torn) → MapsUnits old new told → IfSome z (LeavesText told) → IsFreed old z t → IsFreed new z t
+freed_mapped old new told None None m leaves freed = tt
+freed_mapped old new told None (Some t) m leaves freed = absurd freed
+freed_mapped old new told (Some half) None m leaves freed = absurd freed
+freed_mapped old new told (Some half) (Some t) m leaves freed = (freed.0, freed.1, alone_mapped old new told half m leaves freed.2)
+
 pub freed_torn : (old new : Stored) (other z : Option Id) (t : Option Torn) → MapsUnits old new (torn_at other) → IsFreed old z t → IsFreed new z t
-freed_torn old new other None None m freed = tt
-freed_torn old new other None (Some t) m freed = absurd freed
-freed_torn old new other (Some half) None m freed = absurd freed
-freed_torn old new other (Some half) (Some t) m freed = (freed.0, freed.1, alone_torn old new other half m freed.2)
+freed_torn old new other z t m freed = freed_mapped old new (torn_at other) z t m (if_some z (LeavesText (torn_at other)) (λ half e. torn_leaves other half)) freed
+
+pub freed_lowered : (old new : Stored) (span : Span) (level : ℕ) (half : Id) (t : Torn) → MapsUnits old new (lowered_in span level) → (InSpan span half → ⊥) →
+    IsFreed old (Some half) (Some t) → IsFreed new (Some half) (Some t)
+freed_lowered old new span level half t m out freed = freed_mapped old new (lowered_in span level) (Some half) (Some t) m (lowered_leaves span level half out) freed
 
 freed_half : (it : Stored) (z : Option Id) (t : Option Torn) → IsFreed it z t → half_of t ≡ z
 freed_half it None None freed = refl

@@ -125,26 +125,35 @@ alone_kept old new id k alone = record {
   back = k.borders id.client.0 (id.clock + 1) alone.back;
 }
 
-torn_id : (z : Option Id) (o : Operation) (unit : ℕ) → o.content ≡ text_unit unit → ((torn_at z o).id ≡ o.id) × (more : ℕ) × ((torn_at z o).content ≡ text_unit more)
-torn_id None o unit known = (refl, unit, known)
-torn_id (Some id) o unit known = elim (same_says o.id id) [
+-- a text unit with the id that is told anew is one still, with that id
+abbrev pub LeavesText : (Operation → Operation) → Id → Type 0
+LeavesText told id = (o : Operation) (unit : ℕ) → o.id ≡ id → o.content ≡ text_unit unit → ((told o).id ≡ o.id) × (more : ℕ) × ((told o).content ≡ text_unit more)
+
+pub torn_leaves : (z : Option Id) (id : Id) → LeavesText (torn_at z) id
+torn_leaves None id o unit e known = (refl, unit, known)
+torn_leaves (Some half) id o unit e known = elim (same_says o.id half) [
   | inl t ↦ rw t.0 (refl, 0xFFFD, refl)
   | inr f ↦ rw f.0 (refl, unit, known)
 ]
 
-pub alone_torn : (old new : Stored) (z : Option Id) (id : Id) → MapsUnits old new (torn_at z) → IsAlone old id → IsAlone new id
-alone_torn old new z id m alone =
+pub lowered_leaves : (span : Span) (level : ℕ) (id : Id) → (InSpan span id → ⊥) → LeavesText (lowered_in span level) id
+lowered_leaves span level id out o unit e known =
+    let same : lowered_in span level o ≡ o = lowered_outside span level o (λ s. out (subst (InSpan span) e s)) in
+    (ap (λ (p : Operation). p.id) same, unit, ap (λ (p : Operation). p.content) same ∙ known)
+
+pub alone_mapped : (old new : Stored) (told : Operation → Operation) (id : Id) → MapsUnits old new told → LeavesText told id → IsAlone old id → IsAlone new id
+alone_mapped old new told id m leaves alone =
     let k = alone.known in
-    let t = torn_id z k.operation k.unit k.known in
+    let t = leaves k.operation k.unit k.id_is k.known in
     record {
-      known = record { operation = torn_at z k.operation; there = m.is k.operation k.there; id_is = t.0 ∙ k.id_is; unit = t.1; known = t.2 };
+      known = record { operation = told k.operation; there = m.is k.operation k.there; id_is = t.0 ∙ k.id_is; unit = t.1; known = t.2 };
       front = m.borders id.client.0 id.clock alone.front;
       back = m.borders id.client.0 (id.clock + 1) alone.back;
     }
 
 -- ---- which halves
 
-if_some : {X : Type 0} (z : Option X) (P : X → Type 0) → ((x : X) → z ≡ Some x → P x) → IfSome z P
+pub if_some : {X : Type 0} (z : Option X) (P : X → Type 0) → ((x : X) → z ≡ Some x → P x) → IfSome z P
 if_some None P f = tt
 if_some (Some x) P f = f x refl
 

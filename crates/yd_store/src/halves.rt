@@ -24,9 +24,10 @@ pub(crate) struct TextUnit {
     pub left: Option<Id>,
 }
 
-/// A half that is a run of its own, and what is to stand for it.
+/// A half that is cut out, and what is to stand for it: `Store::free_half` makes it, and
+/// `Store::tear_half` takes it.
 #[derive(Drop)]
-pub(crate) struct Torn {
+pub struct Torn {
     /// The id of the half.
     pub half: Id,
     /// U+FFFD.
@@ -92,19 +93,6 @@ impl Store {
         }
     }
 
-    /// Cuts a half out, and makes what is to stand for it.
-    fn free_half(&mut self, half: Id) -> Result<Torn, NoMemory>
-        requires { IsKnown self.old half }
-        ensures freed { IfOk result (λ torn. IsFreed self.new (Some half) (Some torn)) }
-        ensures units { KeepsUnits self.old self.new }
-    {
-        self.is_sound();
-        self.part_at(half)?;
-        self.part_behind(half)?;
-        let units = self.replacement()?;
-        Ok(Torn { half, units })
-    }
-
     /// Lets U+FFFD stand for a half, if there is one. It takes no memory.
     pub(crate) fn tear(&mut self, torn: Option<Torn>)
         requires { IsFreed self.old (half_of torn) torn }
@@ -114,19 +102,6 @@ impl Store {
         if let Some(half) = torn {
             self.tear_half(half);
         }
-    }
-
-    /// Lets U+FFFD stand for a half. It takes no memory.
-    fn tear_half(&mut self, torn: Torn)
-        requires { IsFreed self.old (Some torn.half) (Some torn) }
-        ensures maps { MapsUnits self.old self.new (torn_at (Some torn.half)) }
-        ensures placed { self.new.placed ≡ self.old.placed }
-    {
-        self.is_sound();
-        let Some(found) = self.find(torn.half) else {
-            unreachable!();
-        };
-        self.put_text(found.place, torn.units);
     }
 }
 

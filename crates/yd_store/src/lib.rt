@@ -28,6 +28,7 @@ mod joining;
 pub mod law;
 mod level;
 mod lowering;
+mod parting;
 mod parts;
 mod rights;
 mod store;
@@ -35,5 +36,6 @@ mod taking;
 
 pub use contents::Contents;
 pub use fault::Unplaced;
+pub use halves::Torn;
 pub use level::Level;
 pub use store::Store;

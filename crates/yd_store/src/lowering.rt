@@ -53,10 +53,9 @@ impl Store {
         self.part_span(span)?;
         let before = self.free(front)?;
         let behind = self.free(back)?;
-        self.is_sound();
         self.tear(before);
         self.tear(behind);
-        self.lower_runs(span, level);
+        self.lower_parted(span, level);
         Ok(())
     }
 

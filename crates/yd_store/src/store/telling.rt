@@ -5,7 +5,7 @@ ghost use Rattle.yd_scan.specs.Stretches.{stretch_at};
 ghost use Rattle.yd_arena.specs.Arena.{runs_of, next_clock};
 ghost use Rattle.yd_arena.specs.Marks.{IsBorder};
 ghost use Rattle.yd_store.specs.Contents.{told_of, run_at};
-ghost use Rattle.yd_store.specs.Store.{spare_of, AreTold};
+ghost use Rattle.yd_store.specs.Store.{spare_of};
 ghost use Rattle.yd_store.specs.Lowering.{LowersSpan};
 ghost use Rattle.yd_store.specs.Halves.{HoldsText, told_as};
 
@@ -22,7 +22,6 @@ impl Store {
         requires held { span.clock + span.len ≤ next_clock self.old.placed span.client.0 }
         requires front { IsBorder (runs_of self.old.placed) span.client.0 span.clock }
         requires back { IsBorder (runs_of self.old.placed) span.client.0 (span.clock + span.len) }
-        ensures told { AreTold (runs_of self.old.placed) (told_of self.old.contents) }
         ensures lowered { LowersSpan (runs_of self.old.placed) level
             (told_of self.old.contents) (told_of self.new.contents) span }
         ensures placed { self.new.placed ≡ self.old.placed }

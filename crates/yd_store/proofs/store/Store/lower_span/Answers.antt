@@ -1,11 +1,8 @@
-use Rattle.std.proofs.Common.{◌+◌, ◌<◌, ◌∙◌, Result, Ok, Err, sym, subst, arith}
+use Rattle.std.proofs.Common.{◌+◌, ◌<◌, Result, Ok, Err, arith}
 use Rattle.std.specs.Prelude.{OnErr}
-use Rattle.yd_arena.specs.Lists.{AreLists}
-use Rattle.yd_arena.specs.Arena.{Placed}
 use Rattle.yd_store.specs.Lowering.{number_of}
 use Rattle.yd_store.specs.Halves.{half_of}
 use Rattle.yd_store.proofs.IntegratingLemmas.{keeps_both}
-use Rattle.yd_store.proofs.LoweredLemmas.{lowers_store}
 use Rattle.yd_store.proofs.FreedLemmas.{back_known, freed_kept, freed_torn, freed_own, lowers_halves, lowers_no_unit}
 use Rattle.yd_store.proofs.store.Store.lower_span.Goals as goal
 
@@ -41,31 +38,23 @@ tear-requires-2 c =
     freed_own c.tear.new.self c.half_behind-back.result c.in_ok-behind.behind
     (freed_torn c.free-2.new.self c.tear.new.self (half_of c.in_ok-before.before) c.half_behind-back.result c.in_ok-behind.behind c.tear.ensures.maps c.in_ok-behind.ensures.freed)
 
-pub lower_runs-requires-clause-front : goal.lower_runs-requires-clause-front
-lower_runs-requires-clause-front c =
+pub lower_parted-requires-clause-front : goal.lower_parted-requires-clause-front
+lower_parted-requires-clause-front c =
     let client = c.args.span.client.0 in
     let clock = c.args.span.clock in
     c.tear-2.ensures.maps.borders client clock (c.tear.ensures.maps.borders client clock (c.free-2.ensures.units.borders client clock (c.free.ensures.units.borders client clock c.in_ok-part_span.ensures.front)))
 
-pub lower_runs-requires-clause-back : goal.lower_runs-requires-clause-back
-lower_runs-requires-clause-back c =
+pub lower_parted-requires-clause-back : goal.lower_parted-requires-clause-back
+lower_parted-requires-clause-back c =
     let client = c.args.span.client.0 in
     let clock = c.args.span.clock + c.args.span.len in
     c.tear-2.ensures.maps.borders client clock (c.tear.ensures.maps.borders client clock (c.free-2.ensures.units.borders client clock (c.free.ensures.units.borders client clock c.in_ok-part_span.ensures.back)))
 
 pub returns-clause-done : goal.returns-clause-done
 returns-clause-done c =
-    let client = c.args.span.client.0 in
-    let first = c.args.span.clock in
-    let end = c.args.span.clock + c.args.span.len in
-    let lists : AreLists c.tear-2.new.self.placed.linked = subst (λ (p : Placed). AreLists p.linked) (sym (c.tear-2.ensures.placed ∙ c.tear.ensures.placed)) c.is_sound.ensures.lists in
     let some : 0 < c.args.span.len = omega (arith, c.if-span-eq0.false) in
-    lowers_halves c.args.self.now c.free-2.new.self c.tear.new.self c.tear-2.new.self c.lower_runs.new.self c.args.span (number_of c.args.level) c.half_before-front.result c.half_behind-back.result c.in_ok-before.before c.in_ok-behind.behind some
+    lowers_halves c.args.self.now c.free-2.new.self c.tear.new.self c.tear-2.new.self c.lower_parted.new.self c.args.span (number_of c.args.level) c.half_before-front.result c.half_behind-back.result c.in_ok-before.before c.in_ok-behind.behind some
     c.half_before-front.ensures.found c.half_before-front.ensures.none c.half_behind-back.ensures.found c.half_behind-back.ensures.none
     (freed_kept c.free.new.self c.free-2.new.self c.half_before-front.result c.in_ok-before.before c.free-2.ensures.units c.in_ok-before.ensures.freed) c.in_ok-behind.ensures.freed
     (keeps_both c.args.self.now c.free.new.self c.free-2.new.self (keeps_both c.args.self.now c.part_span.new.self c.free.new.self c.part_span.ensures.units c.free.ensures.units) c.free-2.ensures.units)
-    c.tear.ensures.maps c.tear-2.ensures.maps
-    (lowers_store c.tear-2.new.self c.lower_runs.new.self c.args.span c.args.level c.lower_runs.ensures.told lists
-    (c.tear-2.ensures.maps.borders client first (c.tear.ensures.maps.borders client first (c.free-2.ensures.units.borders client first (c.free.ensures.units.borders client first c.in_ok-part_span.ensures.front))))
-    (c.tear-2.ensures.maps.borders client end (c.tear.ensures.maps.borders client end (c.free-2.ensures.units.borders client end (c.free.ensures.units.borders client end c.in_ok-part_span.ensures.back))))
-    c.lower_runs.ensures.lowered c.lower_runs.ensures.placed c.lower_runs.ensures.marks)
+    c.tear.ensures.maps c.tear-2.ensures.maps c.lower_parted.ensures.maps
