@@ -6,6 +6,7 @@ pub mod HoldingLemmas
 pub mod KeepingLemmas
 pub mod MarkingLemmas
 pub mod NextLemmas
+pub mod PartedLemmas
 pub mod PlacingLemmas
 pub mod RowLemmas
 pub mod TellingLemmas

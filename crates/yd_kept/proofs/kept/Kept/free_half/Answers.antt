@@ -1,0 +1,5 @@
+use Rattle.yd_kept.proofs.ChangeLemmas.{units_keep}
+use Rattle.yd_kept.proofs.kept.Kept.free_half.Goals as goal
+
+pub returns-clause-kept : goal.returns-clause-kept
+returns-clause-kept c = rw (← c.self.view_is) (units_keep c.self.inside.names c.self.inside.store c.free_half.new.self c.free_half.ensures.units)
