@@ -16,6 +16,7 @@ use Rattle.yd_entries.proofs.BorderLemmas.{torn_none}
 use Rattle.yd_entries.proofs.ChangeLemmas.{entry_got}
 use Rattle.yd_entries.proofs.PairLemmas.{splittable}
 use Rattle.yd_entries.proofs.SplitLemmas.{split_order, split_others, split_beside, split_operations, split_taken}
+use Rattle.yd_entries.proofs.StayingLemmas.{stays_none, stays_split}
 
 -- the id is that of the unit so many behind the first
 astride_id : (x : Id) (t : Entry) (n : ℕ) → IsAstride x t → n ≡ x.clock - t.id.clock → later_id t.id n ≡ x
@@ -34,6 +35,7 @@ begins_none runs ts x each order beside = record {
   in_order = order;
   beside = beside;
   others = λ y e. e;
+  places = stays_none runs ts;
 }
 
 module _ (runs : List Run) (ts : List Entry) (x : Id) (at : ℕ) (t : Entry) (there : slice_get ts at ≡ Some t) (is : IsAstride x t) (n : ℕ) (e : n ≡ x.clock - t.id.clock) where
@@ -44,6 +46,7 @@ module _ (runs : List Run) (ts : List Entry) (x : Id) (at : ℕ) (t : Entry) (th
     in_order = split_order t n can ts at there order;
     beside = beside_split;
     others = λ y b. split_others t n can y ts at there b;
+    places = stays_split t n can runs of ts at there;
   })
     where
       of : IsTakenOf runs t
@@ -68,4 +71,5 @@ module _ (runs : List Run) (ts : List Entry) (x : Id) (at : ℕ) (t : Entry) (th
         in_order = splits.recuts.in_order;
         beside = subst (λ y. Each (IsBeside y) taken) id splits.beside;
         others = splits.recuts.others;
+        places = splits.recuts.places;
       }

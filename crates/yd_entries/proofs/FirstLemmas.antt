@@ -23,7 +23,7 @@ pub adds_grown : (old_runs runs : List Run) (old mid new : List Entry) → GrowB
 adds_grown old_runs runs old mid new (more, e) one other =
     adds_more (length old_runs) (length runs) old mid new (omega (arith, ap length e, length-append old_runs more)) one other
 
-later_run : (t : Entry) (n : ℕ) → n ≤ t.run → is_of_first n t ≡ false
+pub later_run : (t : Entry) (n : ℕ) → n ≤ t.run → is_of_first n t ≡ false
 later_run t n le = grind (arith, tests)
 
 -- an entry of a later run goes between the others, and waits

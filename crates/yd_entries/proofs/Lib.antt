@@ -22,6 +22,7 @@ pub mod ScanLemmas
 pub mod SetLemmas
 pub mod SpelledLemmas
 pub mod SplitLemmas
+pub mod StayingLemmas
 pub mod StepLemmas
 pub mod TakenLemmas
 pub mod TearLemmas

@@ -12,6 +12,7 @@ use Rattle.yd_ops.specs.View.{run_value}
 use Rattle.yd_entries.specs.declared.entry.Entry.{Entry}
 use Rattle.yd_entries.specs.Entries.{units_of, list_at, operations_of_taken, IsTakenOf}
 use Rattle.yd_entries.specs.Lowering.{level_of_content, level_of_run, level_told, level_of_entry, as_gone, with_run, own_run, down_to}
+use Rattle.yd_entries.specs.Staying.{IsLess}
 use Rattle.yd_entries.proofs.BorderLemmas.{map_alike}
 use Rattle.yd_entries.proofs.OwnLemmas.{told_of, told_operations, own_operations, own_taken, last_run}
 use Rattle.yd_entries.proofs.ScanLemmas.{taken_level}
@@ -52,6 +53,13 @@ unit_in : (id : Id) (left right : Option Id) (list : Option DocList) (units : Li
 unit_in id left right list [] k unit e = absurd cc
 unit_in id left right list (u ∷ us) zero unit e = (record { id = id; left_origin = left; right_origin = right; list = list; content = u }, inl refl, same_Some u unit e)
 unit_in id left right list (u ∷ us) (suc k) unit e = let (o, i, f) = unit_in (later_id id 1) (Some id) right None us k unit e in (o, inr i, f)
+
+deleted_less : (id : Id) (left right : Option Id) (list : Option DocList) (count : ℕ) (o : Operation) →
+    IsIn o (operations_from id left right list (deleted_units count)) →
+    IsLess o
+deleted_less id left right list zero o i = absurd i
+deleted_less id left right list (suc count) o (inl e) = inl (ap (λ (p : Operation). level_of p.content) e)
+deleted_less id left right list (suc count) o (inr i) = deleted_less (later_id id 1) (Some id) right None count o i
 
 -- ---- an entry
 
@@ -104,6 +112,10 @@ module _ (runs : List Run) (t : Entry) (is : IsTakenOf runs t) where
         ∙ ap (λ n. operations_from t.id t.left t.right (list_at (slice_get runs t.run) t.offset) (deleted_units n)) (sym (units_taken runs t (told_of runs t is told)))
         ∙ sym (down_deleted t.id t.left t.right (list_at (slice_get runs t.run) t.offset) told_units (say_more 1 less told))
         ∙ ap (λ os. map (down_to 1) os) (sym (told_operations runs t told))
+
+    pub deleted_all : (o : Operation) → IsIn o (operations_of_taken new (with_run t (length runs) 0)) → IsLess o
+    deleted_all o i = deleted_less t.id t.left t.right (list_at (slice_get runs t.run) t.offset) t.len o
+        (subst (IsIn o) (own_operations runs t is (more_told 1 less) new run (deleted t.len) grown own (length-deleted t.len)) i)
 
     pub deleted_taken : IsTakenOf new (with_run t (length runs) 0)
     deleted_taken = own_taken runs t is (more_told 1 less) new run (deleted t.len) grown own (length-deleted t.len) tt (λ cut. cut) (λ cut. cut)

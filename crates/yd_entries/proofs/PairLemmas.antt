@@ -16,9 +16,12 @@ use Rattle.yd_entries.specs.declared.entry.Entry.{Entry}
 use Rattle.yd_entries.specs.Entries.{PartsPair, operations_in, IsTakenOf, AreInOrder}
 use Rattle.yd_entries.specs.Lowering.{IsBeside}
 use Rattle.yd_entries.specs.Splitting.{IsSplittable, front_of, back_told, split_in, split_behind, place_behind, PartsPairOf, KeepsTwo}
+use Rattle.yd_entries.specs.Staying.{KeepsPlaces}
 use Rattle.yd_entries.proofs.ChangeLemmas.{entry_got}
 use Rattle.yd_entries.proofs.OwnLemmas.{told_of}
 use Rattle.yd_entries.proofs.SplitLemmas.{split_order, split_others, split_operations, split_taken, split_first, split_second}
+use Rattle.yd_entries.proofs.StayingLemmas.{stays_none, stays_more, stays_split}
+use Rattle.yd_entries.proofs.TakenLemmas.{grow_none}
 use Rattle.yd_entries.proofs.UnitLemmas.{later_same}
 
 -- ---- cuts
@@ -93,6 +96,7 @@ pub record IsFront (runs : List Run) (old ts : List Entry) (p : ℕ) (x : Id) : 
   pub each : Each (IsTakenOf runs) ts
   pub in_order : AreInOrder ts
   pub others : (y : Id) → Each (IsBeside y) old → Each (IsBeside y) ts
+  pub places : KeepsPlaces runs old runs ts
   pub behind : x ≡ later_id entry.id 1
   pub parts : PartsPairOf runs entry 1
   pub more : 1 < entry.len
@@ -110,6 +114,7 @@ module _ (runs : List Run) (ts : List Entry) (at : ℕ) (t : Entry) (there : sli
     each = each;
     in_order = order;
     others = λ y e. e;
+    places = stays_none runs ts;
     behind = refl;
     parts = parts;
     more = fewer;
@@ -121,6 +126,7 @@ module _ (runs : List Run) (ts : List Entry) (at : ℕ) (t : Entry) (there : sli
     each = split_taken t (suc m) can runs is (λ whole. beside_whole runs t (suc m) (suc (suc m)) whole parts (inl (omega arith))) ts at there each;
     in_order = split_order t (suc m) can ts at there order;
     others = λ y e. split_others t (suc m) can y ts at there e;
+    places = stays_split t (suc m) can runs is ts at there;
     behind = later_same t.id (suc (suc m)) (suc m + 1) (omega arith) ∙ sym (later_later t.id (suc m) 1);
     parts = (parts.0, (parts.1.0, parts.1.1, subst (PartsPair (content_value parts.1.0.content)) sum parts.1.2));
     more = omega (arith, fewer);
@@ -159,6 +165,7 @@ front_alone runs old ts kept p x front keeps = elim (split front.entry.len 2) [
       each = split_taken front.entry 2 (can many) runs is (λ whole. beside_whole runs front.entry 1 2 front.parts whole (inl refl)) ts p front.there front.each;
       in_order = split_order front.entry 2 (can many) ts p front.there front.in_order;
       others = λ y e. split_others front.entry 2 (can many) y ts p front.there (front.others y e);
+      places = stays_more runs runs runs old ts (split_in p 2 ts) (grow_none runs) front.places (stays_split front.entry 2 (can many) runs is ts p front.there);
       behind = front.behind;
       parts = front.parts;
       more = omega arith;

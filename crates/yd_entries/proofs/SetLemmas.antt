@@ -15,7 +15,7 @@ use Rattle.yd_entries.specs.declared.entry.Entry.{Entry}
 use Rattle.yd_entries.specs.Entries.{operations_of_taken, operations_in, IsTakenOf, StandsBefore, AreInOrder, GrowBy}
 use Rattle.yd_entries.specs.Lowering.{IsBeside, LowersEntry, level_of_entry, as_gone, with_run, own_run}
 use Rattle.yd_entries.proofs.ChangeLemmas.{entry_got}
-use Rattle.yd_entries.proofs.LowerLemmas.{down_none, gone_operations, gone_taken, deleted_operations, deleted_taken, deleted_low}
+use Rattle.yd_entries.proofs.LowerLemmas.{down_none, gone_operations, gone_taken, deleted_operations, deleted_all, deleted_taken, deleted_low}
 use Rattle.yd_entries.proofs.TakenLemmas.{grown_operations, grown_each, grown_in}
 
 -- ---- a list of which one is set
@@ -88,9 +88,11 @@ module _ (runs : List Run) (ts : List Entry) (at level : ℕ) (t : Entry) (there
     placed = set_same ts at t there;
     id = refl;
     len = refl;
+    place = refl;
     of_run = is;
     operations = down_none runs t is level le;
     low = le;
+    less = inl refl;
   }
 
   pub lowers_gone : level < level_of_entry runs t → level ≡ 0 → (u : Entry) → u ≡ as_gone t → LowersEntry runs ts runs (set ts at u) at level
@@ -101,9 +103,11 @@ module _ (runs : List Run) (ts : List Entry) (at level : ℕ) (t : Entry) (there
     placed = refl;
     id = refl;
     len = refl;
+    place = refl;
     of_run = gone_taken runs t is;
     operations = gone_operations runs t is (omega (arith, less));
     low = omega arith;
+    less = inr (inl refl);
   }))
 
   pub lowers_deleted : level < level_of_entry runs t → level ≡ 1 → (new : List Run) (run : Run) (index : ℕ) → new ≡ runs ++ run ∷ [] →
@@ -117,9 +121,11 @@ module _ (runs : List Run) (ts : List Entry) (at level : ℕ) (t : Entry) (there
         placed = refl;
         id = refl;
         len = refl;
+        place = refl;
         of_run = deleted_taken runs t is new run grown own more;
         operations = deleted_operations runs t is new run grown own more;
         low = deleted_low runs t is new run grown own more;
+        less = inr (inr (omega arith, deleted_all runs t is new run grown own more));
       }))
     where
       more : 1 < level_of_entry runs t

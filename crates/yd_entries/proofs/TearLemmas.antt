@@ -2,6 +2,7 @@
 use Rattle.std.proofs.Common.{◌≡◌, ℕ, zero, suc, ◌+◌, ◌≤◌, List, [], ◌∷◌, length, take, drop, map, set, Some, None, inl, inr, refl, sym, ap, ap₂, ◌∙◌, subst, arith}
 use Rattle.std.specs.Prelude.{slice_get, slice_index, Option}
 use Rattle.yd_words.specs.Each.{Each}
+use Rattle.yd_words.specs.Member.{IsIn}
 use Rattle.yd_words.proofs.MemberLemmas.{each_in}
 use Rattle.yd_words.proofs.OptionLemmas.{some_is}
 use Rattle.yd_ids.specs.declared.id.Id.{Id}
@@ -17,12 +18,15 @@ use Rattle.yd_entries.specs.declared.entry.Entry.{Entry}
 use Rattle.yd_entries.specs.Entries.{units_of, list_at, PartsPair, operations_of_taken, operations_in, IsTakenOf, AreInOrder}
 use Rattle.yd_entries.specs.Lowering.{torn_at, IsBeside, with_run, own_run}
 use Rattle.yd_entries.specs.Splitting.{IsSplittable, split_in, PartsPairOf, Recuts, two_torn, Tears}
+use Rattle.yd_entries.specs.Staying.{IsLess, KeepsPlaces}
 use Rattle.yd_entries.proofs.BorderLemmas.{torn_none}
 use Rattle.yd_entries.proofs.ChangeLemmas.{entry_got, set_has_at}
 use Rattle.yd_entries.proofs.OwnLemmas.{told_operations, own_operations, own_taken, last_run}
 use Rattle.yd_entries.proofs.PairLemmas.{HasHalves, two_halves, splittable, IsFront}
 use Rattle.yd_entries.proofs.SetLemmas.{order_set, others_set, taken_set, map_set}
 use Rattle.yd_entries.proofs.SplitLemmas.{split_order, split_others, split_beside, split_operations, split_taken}
+use Rattle.yd_entries.proofs.StayingLemmas.{stays_more, stays_set, stays_split}
+use Rattle.yd_entries.proofs.TakenLemmas.{grow_none}
 use Rattle.yd_entries.proofs.TornLemmas.{border_half, torn_at_border, torn_at_other}
 
 -- ---- two units that are U+FFFD
@@ -113,6 +117,16 @@ module _ (old_runs : List Run) (old ts : List Entry) (p : ℕ) (x : Id) (front :
       (take front.entry.len (drop front.entry.offset (units_of (slice_get old_runs front.entry.run)))))) (sym front.behind)
       ∙ ap (λ os. map (torn_at x) os) (sym (told_operations old_runs front.entry front.parts.0))
 
+  new_less : (o : Operation) → IsIn o (operations_of_taken runs new) → IsLess o
+  new_less o i = go (subst (IsIn o) ops i)
+    where
+      go : IsIn o (operations_from front.entry.id front.entry.left front.entry.right (list_at (slice_get old_runs front.entry.run) front.entry.offset)
+          (text_unit 0xFFFD ∷ text_unit 0xFFFD ∷ [])) →
+          IsLess o
+      go (inl e) = inr (ap (λ (p : Operation). p.content) e)
+      go (inr (inl e)) = inr (ap (λ (p : Operation). p.content) e)
+      go (inr (inr j)) = absurd j
+
   whole : PartsPairOf runs new 1 → ⊥
   whole (e, (run, there, cut)) =
       let same : run ≡ tears.run = some_is run tears.run (sym there ∙ last_run old_runs runs tears.run tears.runs_are) in
@@ -131,6 +145,14 @@ module _ (old_runs : List Run) (old ts : List Entry) (p : ℕ) (x : Id) (front :
 
   can : IsSplittable new 1
   can = splittable runs new 1 new_is (omega arith) (omega (arith, two))
+
+  -- they stay at their places while they are torn, and while they are split
+  places : KeepsPlaces old_runs old runs (split_in p 1 torn)
+  places =
+      stays_more old_runs runs runs old torn (split_in p 1 torn) (tears.run ∷ [], tears.runs_are)
+      (stays_more old_runs old_runs runs old ts torn (grow_none old_runs) front.places (subst (λ us. KeepsPlaces old_runs ts runs us) (sym placed)
+      (stays_set front.entry new refl refl refl old_runs runs (tears.run ∷ [], tears.runs_are) ts p front.there front.each (inr (inr (omega arith, new_less))))))
+      (stays_split new 1 can runs new_is torn p there_torn)
 
   pub pair_splittable : IsSplittable (with_run front.entry (length old_runs) 0) 1
   pair_splittable = can
@@ -158,6 +180,7 @@ module _ (old_runs : List Run) (old ts : List Entry) (p : ℕ) (x : Id) (front :
     in_order = split_order new 1 can torn p there_torn order;
     others = λ y e. split_others new 1 can y torn p there_torn
         (subst (Each (IsBeside y)) (sym placed) (others_set front.entry new refl refl y ts p front.there (front.others y e)));
+    places = places;
   }
 
   pub pair_beside : Each (IsBeside x) (split_in p 1 torn)

@@ -14,6 +14,7 @@ use Rattle.yd_ops.proofs.LevelLemmas.{as_level-id, as_level-level}
 use Rattle.yd_entries.specs.declared.entry.Entry.{Entry}
 use Rattle.yd_entries.specs.Entries.{operations_of_taken, operations_in, IsTakenOf, AreInOrder, GrowBy}
 use Rattle.yd_entries.specs.Lowering.{is_among, lowered_at, lowered_with, torn_at, IsBeside, begins_within, level_told, level_of_run, level_of_entry, down_to, LowersEntry, LowersWhole, Lowers, Begins}
+use Rattle.yd_entries.specs.Staying.{KeepsPlaces}
 use Rattle.yd_entries.specs.Taking.{EndsBy, EndsBehind}
 use Rattle.yd_entries.proofs.BorderLemmas.{map_alike}
 use Rattle.yd_entries.proofs.ChangeLemmas.{entry_got}
@@ -21,6 +22,7 @@ use Rattle.yd_entries.proofs.EntryLemmas.{client_of, each_from}
 use Rattle.yd_entries.proofs.LowerLemmas.{down_less, down_low}
 use Rattle.yd_entries.proofs.ScanLemmas.{IsLow, rest_behind, low_and_behind, all_low}
 use Rattle.yd_entries.proofs.SetLemmas.{order_set, others_set, taken_set, map_set}
+use Rattle.yd_entries.proofs.StayingLemmas.{stays_none, stays_more, stays_set}
 use Rattle.yd_entries.proofs.TakenLemmas.{grown_get, grow_none, grow_more, taken_id}
 use Rattle.yd_entries.proofs.TornLemmas.{lowered_here, lowered_low, lowered_away}
 
@@ -137,6 +139,7 @@ pub record IsLowering (id : Id) (count level : ℕ) (old_runs : List Run) (old :
   pub rest : Each (EndsBehind id) (drop at taken)
   pub first : Each (IsBeside id) taken
   pub last : Each (IsBeside (later_id id count)) taken
+  pub places : KeepsPlaces old_runs old runs taken
 
 module _ (id : Id) (count level : ℕ) (old_runs : List Run) (old : List Entry) where
   pub lowering_begins : (at : ℕ) → Each (IsTakenOf old_runs) old → AreInOrder old → Each (IsBeside id) old → Each (IsBeside (later_id id count)) old →
@@ -150,6 +153,7 @@ module _ (id : Id) (count level : ℕ) (old_runs : List Run) (old : List Entry) 
     rest = behind;
     first = first;
     last = last;
+    places = stays_none old_runs old;
   }
 
   pub lowering_more : (runs new : List Run) (taken next : List Entry) (at : ℕ) → IsLowering id count level old_runs old runs taken at → at < length taken →
@@ -168,6 +172,8 @@ module _ (id : Id) (count level : ℕ) (old_runs : List Run) (old : List Entry) 
     rest = subst (λ us. Each (EndsBehind id) (drop (at + 1) us)) (sym lowers.placed) (drop_set (EndsBehind id) taken at lowers.new is.rest);
     first = subst (Each (IsBeside id)) (sym lowers.placed) (others_set lowers.entry lowers.new lowers.id lowers.len id taken at lowers.there is.first);
     last = subst (Each (IsBeside (later_id id count))) (sym lowers.placed) (others_set lowers.entry lowers.new lowers.id lowers.len (later_id id count) taken at lowers.there is.last);
+    places = stays_more old_runs runs new old taken next is.grows is.places (subst (λ us. KeepsPlaces runs taken new us) (sym lowers.placed)
+        (stays_set lowers.entry lowers.new lowers.id lowers.len lowers.place runs new grow taken at lowers.there is.each lowers.less));
   }
     where
       here : get_or taken at d ≡ lowers.entry
@@ -186,6 +192,7 @@ module _ (id : Id) (count level : ℕ) (old_runs : List Run) (old : List Entry) 
     operations = sym (map_alike (lowered_at id count level) (operations_in runs taken) low) ∙ is.same;
     each = is.each;
     in_order = is.in_order;
+    places = is.places;
   }
     where
       low : (o : Operation) → IsIn o (operations_in runs taken) → lowered_at id count level o ≡ o
@@ -211,3 +218,9 @@ span_lowers id count level a b c e w x y z first last whole = record {
   each = whole.each;
   in_order = whole.in_order;
 }
+
+pub span_places : (id : Id) (count level : ℕ) (a b c e : List Run) (w x y z : List Entry) → Begins a w b x id → Begins b x c y (later_id id count) →
+    LowersWhole c y e z id count level → GrowBy a b → GrowBy b c →
+    KeepsPlaces a w e z
+span_places id count level a b c e w x y z first last whole one other =
+    stays_more a c e w y z (grow_more a b c one other) (stays_more a b c w x y one first.places last.places) whole.places

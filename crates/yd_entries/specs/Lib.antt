@@ -3,4 +3,5 @@ pub mod Joining
 pub mod Lookup
 pub mod Lowering
 pub mod Splitting
+pub mod Staying
 pub mod Taking

@@ -1,5 +1,5 @@
 -- How operations that are there are lowered, and what can be put back meanwhile (own).
-use Rattle.std.specs.Prelude.{◌≡◌, ℕ, ◌+◌, ◌<◌, ◌≤◌, ◌⊎◌, Bool, true, false, ◌||◌, ◌&&◌, nat_eq, nat_le, nat_lt, List, Option, Some, None, Result, OnOk, map, set, slice_get, if◌then◌else◌}
+use Rattle.std.specs.Prelude.{◌≡◌, ℕ, ◌+◌, ◌<◌, ◌≤◌, ◌⊎◌, Bool, true, false, ◌||◌, ◌&&◌, nat_eq, nat_le, nat_lt, List, Option, Some, None, Result, OnOk, map, set, slice_get, length, if◌then◌else◌}
 use Rattle.std.specs.Global.{Vec}
 use Rattle.yd_words.specs.Each.{Each}
 use Rattle.yd_words.specs.Member.{IsIn}
@@ -13,6 +13,7 @@ use Rattle.yd_ops.specs.Pairs.{is_high, is_low, is_text_and, as_torn}
 use Rattle.yd_entries.specs.declared.entry.Entry.{Entry}
 use Rattle.yd_entries.specs.declared.fault.NoMemory.{NoMemory}
 use Rattle.yd_entries.specs.Entries.{IsTakenOf, AreInOrder, operations_of_taken, operations_in, list_at, StaysOfFirst, OnlyAdds}
+use Rattle.yd_entries.specs.Staying.{IsLess, KeepsPlaces}
 use Rattle.yd_entries.specs.Taking.{EndsBy, BeginsBehind}
 
 -- whether the id is one of so many from one on
@@ -59,12 +60,14 @@ pub record Begins (old_runs : List Run) (old : List Entry) (runs : List Run) (ta
   pub in_order : AreInOrder taken
   pub beside : Each (IsBeside x) taken
   pub others : (y : Id) → Each (IsBeside y) old → Each (IsBeside y) taken
+  pub places : KeepsPlaces old_runs old runs taken
 
 -- so many units from an id on were lowered, where no entry has others beside them
 pub record LowersWhole (old_runs : List Run) (old : List Entry) (runs : List Run) (taken : List Entry) (id : Id) (count level : ℕ) : Type 0 where
   pub operations : operations_in runs taken ≡ map (lowered_at id count level) (operations_in old_runs old)
   pub each : Each (IsTakenOf runs) taken
   pub in_order : AreInOrder taken
+  pub places : KeepsPlaces old_runs old runs taken
 
 -- whether the units are of the id's client and begin before so many from it on end
 abbrev pub begins_within : Id → ℕ → Entry → Bool
@@ -110,6 +113,10 @@ own_run runs t content = record { id = t.id; left = t.left; right = t.right; lis
 abbrev pub down_to : ℕ → Operation → Operation
 down_to level o = if nat_lt level (level_of o.content) then as_level level o else o
 
+-- an entry is as it was, or gone, or of a later run that tells nothing but deleted units and U+FFFD
+abbrev pub BecomesLess : List Run → Entry → List Run → Entry → Type 0
+BecomesLess old_runs t runs u = (u ≡ t) ⊎ ((u.is_gone ≡ true) ⊎ ((length old_runs ≤ u.run) × ((o : Operation) → IsIn o (operations_of_taken runs u) → IsLess o)))
+
 -- an entry was lowered
 pub record LowersEntry (old_runs : List Run) (old : List Entry) (runs : List Run) (taken : List Entry) (at level : ℕ) : Type 0 where
   pub entry : Entry
@@ -118,9 +125,11 @@ pub record LowersEntry (old_runs : List Run) (old : List Entry) (runs : List Run
   pub placed : taken ≡ set old at new
   pub id : new.id ≡ entry.id
   pub len : new.len ≡ entry.len
+  pub place : new.place ≡ entry.place
   pub of_run : IsTakenOf runs new
   pub operations : operations_of_taken runs new ≡ map (down_to level) (operations_of_taken old_runs entry)
   pub low : level_of_entry runs new ≤ level
+  pub less : BecomesLess old_runs entry runs new
 
 -- ---- what can be put back
 

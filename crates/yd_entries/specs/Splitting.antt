@@ -10,6 +10,7 @@ use Rattle.yd_ops.specs.View.{content_value, run_value}
 use Rattle.yd_entries.specs.declared.entry.Entry.{Entry}
 use Rattle.yd_entries.specs.Entries.{IsTakenOf, AreInOrder, operations_in, PartsPair}
 use Rattle.yd_entries.specs.Lowering.{IsBeside, torn_at, with_run, own_run}
+use Rattle.yd_entries.specs.Staying.{KeepsPlaces}
 
 -- the units are on both sides of the id
 pub record IsAstride (x : Id) (t : Entry) : Type 0 where
@@ -82,12 +83,14 @@ place_behind at (suc n) = at + 1
 abbrev pub PartsPairOf : List Run → Entry → ℕ → Type 0
 PartsPairOf runs t n = (t.is_gone ≡ false) × ((run : Run) × (slice_get runs t.run ≡ Some run) × PartsPair (content_value run.content) (t.offset + n))
 
--- the entries are the same units, which a function changes, and no entry has units on both sides of an id where none had
+-- the entries are the same units at their places, which a function changes, and no entry has units on both sides of an id
+-- where none had
 pub record Recuts (old_runs : List Run) (old : List Entry) (runs : List Run) (taken : List Entry) (change : Operation → Operation) : Type 0 where
   pub operations : operations_in runs taken ≡ map change (operations_in old_runs old)
   pub each : Each (IsTakenOf runs) taken
   pub in_order : AreInOrder taken
   pub others : (y : Id) → Each (IsBeside y) old → Each (IsBeside y) taken
+  pub places : KeepsPlaces old_runs old runs taken
 
 -- an entry is split behind its first two units, unless it has no more
 pub record KeepsTwo (old taken : List Entry) (at : ℕ) : Type 0 where

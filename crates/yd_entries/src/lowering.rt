@@ -8,6 +8,7 @@ ghost use Rattle.yd_ops.specs.Operation.{later_id};
 ghost use Rattle.yd_entries.specs.Entries.{IsTakenOf, AreInOrder, operations_in, GrowBy};
 ghost use Rattle.yd_entries.specs.Lowering.{Lowers, LowersWhole, LowersEntry, SaysMore, IsBacked, KeepsAside};
 ghost use Rattle.yd_entries.specs.Lowering.{IsBeside, begins_within, level_from, level_of_entry, as_gone};
+ghost use Rattle.yd_entries.specs.Staying.{KeepsPlaces};
 ghost use Rattle.yd_entries.specs.Taking.{AreUnchanged};
 
 use crate::entry::Entry;
@@ -33,7 +34,8 @@ pub fn level_from(is_gone: bool) -> u64
 }
 
 /// Lowers so many units from an id on to a level, where they say more, and says whether one did. A
-/// half that loses its partner is U+FFFD. Before the first entry is lowered the entries are copied.
+/// half that loses its partner is U+FFFD. All units stay at their places. Before the first entry is
+/// lowered the entries are copied.
 pub fn lower(
     alloc: Global,
     runs: &mut Vec<Run>,
@@ -57,6 +59,8 @@ pub fn lower(
         (AreUnchanged runs.old.items taken.old.items runs.new.items taken.new.items)) }
     ensures aside { IfOk result (λ says. OnFalse says (before.new ≡ before.old)) }
     ensures grows { GrowBy runs.old.items runs.new.items }
+    ensures places { OnOk result (KeepsPlaces runs.old.items taken.old.items
+        runs.new.items taken.new.items) }
     ensures backed { IsBacked (length runs.old.items) before.old taken.old.items
         before.new taken.new.items }
 {
@@ -145,6 +149,8 @@ fn lower_span(
     ensures lowered { OnOk result (Lowers runs.old.items taken.old.items
         runs.new.items taken.new.items id len level) }
     ensures grows { GrowBy runs.old.items runs.new.items }
+    ensures places { OnOk result (KeepsPlaces runs.old.items taken.old.items
+        runs.new.items taken.new.items) }
 {
     let end = Id {
         client: id.client,
