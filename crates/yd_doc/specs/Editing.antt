@@ -1,7 +1,8 @@
 -- What an edit does to a replica.
-use Rattle.std.specs.Prelude.{◌≡◌, List, None}
+use Rattle.std.specs.Prelude.{◌≡◌, ◌⊎◌, List, None}
 use Rattle.yd_words.specs.Each.{Each}
 use Rattle.yd_ops.specs.Valid.{IsValidUpdate}
+use Rattle.yd_ops.specs.Operation.{operations_of}
 use Rattle.yd_ops.specs.Value.{UpdateValue}
 use Rattle.yd_ops.specs.Received.{received_after}
 use Rattle.yd_editing.specs.Basis.{Basis}
@@ -11,7 +12,8 @@ use Rattle.yd_editing.specs.Refused.{refusal_of}
 use Rattle.yd_editing.specs.Step.{Step}
 use Rattle.yd_making.specs.Given.{basis_in}
 use Rattle.yd_state.specs.State.{held_in}
-use Rattle.yd_state.specs.Growing.{GrowsTo, Grows}
+use Rattle.yd_received.specs.Received.{LowersOne}
+use Rattle.yd_state.specs.Growing.{GrowsTo, LosesNone, Grows}
 use Rattle.yd_doc.specs.Kept.{Kept, received_of, own_document}
 
 -- what an edit reads of a replica: its client, its own document, and what it holds
@@ -24,9 +26,11 @@ pub record IsPrepared (r : Kept) (steps : List Step) (update : UpdateValue) : Ty
   pub made : update ≡ update_of_edit (own_basis r) steps
   pub valid : IsValidUpdate update
 
--- each list of a replica grew by scans from what it was, where an update says less of nothing
-abbrev pub ListsGrow : UpdateValue → Kept → Kept → Type 0
-ListsGrow update old new = Grows update old.state new.state
+-- each list of a replica grew by scans from what it was, where no unit of them is lost; and one is only where an update says
+-- less of something
+pub record ListsGrow (update : UpdateValue) (old new : Kept) : Type 0 where
+  pub grows : Grows old.state new.state
+  pub loses : LosesNone old.state new.state ⊎ LowersOne (operations_of update) (received_of old).operations
 
 -- the replica has taken an update of its own client
 pub record IsCommitted (old new : Kept) (update : UpdateValue) : Type 0 where
@@ -46,7 +50,7 @@ pub record IsEdit (old new : Kept) (steps : List Step) (update : UpdateValue) : 
   pub is_behind : new.is_behind ≡ old.is_behind
   pub grows : ListsGrow update old new
 
--- an edit says less of nothing: each list of the replica grew by scans from what it was
+-- an edit says less of nothing, so no unit is lost: each list of the replica grew by scans from what it was
 abbrev pub EditsGrow : Kept → Type 0
 EditsGrow old = (new : Kept) (steps : List Step) (update : UpdateValue) → Each MakesContent steps → IsEdit old new steps update →
     GrowsTo (held_in new.state) (own_document old) (own_document new)

@@ -93,8 +93,12 @@ impl Replica {
     /// the integration scan, whose steps are runs. The call takes time with the update and with what is
     /// deleted besides; of what is known, it copies the clocks of the clients and the spans of deletions,
     /// and moves the entries behind a new one. No list is walked as a whole, and no deleted run unit by
-    /// unit. Where the update says less of something that was received, all that is received is held anew
-    /// and all lists grow anew; what units held that are lowered stays in memory.
+    /// unit. At the end texts and deleted units that came are joined to what they go on with.
+    ///
+    /// Where the update says less of something that was received, this is told less where it stands, and
+    /// the entries of all that was received are copied. Where a unit that a list had is lost by it, all
+    /// that is received is held anew, and all lists grow anew. What units held that are lowered stays in
+    /// memory.
     pub fn apply(&mut self, update: &Update) -> Result<bool, NoMemory>
         requires { IsValidUpdate (update_value update.now) }
         ensures received { OnOk result (received_of self.new

@@ -127,7 +127,7 @@ module _ (k : HeldValue) (h : IsHolding k) where
   placed_at = each_in (λ t. IsPlaced r k.names t t.place) r.entries h.placed
 
   -- what is in a list is told, and so is what it stands on
-  listed_sound : (o : Operation) → IsIn o listed → (is_gone o ≡ false) × ((x : Id) → IsIn x (sources o) → has_operation listed x ≡ true)
+  pub listed_sound : (o : Operation) → IsIn o listed → (is_gone o ≡ false) × ((x : Id) → IsIn x (sources o) → has_operation listed x ≡ true)
   listed_sound o i =
       let (t, j, l, m) = chosen_entry is_listed r h.in_order o i in
       let stands = can_is r t (placed_stands r k.names t t.place (placed_at t j) l) in (

@@ -16,7 +16,7 @@ use Rattle.yd_words.proofs.FilterLemmas.{one_kept}
 use Rattle.yd_held.specs.declared.noting.Lack.{Lack}
 use Rattle.yd_held.specs.Held.{HeldValue}
 use Rattle.yd_held.specs.Holding.{IsHolding, AreUnready}
-use Rattle.yd_held.specs.Noted.{IsNoted, IsNotedOrTried, AreNoted}
+use Rattle.yd_held.specs.Noted.{AreSorted, IsNoted, IsNotedOrTried, AreNoted}
 use Rattle.yd_held.specs.Readiness.{is_ready}
 use Rattle.yd_held.specs.Trying.{AreWaiting}
 use Rattle.yd_held.proofs.HeldUnitLemmas.{covers_first, none_there}
@@ -77,9 +77,10 @@ module _ (runs : List Run) (from : ℕ) (ts : List Entry) (each : Each (IsTakenO
     ]);
   }
 
--- where nothing is noted, the clients of all entries are to be tried
-pub noted_all : (runs : List Run) (ts : List Entry) (clients : List Client) → Each (λ (t : Entry). IsIn t.id.client clients) ts → AreNoted [] runs [] clients ts
-noted_all runs ts clients all = record {
-  sorted = tt;
-  each = each_weaker (λ (t : Entry). IsIn t.id.client clients) (IsNotedOrTried [] runs [] clients) (λ t i at_clock. inl i) ts all;
+-- the clients of all entries are to be tried, whatever is noted
+pub noted_all : (vector : List (Client × ℕ)) (runs : List Run) (lacks : List Lack) (ts : List Entry) (clients : List Client) → AreSorted lacks →
+    Each (λ (t : Entry). IsIn t.id.client clients) ts → AreNoted vector runs lacks clients ts
+noted_all vector runs lacks ts clients sorted all = record {
+  sorted = sorted;
+  each = each_weaker (λ (t : Entry). IsIn t.id.client clients) (IsNotedOrTried vector runs lacks clients) (λ t i at_clock. inl i) ts all;
 }

@@ -6,7 +6,7 @@ use Rattle.yd_entries.specs.Entries.{GrowBy}
 use Rattle.yd_received.specs.Received.{ReceivedValue, put_back, put_back_entries}
 use Rattle.yd_held.specs.declared.parts.Before.{Before}
 use Rattle.yd_held.specs.declared.parts.Kept.{Kept}
-use Rattle.yd_held.specs.declared.parts.Kept.TheVariants.{Count, All}
+use Rattle.yd_held.specs.declared.parts.Kept.TheVariants.{Count, Entries, All}
 use Rattle.yd_held.specs.Held.{HeldValue}
 
 -- the lists that there were keep their numbers, unless all was held anew
@@ -19,11 +19,13 @@ KeepsNumbers true old new = Unit {0}
 -- what was received before: the first runs, with what was taken of them, or with the entries that were kept
 abbrev pub received_before : Kept → ℕ → List (Client × ℕ) → ReceivedValue → ReceivedValue
 received_before (Count lists) runs vector r = put_back runs vector r
+received_before (Entries entries lists) runs vector r = put_back_entries runs entries.items r
 received_before (All entries lists) runs vector r = put_back_entries runs entries.items r
 
 -- the names that there were: the first ones, or those that were kept
 abbrev pub names_before : Kept → List DocList → List DocList
 names_before (Count lists) names = take lists names
+names_before (Entries entries lists) names = take lists names
 names_before (All entries lists) names = lists
 
 -- what it was before a change

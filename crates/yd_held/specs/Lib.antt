@@ -7,5 +7,6 @@ pub mod Numbered
 pub mod Numbering
 pub mod Placed
 pub mod Readiness
+pub mod Telling
 pub mod Trying
 pub mod Turn

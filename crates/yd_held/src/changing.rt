@@ -14,13 +14,16 @@ ghost use Rattle.yd_held.specs.Holding.{IsHolding, HoldsRest, OnlyHolds};
 ghost use Rattle.yd_held.specs.Joining.{CameAlone};
 ghost use Rattle.yd_held.specs.Noted.{AreNoted, AreMissing};
 ghost use Rattle.yd_held.specs.Turn.{HoldsInTurn, TellsOrder};
+ghost use Rattle.yd_held.specs.Noted.{AreSorted};
+ghost use Rattle.yd_held.specs.Turn.{LosesOne};
 ghost use Rattle.yd_held.specs.declared.parts.Kept.TheVariants.{All};
-ghost use Rattle.yd_entries.specs.Entries.{is_held, is_of_first};
-ghost use Rattle.yd_received.specs.Received.{IsReceived};
+ghost use Rattle.yd_entries.specs.Entries.{is_of_first};
+ghost use Rattle.yd_received.specs.Received.{all_waiting};
 
 use crate::fault::NoMemory;
 use crate::holding::hold_all;
 use crate::parts::{Before, HeldParts, Kept};
+use crate::telling::{held_less, loses_one};
 use crate::trying::{clients_from, clients_of};
 use std::mem;
 use yd_ids::Vector;
@@ -33,18 +36,20 @@ use yd_received::{Brought, Entry};
 pub(crate) struct Changed {
     /// An operation had a new id, or said less than the one that was there.
     pub brings: bool,
-    /// All was held anew, since an operation said less than one with its id that was there, or that
-    /// came earlier in the update.
+    /// All was held anew, since a unit that was in a list is gone.
     pub anew: bool,
+    /// The numbers of the entries that were held before and of which less is told now, or that are
+    /// gone; none where all was held anew.
+    pub told: Vec<usize>,
     /// The numbers of the entries that became held, in the order in which they did.
     pub order: Vec<usize>,
     /// The number of the entry that became held, where no other did and no other is of the last run.
     pub single: Option<usize>,
 }
 
-/// Takes the update in, and holds what can be held then: where it only added units, those that have
-/// all that they need now, and where it lowered some, all anew. Where memory ends, what was held can
-/// be put back.
+/// Takes the update in, and holds what can be held then. What is held stays so at its places, though
+/// less may be told of it; where a unit that was in a list is gone, all is held anew. Where memory
+/// ends, what was held can be put back.
 pub(crate) fn change(
     held: &mut HeldParts,
     before: &mut Before,
@@ -57,10 +62,11 @@ pub(crate) fn change(
         ≡ with_groups (groups_of (update_value update.now)) (taken_of held.old.received)) }
     ensures brings { IfOk result (λ changed. IsTrue changed.brings
         ↔ BringsOperation (update_value update.now) (taken_of held.old.received)) }
-    ensures lowers { IfOk result (λ changed. IsTrue changed.anew
-        → LowersOne (operations_of (update_value update.now)) (taken_of held.old.received)) }
-    ensures order { IfOk result (λ changed. TellsOrder changed.anew changed.order.items
-        (held_value held.old) (held_value held.new)) }
+    ensures anew { IfOk result (λ changed. IsTrue changed.anew
+        → LowersOne (operations_of (update_value update.now)) (taken_of held.old.received)
+        × LosesOne (held_value held.old) (held_value held.new)) }
+    ensures order { IfOk result (λ changed. TellsOrder changed.anew changed.told.items
+        changed.order.items (held_value held.old) (held_value held.new)) }
     ensures numbers { IfOk result (λ changed. KeepsNumbers changed.anew
         held.old.names held.new.names) }
     ensures single { IfOk result (λ changed. IfSome changed.single
@@ -68,16 +74,30 @@ pub(crate) fn change(
     ensures holds { OnOk result (HoldsAll (held_value held.new)) }
     ensures back { back_to before.new (held_value held.new) ≡ held_value held.old }
 {
+    let alloc = held.received.allocator();
     let from = held.received.runs().len();
     let count = held.received.entries().len();
     let brought = held.received.take(update)?;
     let brings = brings(&brought);
     if let Brought::Lowered(entries) = brought {
-        set_aside(held, before, entries);
-        let order = hold_anew(held)?;
+        if loses_one(held.received.entries()) {
+            set_aside(held, before, entries);
+            let order = hold_more(held)?;
+            return Ok(Changed {
+                brings,
+                anew: true,
+                told: Vec::new(alloc),
+                order,
+                single: None,
+            });
+        }
+        before.kept = Kept::Entries(entries, held.names.len());
+        let told = held_less(alloc, held.received.entries(), from)?;
+        let order = hold_more(held)?;
         return Ok(Changed {
             brings,
-            anew: true,
+            anew: false,
+            told,
             order,
             single: None,
         });
@@ -87,6 +107,7 @@ pub(crate) fn change(
     Ok(Changed {
         brings,
         anew: false,
+        told: Vec::new(alloc),
         order,
         single,
     })
@@ -140,10 +161,10 @@ fn hold_new(held: &mut HeldParts, from: usize) -> Result<Vec<usize>, NoMemory>
     Ok(order)
 }
 
-/// Puts aside which lists there are and what is lacked, so that nothing is held.
+/// Lets all wait, and puts aside which lists there are and what is lacked.
 fn set_aside(held: &mut HeldParts, before: &mut Before, entries: Vec<Entry>)
     ensures held { held_value held.new ≡ record {
-      received = held.old.received;
+      received = all_waiting held.old.received;
       vector = [];
       names = [];
       lacks = [];
@@ -158,20 +179,16 @@ fn set_aside(held: &mut HeldParts, before: &mut Before, entries: Vec<Entry>)
     let alloc = held.received.allocator();
     let lists = mem::replace(&mut held.names, Names::new(alloc));
     before.kept = Kept::All(entries, lists);
+    held.received.wait_all();
     held.vector = Vector::new(alloc);
     held.lacks = Vec::new(alloc);
 }
 
-/// Holds what can be held of what is received, when nothing is.
-fn hold_anew(held: &mut HeldParts) -> Result<Vec<usize>, NoMemory>
-    requires received { IsReceived held.old.received }
-    requires waits { filter is_held held.old.received.entries ≡ [] }
-    requires nothing { held_value held.old ≡ record {
-      received = held.old.received;
-      vector = [];
-      names = [];
-      lacks = [];
-    } }
+/// Holds what can be held besides what is, whatever is noted of it.
+fn hold_more(held: &mut HeldParts) -> Result<Vec<usize>, NoMemory>
+    requires holding { IsHolding (held_value held.old) }
+    requires sorted { AreSorted held.old.lacks.items }
+    requires missing { AreMissing held.old.vector held.old.lacks.items }
     ensures held { OnOk result (HoldsRest (held_value held.old) (held_value held.new)) }
     ensures turn { IfOk result (λ order.
         HoldsInTurn order.items (held_value held.old) (held_value held.new)) }

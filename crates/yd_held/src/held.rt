@@ -11,7 +11,7 @@ ghost use Rattle.yd_entries.specs.Taking.{BringsOperation};
 ghost use Rattle.yd_held.specs.Changing.{KeepsNumbers, back_to};
 ghost use Rattle.yd_held.specs.Held.{HoldsAll};
 ghost use Rattle.yd_held.specs.Joining.{CameAlone, StaysSame};
-ghost use Rattle.yd_held.specs.Turn.{TellsOrder};
+ghost use Rattle.yd_held.specs.Turn.{TellsOrder, LosesOne};
 
 use crate::changing::{Changed, change};
 use crate::fault::NoMemory;
@@ -49,9 +49,12 @@ impl Model for Held {
 pub struct Taken {
     /// An operation had a new id, or said less than the one that was there.
     pub brings: bool,
-    /// All was held anew, since an operation said less than one with its id that was there, or that
-    /// came earlier in the update. Then the lists may have other numbers than before.
+    /// All was held anew, since a unit that was in a list is gone. Then the lists may have other
+    /// numbers than before.
     pub anew: bool,
+    /// The numbers of the entries that were held before and of which less is told now, or that are
+    /// gone; none where all was held anew.
+    pub told: Vec<usize>,
     /// The numbers of the entries that became held, in the order in which they did: each after what
     /// it stands on, and after the smaller clocks of its client.
     pub order: Vec<usize>,
@@ -124,18 +127,21 @@ impl Held {
     /// is noted by it, once for each client, and tried again as soon as that is held; then it is
     /// noted no more. So it takes some look-ups for each new run, for each entry that is held, and
     /// for each time that one is tried, and a copy of the clocks and of what is lacked. The names of
-    /// new lists go behind the others. Where an operation says less than one that was there, all
-    /// that is received is held anew. Where memory ends nothing was taken.
+    /// new lists go behind the others. Where an operation says less than one that was there, what is
+    /// held stays so, one pass over the entries finds of which less is told, and each client is tried
+    /// again. Where one that was in a list is gone, all that is received is held anew. Where memory
+    /// ends nothing was taken.
     pub fn take(&mut self, update: &Update) -> Result<Taken, NoMemory>
         requires { IsValidUpdate (update_value update.now) }
         ensures received { OnOk result (taken_of self.new.received
             ≡ with_groups (groups_of (update_value update.now)) (taken_of self.old.received)) }
         ensures brings { IfOk result (λ taken. IsTrue taken.brings
             ↔ BringsOperation (update_value update.now) (taken_of self.old.received)) }
-        ensures lowers { IfOk result (λ taken. IsTrue taken.anew
-            → LowersOne (operations_of (update_value update.now)) (taken_of self.old.received)) }
-        ensures order { IfOk result (λ taken. TellsOrder taken.anew taken.order.items
-            self.old self.new) }
+        ensures anew { IfOk result (λ taken. IsTrue taken.anew
+            → LowersOne (operations_of (update_value update.now)) (taken_of self.old.received)
+            × LosesOne self.old self.new) }
+        ensures order { IfOk result (λ taken. TellsOrder taken.anew taken.told.items
+            taken.order.items self.old self.new) }
         ensures numbers { IfOk result (λ taken. KeepsNumbers taken.anew
             self.old.names self.new.names) }
         ensures single { IfOk result (λ taken. IfSome taken.single
@@ -150,12 +156,14 @@ impl Held {
                 Changed {
                     brings,
                     anew,
+                    told,
                     order,
                     single,
                 },
             ) => Ok(Taken {
                 brings,
                 anew,
+                told,
                 order,
                 single,
                 before,

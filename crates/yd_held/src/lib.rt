@@ -22,6 +22,7 @@ mod numbering;
 mod parts;
 mod placing;
 mod readiness;
+mod telling;
 mod trying;
 
 pub use fault::NoMemory;

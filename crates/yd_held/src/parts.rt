@@ -42,6 +42,9 @@ pub struct Before {
 pub enum Kept {
     /// Others are only added, so it is enough how many lists there were.
     Count(usize),
+    /// What was held stays held, and less is told of some entries: so these are kept, and how many
+    /// lists there were.
+    Entries(Vec<Entry>, usize),
     /// All is held anew, so the entries are kept, and the lists.
     All(Vec<Entry>, Names),
 }
@@ -77,6 +80,10 @@ impl HeldParts {
         match kept {
             Kept::Count(lists) => {
                 self.received.put_back(runs, &vector);
+                self.names.truncate(lists);
+            }
+            Kept::Entries(entries, lists) => {
+                self.received.put_back_entries(runs, entries);
                 self.names.truncate(lists);
             }
             Kept::All(entries, lists) => {

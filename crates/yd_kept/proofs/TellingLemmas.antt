@@ -77,7 +77,7 @@ module _ (it : Stored) (sound : IsSoundStore it) where
   ]
 
   -- an operation of a list is one of the store
-  in_store : (list : ℕ) → list < count_of it.placed → (o : Operation) → IsIn o (operations_in it list) → HasOperation it o
+  pub in_store : (list : ℕ) → list < count_of it.placed → (o : Operation) → IsIn o (operations_in it list) → HasOperation it o
   in_store list lt o m = let (i, k, there) = in_place o (places_in it.placed list) m in
       record { place = i; within = sound.lists.within list i lt k; member = there }
 

@@ -26,6 +26,7 @@ use Rattle.yd_received.specs.Structs.{IsStructOf, TakesIn, KeepsToLower, gone_ru
 use Rattle.yd_entries.specs.Taking.{BringsOne, IsRun, AreUnchanged}
 use Rattle.yd_received.proofs.LoweringLemmas.{HasSource, groups_sources, keeps_more}
 use Rattle.yd_received.proofs.StructLemmas.{unchanged_more}
+use Rattle.yd_entries.proofs.StayingLemmas.{stays_none, stays_more}
 use Rattle.yd_entries.proofs.TakenLemmas.{in_written, grow_none, grow_more}
 
 -- ---- one after another
@@ -40,7 +41,7 @@ pub record IsTakenIn (old_runs : List Run) (old : List Entry) (runs : List Run) 
 -- nothing is taken in yet
 pub taken_none : (runs : List Run) (old : List Entry) → AreTaken runs old → IsTakenIn runs old runs old [] [] false
 taken_none runs old are = record {
-  takes = record { received = refl; kept = are };
+  takes = record { received = refl; kept = are; places = stays_none runs old };
   brings_some = ((λ no. absurd (true≢false (sym no))), (λ brings. absurd brings.1));
   unchanged = (refl, refl);
   grows = grow_none runs;
@@ -52,6 +53,7 @@ taken_more a b c x y z gs hs os ps s t first takes some same grows = record {
   takes = record {
     received = takes.received ∙ ap (λ qs. with_groups hs qs) first.takes.received ∙ sym (with_groups-append gs hs (operations_in a x));
     kept = takes.kept;
+    places = stays_more a b c x y z first.grows first.takes.places takes.places;
   };
   brings_some = both s first.brings_some first.unchanged;
   unchanged = unchanged_more a b c x y z s t first.unchanged same;
@@ -217,7 +219,7 @@ module _ (a b : List Run) (x y : List Entry) (s : Bool) (k l m : Option (Vec Ent
 
 -- a skip brings nothing
 pub skip_takes : (runs : List Run) (old : List Entry) → AreTaken runs old → TakesIn runs old runs old ([] ∷ [])
-skip_takes runs old are = record { received = sym (mended_whole (operations_in runs old) (paired_has (operations_in runs old) are.paired)); kept = are }
+skip_takes runs old are = record { received = sym (mended_whole (operations_in runs old) (paired_has (operations_in runs old) are.paired)); kept = are; places = stays_none runs old }
 
 pub run_is : (id : Id) (run : RunValue) → IsStructOf id (item run) → IsRun false run
 run_is id run is = record {

@@ -1,5 +1,5 @@
 -- A struct is taken in: its new operations are added, and it lowers what was there.
-use Rattle.std.proofs.Common.{◌≡◌, ◌↔◌, Bool, true, false, ◌||◌, List, [], ◌∷◌, ◌<◌, Option, Some, None, inl, inr, refl, sym, ap, ◌∙◌, subst, arith, true≢false}
+use Rattle.std.proofs.Common.{◌≡◌, ◌↔◌, Bool, true, false, ◌||◌, List, [], ◌∷◌, length, ◌<◌, Option, Some, None, inl, inr, refl, sym, ap, ◌∙◌, subst, arith, true≢false}
 use Rattle.std.specs.Prelude.{IsTrue}
 use Rattle.std.specs.Bool.{OnTrue, OnFalse}
 use Rattle.std.specs.Global.{Vec}
@@ -18,14 +18,16 @@ use Rattle.yd_ops.proofs.TakingLemmas.{pair_is}
 use Rattle.yd_ops.proofs.AddingLemmas.{with_group_alone}
 use Rattle.yd_ops.proofs.RunLemmas.{run_partners, run_written}
 use Rattle.yd_entries.specs.declared.entry.Entry.{Entry}
-use Rattle.yd_entries.specs.Entries.{AreTaken, operations_in}
+use Rattle.yd_entries.specs.Entries.{AreTaken, operations_in, OnlyAdds, GrowBy}
 use Rattle.yd_entries.specs.Lowering.{is_among, lowered_with, level_of_content, level_from, SaysMore, Lowers}
+use Rattle.yd_entries.specs.Staying.{KeepsPlaces}
 use Rattle.yd_received.specs.Structs.{TakesIn, KeepsToLower}
 use Rattle.yd_received.proofs.LoweringLemmas.{lowers_received}
 use Rattle.yd_entries.specs.Taking.{BringsOne, IsRun, operations_from_run, IsParted, IsAdded, AddsGroup, AddsOne, AreUnchanged}
 use Rattle.yd_entries.proofs.BorderLemmas.{map_alike}
 use Rattle.yd_entries.proofs.LoweredLemmas.{IsLess, AreWith, lowered_group}
 use Rattle.yd_entries.proofs.SpelledLemmas.{run_level, run_less}
+use Rattle.yd_entries.proofs.StayingLemmas.{stays_added, stays_more}
 use Rattle.yd_entries.proofs.StepLemmas.{is_added}
 use Rattle.yd_entries.proofs.TakenLemmas.{in_written}
 use Rattle.yd_entries.proofs.TornLemmas.{with_low, with_other, partner_away}
@@ -41,10 +43,11 @@ group_taken old_runs runs old taken group same =
 
 module _ (runs : List Run) (old : List Entry) (run : RunValue) (are : AreTaken runs old) (is : IsRun false run) (full : level_of_content run.content ≡ 2) where
   pub full_takes : (new_runs : List Run) (taken : List Entry) → AddsGroup runs old new_runs taken (operations_of_run run) →
-      TakesIn runs old new_runs taken (operations_of_run run ∷ [])
-  full_takes new_runs taken adds = record {
+      GrowBy runs new_runs → OnlyAdds (length runs) old taken → TakesIn runs old new_runs taken (operations_of_run run ∷ [])
+  full_takes new_runs taken adds grows only = record {
     received = same;
     kept = record { each = adds.each; in_order = adds.in_order; paired = group_taken runs new_runs old taken (operations_of_run run) same };
+    places = stays_added runs new_runs old taken grows are.each are.in_order adds.in_order only;
   }
     where
       same : operations_in new_runs taken ≡ with_group (operations_of_run run) (operations_in runs old)
@@ -91,10 +94,11 @@ module _ (is_gone : Bool) (runs : List Run) (old : List Entry) (run : RunValue) 
       back (i, new) = (q, i, new, inl (refl, not_parted q i))
 
   pub less_takes : (new_runs : List Run) (taken : List Entry) → Lowers mid_runs mid new_runs taken run.id (len_of run.content) (level_from is_gone) →
-      TakesIn runs old new_runs taken (operations_from_run is_gone run ∷ [])
-  less_takes new_runs taken lowers = record {
+      KeepsPlaces runs old new_runs taken → TakesIn runs old new_runs taken (operations_from_run is_gone run ∷ [])
+  less_takes new_runs taken lowers places = record {
     received = same;
     kept = record { each = lowers.each; in_order = lowers.in_order; paired = group_taken runs new_runs old taken (operations_from_run is_gone run) same };
+    places = places;
   }
     where
       same : operations_in new_runs taken ≡ with_group (operations_from_run is_gone run) (operations_in runs old)
@@ -128,15 +132,16 @@ module _ (is_gone : Bool) (runs : List Run) (old : List Entry) (run : RunValue) 
   pub less_taken : (lowered : Bool) (new_runs : List Run) (taken : List Entry) →
       IsTrue lowered ↔ SaysMore run.id (len_of run.content) (level_from is_gone) (operations_in mid_runs mid) →
       OnTrue lowered (Lowers mid_runs mid new_runs taken run.id (len_of run.content) (level_from is_gone)) → OnFalse lowered (AreUnchanged mid_runs mid new_runs taken) →
-      TakesIn runs old new_runs taken (operations_from_run is_gone run ∷ [])
-  less_taken true new_runs taken more lowers same = less_takes new_runs taken lowers
-  less_taken false new_runs taken more lowers same =
+      GrowBy runs mid_runs → OnlyAdds (length runs) old mid → KeepsPlaces mid_runs mid new_runs taken → TakesIn runs old new_runs taken (operations_from_run is_gone run ∷ [])
+  less_taken true new_runs taken more lowers same grows only places = less_takes new_runs taken lowers
+      (stays_more runs mid_runs new_runs old mid taken grows (stays_added runs mid_runs old mid grows are.each are.in_order adds.in_order only) places)
+  less_taken false new_runs taken more lowers same grows only places =
       subst (λ rs. TakesIn runs old rs taken (operations_from_run is_gone run ∷ [])) (sym same.0) (subst (λ ts. TakesIn runs old mid_runs ts (operations_from_run is_gone run ∷ [])) (sym same.1)
       (less_takes mid_runs mid (record {
         operations = sym (map_alike (lowered_with run.id (len_of run.content) (level_from is_gone)) (operations_in mid_runs mid) (none_lowered (λ says. true≢false (sym (more.1 says)))));
         each = adds.each;
         in_order = adds.in_order;
-      })))
+      }) (stays_added runs mid_runs old mid grows are.each are.in_order adds.in_order only)))
 
   -- where one says more than the level, it was there before, and one of the group has its id
   says_more : SaysMore run.id (len_of run.content) (level_from is_gone) (operations_in mid_runs mid) →

@@ -1,5 +1,5 @@
 -- What contracts see of a `Received`, and how it changes (own).
-use Rattle.std.specs.Prelude.{◌≡◌, ℕ, ◌<◌, Bool, true, false, nat_lt, List, [], ◌∷◌, ◌++◌, Some, map, filter, set, slice_get, take, length, if◌then◌else◌}
+use Rattle.std.specs.Prelude.{◌≡◌, ℕ, ◌<◌, Bool, true, false, nat_lt, List, ◌∷◌, ◌++◌, Some, map, filter, set, slice_get, take, length, if◌then◌else◌}
 use Rattle.yd_words.specs.Member.{IsIn}
 use Rattle.yd_ids.specs.declared.id.Client.{Client}
 use Rattle.yd_ids.specs.declared.id.Id.{Id}
@@ -11,7 +11,7 @@ use Rattle.yd_received.specs.declared.brought.Brought.TheVariants.{Nothing, Adde
 use Rattle.yd_entries.specs.declared.entry.Entry.{Entry}
 use Rattle.yd_entries.specs.declared.place.Place.{Place}
 use Rattle.yd_entries.specs.declared.place.Place.TheVariants.{Waits}
-use Rattle.yd_entries.specs.Entries.{AreTaken, operations_in, held_in, standing_in, is_held, is_of_first, OnlyAdds}
+use Rattle.yd_entries.specs.Entries.{AreTaken, operations_in, held_in, standing_in, is_of_first, OnlyAdds}
 use Rattle.yd_entries.specs.Joining.{IsSingle, Joins, TellSame}
 
 -- the runs that are kept, and the entries of the units that were taken of them
@@ -60,11 +60,11 @@ pub record LowersOne (os received : List Operation) : Type 0 where
   pub same_id : more.id ≡ less.id
   pub says_less : level_of less.content < level_of more.content
 
--- nothing changed, or waiting units were added, or all waits and what was there is told
+-- nothing changed, or waiting units were added, or the entries that were there are handed out
 abbrev pub IsBrought : Brought → ReceivedValue → ReceivedValue → Type 0
 IsBrought Nothing old new = new ≡ old
 IsBrought Added old new = OnlyAdds (length old.runs) old.entries new.entries
-IsBrought (Lowered before) old new = (filter is_held new.entries ≡ []) × (before.items ≡ old.entries)
+IsBrought (Lowered before) old new = before.items ≡ old.entries
 
 -- ---- what is held
 
@@ -78,6 +78,10 @@ pub record GetsPlace (at : ℕ) (place : Place) (old new : ReceivedValue) : Type
   pub there : slice_get old.entries at ≡ Some entry
   pub runs_are : new.runs ≡ old.runs
   pub placed : new.entries ≡ set old.entries at (with_place entry place)
+
+-- all wait, and else it is as it was
+abbrev pub all_waiting : ReceivedValue → ReceivedValue
+all_waiting r = record { runs = r.runs; entries = map (λ (t : Entry). with_place t Waits) r.entries }
 
 -- ---- what is joined
 

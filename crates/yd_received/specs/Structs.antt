@@ -1,5 +1,5 @@
 -- How structs are taken in, one after another (own).
-use Rattle.std.specs.Prelude.{◌≡◌, ℕ, ◌+◌, Bool, true, false, List, Option, Some, None, filter, map}
+use Rattle.std.specs.Prelude.{◌≡◌, ℕ, ◌+◌, Bool, true, false, List, Option, Some, None, filter}
 use Rattle.std.specs.Global.{Vec}
 use Rattle.yd_ids.specs.declared.id.Id.{Id}
 use Rattle.yd_ids.specs.Id.{IsClient, IsClock}
@@ -11,9 +11,9 @@ use Rattle.yd_ops.specs.Received.{with_groups}
 use Rattle.yd_received.specs.declared.brought.Brought.{Brought}
 use Rattle.yd_received.specs.declared.brought.Brought.TheVariants.{Nothing, Added, Lowered}
 use Rattle.yd_entries.specs.declared.entry.Entry.{Entry}
-use Rattle.yd_entries.specs.declared.place.Place.TheVariants.{Waits}
 use Rattle.yd_entries.specs.Entries.{AreTaken, operations_in, is_of_first}
-use Rattle.yd_received.specs.Received.{LowersOne, with_place}
+use Rattle.yd_entries.specs.Staying.{KeepsPlaces}
+use Rattle.yd_received.specs.Received.{LowersOne}
 
 -- the struct begins at the id, and ends at a clock
 pub record IsStructOf (id : Id) (s : StructValue) : Type 0 where
@@ -25,10 +25,11 @@ pub record IsStructOf (id : Id) (s : StructValue) : Type 0 where
 abbrev pub gone_run : Id → ℕ → RunValue
 gone_run id count = record { id = id; left = None; right = None; list = None; content = deleted count }
 
--- groups are taken in: what was taken is what the definition says
+-- groups are taken in: what was taken is what the definition says, and all units stay at their places
 pub record TakesIn (old_runs : List Run) (old : List Entry) (runs : List Run) (taken : List Entry) (groups : List (List Operation)) : Type 0 where
   pub received : operations_in runs taken ≡ with_groups groups (operations_in old_runs old)
   pub kept : AreTaken runs taken
+  pub places : KeepsPlaces old_runs old runs taken
 
 -- where no entries were kept aside and some are now, one of the operations says less than one that was there
 abbrev pub KeepsToLower : Option (Vec Entry) → Option (Vec Entry) → List Operation → List Operation → Type 0
@@ -43,12 +44,12 @@ abbrev pub kept_of : Option (Vec Entry) → List Entry → List Entry
 kept_of None taken = taken
 kept_of (Some kept) taken = kept.items
 
--- what an update brought: nothing, or new units; or, where entries were kept aside, all waits, and those of the first runs
--- are handed out
-abbrev pub IsBroughtBy : ℕ → Option (Vec Entry) → List Entry → Bool → List Entry → Brought → Type 0
-IsBroughtBy count before old false new result = (new ≡ old) × (result ≡ Nothing)
-IsBroughtBy count None old true new result = (new ≡ old) × (result ≡ Added)
-IsBroughtBy count (Some kept) old true new result = (new ≡ map (λ (t : Entry). with_place t Waits) old) × IsLowered result
+-- what an update brought: nothing, or new units; or, where entries were kept aside, less of some, and those of the first
+-- runs are handed out
+abbrev pub IsBroughtBy : ℕ → Option (Vec Entry) → Bool → Brought → Type 0
+IsBroughtBy count before false result = result ≡ Nothing
+IsBroughtBy count None true result = result ≡ Added
+IsBroughtBy count (Some kept) true result = IsLowered result
   where
     IsLowered : Brought → Type 0
     IsLowered Nothing = ⊥

@@ -9,7 +9,7 @@ pub enum Brought {
     Nothing,
     /// It has new ids, and says less of none that was there.
     Added,
-    /// It says less of an id that was there, or that came earlier in the update itself. All that is
-    /// received waits; these were the entries.
+    /// It says less of an id that was there, or that came earlier in the update itself. These were
+    /// the entries.
     Lowered(Vec<Entry>),
 }

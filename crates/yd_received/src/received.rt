@@ -11,12 +11,14 @@ ghost use Rattle.yd_ops.specs.View.{update_value};
 ghost use Rattle.yd_ops.specs.Received.{with_groups, groups_of};
 ghost use Rattle.yd_entries.specs.Entries.{covers, GrowBy};
 ghost use Rattle.yd_received.specs.Received.{IsReceived, taken_of, brings, lowers, LowersOne};
-ghost use Rattle.yd_received.specs.Received.{IsBrought, GetsPlace, put_back, put_back_entries};
+ghost use Rattle.yd_received.specs.Received.{IsBrought, GetsPlace, all_waiting};
+ghost use Rattle.yd_received.specs.Received.{put_back, put_back_entries};
 ghost use Rattle.yd_received.specs.Received.{IsSingleOf, KeepsTold, JoinsAt};
+ghost use Rattle.yd_entries.specs.Staying.{KeepsPlaces};
 ghost use Rattle.yd_entries.specs.Taking.{is_covered, BringsOperation};
 
 use crate::brought::Brought;
-use crate::restoring::{keep_first, undo_holding};
+use crate::restoring::{keep_first, let_wait, undo_holding};
 use crate::updates::take_update;
 use std::alloc::Global;
 use std::marker::Model;
@@ -90,8 +92,9 @@ impl Received {
     /// Takes in the operations of an update, and answers what that did: an operation may have a new
     /// id, or say less than the one that was there. Each run of which a unit is new is copied once.
     /// For each entry that has ids of a run, and each new or lowered one, it takes a bisection and an
-    /// insertion. Before the first entry is lowered the entries are copied, and then all of them wait.
-    /// Where memory ends nothing was taken.
+    /// insertion. All units stay at their places, and new ones wait. Before the first entry is
+    /// lowered the entries are copied, and the copy is handed out. Where memory ends nothing was
+    /// taken.
     pub fn take(&mut self, update: &Update) -> Result<Brought, NoMemory>
         requires { IsValidUpdate (update_value update.now) }
         ensures received { OnOk result (taken_of self.new
@@ -103,6 +106,8 @@ impl Received {
         ensures brought { IfOk result (λ brought. IsBrought brought self.old self.new) }
         ensures kept { IsReceived self.new }
         ensures grows { OnOk result (GrowBy self.old.runs self.new.runs) }
+        ensures places { OnOk result
+            (KeepsPlaces self.old.runs self.old.entries self.new.runs self.new.entries) }
         ensures unchanged { OnErr result (self.new ≡ self.old) }
     {
         let result = take_update(&mut self.runs, &mut self.entries, update);
@@ -136,6 +141,13 @@ impl Received {
     {
         let entry = self.entries[at];
         self.entries[at] = Entry { place, ..entry };
+    }
+
+    /// Lets all units wait. It takes time with the number of entries.
+    pub fn wait_all(&mut self)
+        ensures { self.new ≡ all_waiting self.old }
+    {
+        let_wait(&mut self.entries);
     }
 
     /// Joins the entry at a place to the one before it, and says whether it did: where both are texts

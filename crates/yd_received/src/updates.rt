@@ -11,12 +11,13 @@ ghost use Rattle.yd_received.specs.Received.{brings, lowers, LowersOne, IsBrough
 ghost use Rattle.yd_received.specs.Structs.{TakesIn, kept_of, IsBroughtBy};
 
 use crate::brought::Brought;
-use crate::restoring::{keep_first, let_wait};
+use crate::restoring::keep_first;
 use crate::structs::take_blocks;
 use yd_entries::{Entry, NoMemory};
 use yd_ops::{Run, Update};
 
-/// Takes in the operations of an update. Where memory ends nothing was taken.
+/// Takes in the operations of an update. All units stay at their places. Where memory ends nothing
+/// was taken.
 pub(crate) fn take_update(
     runs: &mut Vec<Run>,
     taken: &mut Vec<Entry>,
@@ -43,7 +44,7 @@ pub(crate) fn take_update(
     let count = runs.len();
     let mut before = None;
     match take_blocks(alloc, runs, taken, &mut before, update.blocks.as_slice()) {
-        Ok(more) => Ok(brought(taken, before, count, more)),
+        Ok(more) => Ok(brought(before, count, more)),
         Err(NoMemory) => {
             runs.truncate(count);
             back(taken, before, count);
@@ -52,15 +53,10 @@ pub(crate) fn take_update(
     }
 }
 
-/// What an update brought, which brings something or nothing. Where it lowered something, all
-/// waits.
-fn brought(
-    taken: &mut Vec<Entry>,
-    before: Option<Vec<Entry>>,
-    count: usize,
-    brings: bool,
-) -> Brought
-    ensures { IsBroughtBy count before taken.old.items brings taken.new.items result }
+/// What an update brought, which brings something or nothing. Where it lowered something, what was
+/// kept aside of the first runs is handed out.
+fn brought(before: Option<Vec<Entry>>, count: usize, brings: bool) -> Brought
+    ensures { IsBroughtBy count before brings result }
 {
     if !brings {
         return Brought::Nothing;
@@ -69,7 +65,6 @@ fn brought(
         None => Brought::Added,
         Some(mut entries) => {
             keep_first(&mut entries, count);
-            let_wait(taken);
             Brought::Lowered(entries)
         }
     }

@@ -37,7 +37,7 @@ use Rattle.yd_listing.specs.declared.came.Came.{Came}
 use Rattle.yd_listing.specs.Falling.{units_of_list, CameInto}
 use Rattle.yd_listing.specs.Law.{BecameHeld}
 use Rattle.yd_listing.proofs.LawLemmas.{find_name}
-use Rattle.yd_state.specs.Placing.{KeepsAll, CanBePlaced, PlacesAll}
+use Rattle.yd_state.specs.Placing.{KeepsIds, CanBePlaced, PlacesAll}
 use Rattle.yd_state.proofs.EntryLemmas.{lost_other}
 use Rattle.yd_state.specs.Grown.{ids_of}
 use Rattle.yd_state.specs.Coming.{AreCame}
@@ -45,8 +45,8 @@ use Rattle.yd_state.proofs.NamesLemmas.{has_lists}
 use Rattle.yd_state.proofs.CameLemmas.{came_at, at_came, turn_is_held, in_entry, entry_in, written, filled, came_list, came_none, is_came, came_lost, same_list}
 use Rattle.yd_state.proofs.ToldLemmas.{in_some_list}
 
-module _ (k : HeldValue) (holds : HoldsAll k) (part : List Operation) (stays : StaysHeld part (held_of k.received)) (was it : KeptValue) (had : KeepsAll part was) (sound_was : IsSoundStore was.store)
-    (order : List ℕ) (can : CanBePlaced k order was) (placed : PlacesAll k was it) (keeps : KeepsAll (held_of k.received) it) (sound : IsSoundStore it.store)
+module _ (k : HeldValue) (holds : HoldsAll k) (part : List Operation) (stays : StaysHeld part (held_of k.received)) (was it : KeptValue) (had : KeepsIds part was) (sound_was : IsSoundStore was.store)
+    (order : List ℕ) (can : CanBePlaced k order was) (placed : PlacesAll k was it) (keeps : KeepsIds (held_of k.received) it) (sound : IsSoundStore it.store)
     (came : List Came) (are : AreCame k it order came) where
   abbrev held : List Operation
   held = held_of k.received
@@ -56,7 +56,7 @@ module _ (k : HeldValue) (holds : HoldsAll k) (part : List Operation) (stays : S
   -- what was held and stands is in the list of its name, if that was there
   had_it : (n : ℕ) (name : DocList) → slice_get was.names n ≡ Some name → (x : Id) → IsIn x (rows_ids (table_in (standing held) name)) →
       has_operation part x ≡ true → IsIn x (units_in was.store.placed n)
-  had_it n name e x i there = ((can.filled.rows n name e).each x).1 (i, had.has.all x there)
+  had_it n name e x i there = ((can.filled.rows n name e).each x).1 (i, had.all x there)
 
   before_at : (n : ℕ) (name : DocList) → slice_get was.names n ≡ Some name → units_in was.store.placed n ≡ filter (has_operation part) (units_in it.store.placed n)
   before_at n name e =
@@ -72,7 +72,7 @@ module _ (k : HeldValue) (holds : HoldsAll k) (part : List Operation) (stays : S
   none_before : (n : ℕ) (name : DocList) → slice_get it.names n ≡ Some name → (IsIn name was.names → ⊥) → filter (has_operation part) (units_in it.store.placed n) ≡ []
   none_before n name e none = filter-none (has_operation part) (units_in it.store.placed n) (λ x i. test_fails (has_operation part x) (λ there.
       let (up, of) = ((filled k holds it keeps).each n name e x).0 i in
-      let (m, got) = can.filled.listed x up (had.has.all x there) in
+      let (m, got) = can.filled.listed x up (had.all x there) in
       none (subst (λ l. IsIn l was.names) of (got_in was.names m (list_of (standing held) x) got))))
 
   before : (list : DocList) → ids_of was list ≡ filter (has_operation part) (ids_of it list)
@@ -157,7 +157,7 @@ module _ (k : HeldValue) (holds : HoldsAll k) (part : List Operation) (stays : S
     by_name = has_lists it keeps.filled.distinct sound keeps.filled.count;
     filled = filled k holds it keeps;
     grown = keeps.grown;
-    there = λ x e. keeps.has.all x e;
+    there = λ x e. keeps.all x e;
     no_more = λ x low. keeps.below x low;
     before = before;
     stand = λ one i.

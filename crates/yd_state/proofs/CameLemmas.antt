@@ -40,7 +40,7 @@ use Rattle.yd_held.proofs.ListedLemmas.{units_list}
 use Rattle.yd_listing.specs.declared.came.Came.{Came}
 use Rattle.yd_listing.specs.Falling.{units_of_list, IsCame}
 use Rattle.yd_listing.proofs.LawLemmas.{find_name}
-use Rattle.yd_state.specs.Placing.{KeepsAll}
+use Rattle.yd_state.specs.Placing.{KeepsIds}
 use Rattle.yd_state.proofs.EntryLemmas.{read_at, entry_taken, held_lost}
 use Rattle.yd_state.specs.Coming.{span_of_entry, IsNumberOf, IsListAt, IsCameOf, IsCameAt, AreCame}
 
@@ -111,7 +111,7 @@ entry_in t span x e c = subst (λ s. InSpan s x) (sym e) (covers_less t x c)
 
 -- ---- a row that came
 
-module _ (k : HeldValue) (holds : HoldsAll k) (it : KeptValue) (keeps : KeepsAll (held_of k.received) it) where
+module _ (k : HeldValue) (holds : HoldsAll k) (it : KeptValue) (keeps : KeepsIds (held_of k.received) it) where
   abbrev held : List Operation
   held = held_of k.received
 
@@ -119,7 +119,7 @@ module _ (k : HeldValue) (holds : HoldsAll k) (it : KeptValue) (keeps : KeepsAll
   written = is_written k (holds_holding k holds)
 
   pub filled : AreFilledLists held it.names it.store.placed
-  filled = filling_ends held written it.names it.store.placed keeps.filled keeps.has.all
+  filled = filling_ends held written it.names it.store.placed keeps.filled keeps.all
 
   module _ (t : Entry) (here : IsIn t k.received.entries) (one : Came) (of : IsCameOf k it t one) where
     stands : is_listed t ≡ true → (x : Id) → covers t x ≡ true → has_operation (standing held) x ≡ true

@@ -26,6 +26,7 @@ use Rattle.yd_state.specs.State.{order_named, document_in, IsSound}
 use Rattle.yd_state.specs.Grown.{GrownValue, held_by, units_of, ids_of, document_by, seen_of, IsWhole}
 use Rattle.yd_state.proofs.NamesLemmas.{if-true, if-false, units_at, units_none}
 use Rattle.yd_state.proofs.ToldLemmas.{lists_grown, is_told, unit_named}
+use Rattle.yd_state.proofs.LessLemmas.{each_is_held}
 
 -- ---- lists by their names
 
@@ -62,7 +63,7 @@ module _ (s : GrownValue) (whole : IsWhole s) where
   order_same list = elim (find_name s.held.names list) [
     | inl h ↦ at_name (ids_of s.kept) s.held.names list (got_in s.held.names h.0 list h.1)
     | inr none ↦ at_none (ids_of s.kept) s.held.names list none ∙ sym (ap (map (λ (o : Operation). o.id)) (none_in (units_of s.kept list) (λ o i.
-        let (n, e) = unit_named s.held whole.holds s.kept whole.keeps whole.store list o i in none (got_in s.held.names n list e))))
+        let (n, e) = unit_named s.held whole.holds s.kept whole.keeps.ids whole.store list o i in none (got_in s.held.names n list e))))
   ]
 
   grown_by : HasGrownLists (document_by s) (held_by s)
@@ -98,18 +99,18 @@ module _ (s : GrownValue) (whole : IsWhole s) where
   pub tells_seen : Tells s.kept (document_in (seen_of s))
   tells_seen = subst (Tells s.kept) (sym document_same) (record {
     lists = record {
-      named = λ n name e. units_at s.kept whole.keeps.filled.distinct n name e;
-      others = λ name none. units_none s.kept whole.keeps.filled.distinct name none;
+      named = λ n name e. units_at s.kept whole.keeps.ids.filled.distinct n name e;
+      others = λ name none. units_none s.kept whole.keeps.ids.filled.distinct name none;
     };
     marks = λ id. ((λ e. (whole.marks id).1 (named_has s.deletes id e)), (λ m. has_named s.deletes id ((whole.marks id).0 m)));
   })
 
   pub told_seen : IsTold s.kept
-  told_seen = is_told s.held whole.holds s.kept whole.keeps whole.store
+  told_seen = is_told s.held whole.holds s.kept whole.keeps.ids whole.store (λ x. ⊥) (each_is_held s.held whole.holds s.kept whole.keeps (λ x. ⊥))
 
   -- each list that has a unit has a name
   pub seen_names : (list : DocList) (o : Operation) → IsIn o ((document_in (seen_of s)).units list) → (n : ℕ) × (slice_get s.held.names n ≡ Some list)
-  seen_names list o i = unit_named s.held whole.holds s.kept whole.keeps whole.store list o (subst (IsIn o) (units_same list) i)
+  seen_names list o i = unit_named s.held whole.holds s.kept whole.keeps.ids whole.store list o (subst (IsIn o) (units_same list) i)
 
 -- with the same lists it is seen alike
 pub seen_again : (s : GrownValue) (it : KeptValue) → ((list : DocList) → units_of it list ≡ units_of s.kept list) →

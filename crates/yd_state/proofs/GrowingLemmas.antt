@@ -1,30 +1,34 @@
 -- Lists that grow by scans from one store to another, by their names.
-use Rattle.std.proofs.Common.{ℕ, ◌≤◌, ◌≡◌, Bool, true, false, List, [], inl, inr, Some, length, refl, sym, ap, ◌∙◌, subst, arith}
+use Rattle.std.proofs.Common.{ℕ, ◌≤◌, ◌≡◌, Bool, true, false, List, [], inl, inr, Some, length, ◌⊎◌, refl, sym, ap, ◌∙◌, subst, arith, true≢false}
 use Rattle.std.specs.Prelude.{slice_get, map}
 use Rattle.yd_words.specs.Member.{IsIn}
 use Rattle.yd_words.proofs.OptionLemmas.{some_is}
 use Rattle.yd_words.proofs.TestLemmas.{split}
 use Rattle.yd_ops.specs.declared.lists.List.{List as DocList}
-use Rattle.yd_ops.specs.Operation.{Operation, operations_of}
-use Rattle.yd_ops.specs.Value.{UpdateValue}
+use Rattle.yd_ops.specs.Operation.{Operation}
+use Rattle.yd_ops.specs.Received.{has_operation}
+use Rattle.yd_ops.proofs.OneOfLemmas.{operation_with, id_is_there}
 use Rattle.yd_origins.specs.Table.{OriginTable}
 use Rattle.yd_origins.specs.Growing.{GrowsByScan}
 use Rattle.yd_meaning.specs.Held.{standing}
 use Rattle.yd_meaning.specs.Grown.{table_in}
+use Rattle.yd_meaning.specs.Order.{list_of}
 use Rattle.yd_meaning.specs.Own.{ids_in}
+use Rattle.yd_meaning.proofs.GrownStayingLemmas.{stands_not_lost}
 use Rattle.yd_arena.specs.Arena.{units_in}
 use Rattle.yd_kept.specs.Telling.{IsSoundStore}
 use Rattle.yd_kept.proofs.FillingLemmas.{slice_below, within_names}
 use Rattle.yd_kept.specs.Kept.{KeptValue, IsFilled, FillsFurther}
-use Rattle.yd_received.specs.Received.{taken_of, held_of, LowersOne}
+use Rattle.yd_received.specs.Received.{held_of, listed_of}
 use Rattle.yd_held.specs.Held.{HeldValue}
+use Rattle.yd_held.specs.Turn.{LosesOne, TellsOrder}
 use Rattle.yd_held.proofs.TryingLemmas.{got_in}
 use Rattle.yd_listing.proofs.LawLemmas.{find_name}
 use Rattle.yd_state.specs.State.{document_in}
 use Rattle.yd_state.specs.Grown.{GrownValue, held_by, units_of, ids_of, seen_of, IsWhole}
-use Rattle.yd_state.specs.Growing.{Grows}
+use Rattle.yd_state.specs.Growing.{LosesNone, Grows}
 use Rattle.yd_state.specs.Settling.{ListsGrow, GrowsThen}
-use Rattle.yd_state.proofs.DocumentLemmas.{units_same}
+use Rattle.yd_state.proofs.DocumentLemmas.{units_same, seen_sound}
 use Rattle.yd_state.proofs.NamesLemmas.{has_lists}
 
 module _ (k : HeldValue) (was it : KeptValue) (filled : IsFilled (held_of k.received) was) (further : FillsFurther (held_of k.received) was it)
@@ -68,16 +72,30 @@ module _ (k : HeldValue) (was it : KeptValue) (filled : IsFilled (held_of k.rece
 
 -- each list grew, and so it did to another store that has the same lists
 pub lists_grow : (k : HeldValue) (was it new : KeptValue) → IsFilled (held_of k.received) was → FillsFurther (held_of k.received) was it → IsSoundStore it.store →
-    ((list : DocList) → units_of new list ≡ units_of it list) → ListsGrow k was new
+    ((list : DocList) → ids_of new list ≡ ids_of it list) → ListsGrow k was new
 lists_grow k was it new filled further sound same sound_was list =
-    subst (λ (os : List Operation). GrowsByScan (table_in (standing (held_of k.received)) list) (ids_of was list) (map (λ (o : Operation). o.id) os)) (sym (same list))
+    subst (GrowsByScan (table_in (standing (held_of k.received)) list) (ids_of was list)) (sym (same list))
     (grows_by_name k was it filled further sound sound_was list)
 
 -- so the lists grew from one state to another, as contracts see them
-pub grows_then : (update : UpdateValue) (old new : GrownValue) → IsWhole old → IsWhole new → (anew : Bool) →
-    (anew ≡ true → LowersOne (operations_of update) (taken_of old.held.received)) → GrowsThen anew new.held old.kept new.kept → Grows update (seen_of old) (seen_of new)
-grows_then update old new was now true lowers grows none list = absurd (none (lowers refl))
-grows_then update old new was now false lowers grows none list =
+pub grows_then : (old new : GrownValue) → IsWhole old → IsWhole new → (anew : Bool) → (anew ≡ true → LosesOne old.held new.held) → GrowsThen anew new.held old.kept new.kept →
+    Grows (seen_of old) (seen_of new)
+grows_then old new was now true loses grows none list =
+    let one = loses refl in
+    let up : has_operation (standing (held_by old)) one.unit.id ≡ true = subst (λ os. has_operation os one.unit.id ≡ true) was.holds.stands (id_is_there (listed_of old.held.received) one.unit one.was) in
+    absurd (none (list_of (standing (held_by old)) one.unit.id) one.unit.id (((seen_sound old was).own.lists.each (list_of (standing (held_by old)) one.unit.id) one.unit.id).1 (up, refl)) one.lost)
+grows_then old new was now false loses grows none list =
     let table : OriginTable = table_in (standing (held_by new)) list in
     subst (λ (os : List Operation). GrowsByScan table (map (λ (o : Operation). o.id) os) (ids_in (document_in (seen_of new)) list)) (sym (units_same old was list))
     (subst (λ (os : List Operation). GrowsByScan table (ids_of old.kept list) (map (λ (o : Operation). o.id) os)) (sym (units_same new now list)) (grows was.store list))
+
+-- and no unit of them is lost, unless the update says less of something
+pub loses_then : (old new : GrownValue) → IsWhole old → (X : Type 0) → (anew : Bool) (told order : List ℕ) → TellsOrder anew told order old.held new.held → (anew ≡ true → X) →
+    LosesNone (seen_of old) (seen_of new) ⊎ X
+loses_then old new was X true told order tells lowers = inr (lowers refl)
+loses_then old new was X false told order tells lowers = inl (λ list x i lost.
+    let (up, of) = ((seen_sound old was).own.lists.each list x).0 i in
+    let (o, j, e) = operation_with (standing (held_by old)) x up in
+    let (q, l, alike) = tells.stays.stands o j in
+    let stands : has_operation (standing (held_by new)) x ≡ true = subst (λ y. has_operation (standing (held_by new)) y ≡ true) (alike.id ∙ e) (id_is_there (standing (held_by new)) q l) in
+    true≢false (sym lost ∙ stands_not_lost (held_by new) x stands))

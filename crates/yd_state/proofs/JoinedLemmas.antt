@@ -1,11 +1,10 @@
 -- Where what is held and a store keep what they tell, so does a state.
-use Rattle.std.proofs.Common.{◌≡◌, List, map, sym, subst}
+use Rattle.std.proofs.Common.{◌≡◌, true, List, map, sym, subst}
 use Rattle.yd_ids.specs.declared.id.Id.{Id}
 use Rattle.yd_ops.specs.declared.lists.List.{List as DocList}
 use Rattle.yd_ops.specs.Operation.{Operation}
-use Rattle.yd_ops.specs.Value.{UpdateValue}
 use Rattle.yd_ops.specs.ReceivedLaw.{IsReceived}
-use Rattle.yd_meaning.specs.Held.{standing, is_named}
+use Rattle.yd_meaning.specs.Held.{standing, is_named, is_lost}
 use Rattle.yd_meaning.specs.Document.{Document, operations_at, keys_among}
 use Rattle.yd_kept.specs.Telling.{IsSoundStore}
 use Rattle.yd_kept.specs.Kept.{KeptValue, JoinsHeld}
@@ -14,7 +13,7 @@ use Rattle.yd_held.specs.Joining.{StaysSame}
 use Rattle.yd_state.specs.Placing.{KeepsAll}
 use Rattle.yd_state.specs.State.{StateValue, order_named, document_in, held_in}
 use Rattle.yd_state.specs.Grown.{GrownValue, ids_of, AreWaiting, AreOwnDeletions, seen_of, IsWhole}
-use Rattle.yd_state.specs.Growing.{GrowsTo, Grows}
+use Rattle.yd_state.specs.Growing.{GrowsTo, LosesNone, Grows}
 use Rattle.yd_state.proofs.TakeLemmas.{joined_lists, still_sound, still_seen}
 
 module _ (s : GrownValue) (whole : IsWhole s) (k : HeldValue) (same : StaysSame s.held k) (it : KeptValue) (joins : JoinsHeld s.kept it) where
@@ -50,8 +49,12 @@ module _ (s : GrownValue) (whole : IsWhole s) (k : HeldValue) (same : StaysSame 
   document_after = λ i. document_with (same.held i) (same.names i)
 
   -- its lists grew as they had before
-  pub joined_grows : (update : UpdateValue) (old : StateValue) → Grows update old (seen_of s) → Grows update old (seen_of after)
-  joined_grows update old grows none =
+  pub joined_grows : (old : StateValue) → Grows old (seen_of s) → Grows old (seen_of after)
+  joined_grows old grows none =
       subst (λ (d : Document). GrowsTo (held_in (seen_of after)) (document_in old) d) (sym document_after)
       (subst (λ (os : List Operation). GrowsTo os (document_in old) (document_in (seen_of mid))) (sym same.held)
-      (subst (λ (v : StateValue). GrowsTo (held_in v) (document_in old) (document_in v)) (sym (still_seen s whole it (joined_lists s.kept it joins))) (grows none)))
+      (subst (λ (v : StateValue). GrowsTo (held_in v) (document_in old) (document_in v)) (sym (still_seen s whole it (joined_lists s.kept it joins))) (grows (λ list x i lost. none list x i (subst (λ (os : List Operation). is_lost os x ≡ true) (sym same.held) lost)))))
+
+  -- and no unit of them is lost that was not before
+  pub joined_loses : (old : StateValue) → LosesNone old (seen_of s) → LosesNone old (seen_of after)
+  joined_loses old none list x i lost = none list x i (subst (λ (os : List Operation). is_lost os x ≡ true) same.held lost)

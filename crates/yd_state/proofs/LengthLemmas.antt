@@ -45,7 +45,7 @@ module _ (s : GrownValue) (whole : IsWhole s) where
   length_at n list e lt arena lists told counted noted =
       live_is_counted s.kept.store n (is_named s.deletes) arena lists told counted noted lt
       (λ id. ((λ f. (whole.marks id).1 (named_has s.deletes id f)), (λ m. has_named s.deletes id ((whole.marks id).0 m)))) (less_marked n lt)
-      ∙ ap (λ os. length (filter (is_live (is_named s.deletes)) os)) (sym (units_same s whole list ∙ units_at s.kept whole.keeps.filled.distinct n list e))
+      ∙ ap (λ os. length (filter (is_live (is_named s.deletes)) os)) (sym (units_same s whole list ∙ units_at s.kept whole.keeps.ids.filled.distinct n list e))
 
   pub length_none : (list : DocList) → (IsIn list s.kept.names → ⊥) → 0 ≡ length (filter (is_live (is_named s.deletes)) ((document_in (seen_of s)).units list))
-  length_none list none = ap (λ os. length (filter (is_live (is_named s.deletes)) os)) (sym (units_same s whole list ∙ units_none s.kept whole.keeps.filled.distinct list none))
+  length_none list none = ap (λ os. length (filter (is_live (is_named s.deletes)) os)) (sym (units_same s whole list ∙ units_none s.kept whole.keeps.ids.filled.distinct list none))

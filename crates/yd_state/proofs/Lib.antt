@@ -12,6 +12,7 @@ pub mod InTurnLemmas
 pub mod JoinedLemmas
 pub mod LawLemmas
 pub mod LengthLemmas
+pub mod LessLemmas
 pub mod LentLemmas
 pub mod MarkingLemmas
 pub mod NamedLemmas
@@ -21,11 +22,13 @@ pub mod NoveltyLemmas
 pub mod OutLemmas
 pub mod PlacingLawLemmas
 pub mod PlacingLemmas
+pub mod ReadyingLemmas
 pub mod SeenLemmas
 pub mod SettlingLemmas
 pub mod SoundLemmas
 pub mod StepLemmas
 pub mod TakeLemmas
+pub mod TellingLemmas
 pub mod ToldLemmas
 pub mod UndoingLemmas
 pub mod ViewLemmas

@@ -27,29 +27,30 @@ use Rattle.yd_listing.specs.Falling.{units_of_list, Falls, by_name, by_loss, by_
 use Rattle.yd_listing.proofs.LawLemmas.{find_name}
 use Rattle.yd_state.specs.Back.{CanBeTakenOut}
 use Rattle.yd_state.specs.PlacingLaw.{IsEmptyStore}
-use Rattle.yd_state.specs.Placing.{KeepsAll, PlacesAll}
+use Rattle.yd_state.specs.Placing.{KeepsIds, PlacesAll}
 use Rattle.yd_state.specs.Grown.{units_of, AreMarked}
 use Rattle.yd_state.specs.Coming.{AreCame}
 use Rattle.yd_state.specs.Settling.{MarksOn, MarksAnew}
+use Rattle.yd_state.specs.Telling.{KeepsStanding}
 use Rattle.yd_state.proofs.CameLemmas.{came_at, turn_is_held, in_entry, written, filled}
 use Rattle.yd_state.proofs.NamesLemmas.{units_at, units_none}
 use Rattle.yd_state.proofs.ToldLemmas.{in_some_list}
 
 -- ---- what falls is held
 
-module _ (k : HeldValue) (holds : HoldsAll k) (it : KeptValue) (keeps : KeepsAll (held_of k.received) it) where
+module _ (k : HeldValue) (holds : HoldsAll k) (it : KeptValue) (keeps : KeepsIds (held_of k.received) it) where
   unit_below : (n : ℕ) (x : Id) → IsIn x (units_of_list it n) → x.clock < next_clock it.store.placed x.client.0
   unit_below n x i =
       let (name, e) = slice_below it.names n (let lt = in_some_list it n x i in omega (arith, lt, keeps.filled.count)) in
       let (up, of) = ((filled k holds it keeps).each n name e x).0 i in
-      keeps.has.all x (stands_held (held_of k.received) (written k holds it keeps) x up)
+      keeps.all x (stands_held (held_of k.received) (written k holds it keeps) x up)
 
   pub falls_below : (order : List ℕ) → CanBeTakenOut k order it → (came : List Came) → AreCame k it order came → (old : List Span) (named : Id → Type 0) (x : Id) →
       Falls it old named came x → x.clock < next_clock it.store.placed x.client.0
   falls_below order can came are old named x (by_name these lt) = lt
   falls_below order can came are old named x (by_loss c) =
       let (at, i, is) = came_at k it order came are c.one c.member in
-      keeps.has.all x (chosen_id is_held k.received holds.in_order is.entry x (entry_got k.received.entries at is.entry is.there)
+      keeps.all x (chosen_id is_held k.received holds.in_order is.entry x (entry_got k.received.entries at is.entry is.there)
       (turn_is_held k.received.runs k.received.entries order can.clocks (next_clock it.store.placed) can.turn at is.entry i is.there)
       (in_entry is.entry c.one.span x is.of.span_is c.inside))
   falls_below order can came are old named x (by_key n keyed i other) = unit_below n x i
@@ -58,16 +59,13 @@ module _ (k : HeldValue) (holds : HoldsAll k) (it : KeptValue) (keeps : KeepsAll
 
 -- ---- where it is marked
 
-module _ (held : List Operation) (w : IsWritten held) (mid new : KeptValue) (keeps : KeepsAll held mid) (besides : List Span) (deletes : DeletesEach mid new besides) where
-  -- the store has just what is held still
-  pub marked_keeps : KeepsAll held new
+module _ (held : List Operation) (w : IsWritten held) (mid new : KeptValue) (keeps : KeepsIds held mid) (besides : List Span) (deletes : DeletesEach mid new besides) where
+  -- the store has just the ids of what is held still
+  pub marked_keeps : KeepsIds held new
   marked_keeps =
       let further = deletes.filled held w keeps.filled in record {
         filled = further.fills;
-        has = record {
-          all = λ x e. omega (arith, keeps.has.all x e, deletes.nexts x.client.0);
-          no_more = λ o i. keeps.has.no_more o ((deletes.operations o).0 i);
-        };
+        all = λ x e. omega (arith, keeps.all x e, deletes.nexts x.client.0);
         below = λ x low. keeps.below x (omega (arith, low, deletes.nexts x.client.0));
         grown = λ n name e.
             let g : slice_get mid.names n ≡ Some name = ap (λ ns. slice_get ns n) (sym deletes.names) ∙ e in
@@ -105,6 +103,11 @@ module _ (k : HeldValue) (was mid new : KeptValue) (placed : PlacesAll k was mid
       | inr b ↦ (deletes.marks x).1 (inr b)
     ]),
   )
+
+-- so it is where less is told
+pub marks_told : (k : HeldValue) (was mid new : KeptValue) (deleted now : List Span) → KeepsStanding mid new → MarksOn k was mid deleted now → MarksOn k was new deleted now
+marks_told k was mid new deleted now tells on marked lost x =
+    let are = on marked lost x in ((λ m. are.0 ((tells.marks x).0 m)), (λ h. (tells.marks x).1 (are.1 h)))
 
 -- ---- from nothing
 

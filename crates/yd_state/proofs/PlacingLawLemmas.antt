@@ -28,29 +28,16 @@ use Rattle.yd_kept.specs.Filling.{FillsLists}
 use Rattle.yd_kept.specs.Telling.{IsSoundStore, TellsLists}
 use Rattle.yd_kept.proofs.FillingLemmas.{slice_below, filling_starts, filling_stays}
 use Rattle.yd_kept.proofs.TellingLemmas.{filled_lists_are_grown}
-use Rattle.yd_kept.specs.Kept.{KeptValue}
+use Rattle.yd_kept.specs.Kept.{KeptValue, KeepsHeld}
 use Rattle.yd_received.specs.Received.{taken_of, held_of}
 use Rattle.yd_entries.proofs.WrittenLemmas.{taken_written}
 use Rattle.yd_held.specs.Held.{HeldValue, HoldsAll}
-use Rattle.yd_held.specs.Turn.{AreHeldInTurn, HoldsInTurn}
+use Rattle.yd_held.specs.Turn.{AreHeldInTurn, HoldsOn}
 use Rattle.yd_held.proofs.HoldingLemmas.{is_written, has_needs}
 use Rattle.yd_held.proofs.KeptLemmas.{holds_holding}
-use Rattle.yd_state.specs.Placing.{KeepsAll, CanBePlaced}
-use Rattle.yd_state.specs.PlacingLaw.{IsEmptyStore, EntriesCanBePlaced, TurnStaysHeld, KeepingKeepsAll, StoreTellsLists}
+use Rattle.yd_state.specs.Placing.{KeepsIds, KeepsAll, CanBePlaced}
+use Rattle.yd_state.specs.PlacingLaw.{IsEmptyStore, EntriesCanBePlaced, KeepsLists, KeepingKeepsAll, StoreTellsLists}
 use Rattle.yd_state.proofs.InTurnLemmas.{turn_from}
-
--- ---- what was held
-
-part_held : (old new : HeldValue) → HoldsAll old → HoldsAll new → (order : List ℕ) → HoldsInTurn order old new → IsPartOf (held_of old.received) (held_set (taken_of new.received))
-part_held old new holds now order h = record {
-  written = is_written old (holds_holding old holds);
-  within = λ o i. subst (λ os. IsIn o os) now.held (h.stays o i);
-  closed = λ o i x n. has_needs old (holds_holding old holds) o i x n;
-}
-
-pub turn_stays_held : TurnStaysHeld
-turn_stays_held old new holds now order h = subst (StaysHeld (held_of old.received)) (sym now.held)
-    (part_stays_held (taken_of new.received) (taken_written new.received.runs new.received.entries now.in_order) (held_of old.received) (part_held old new holds now order h))
 
 -- ---- what can be placed
 
@@ -64,26 +51,22 @@ same_clocks m n f g = elim (split m n) [
     less : (k : ℕ) → k < k → ⊥
     less k lt = omega (arith, lt)
 
-module _ (old new : HeldValue) (holds : HoldsAll old) (now : HoldsAll new) (order : List ℕ) (h : HoldsInTurn order old new) (it : KeptValue) (keeps : KeepsAll (held_of old.received) it) where
+module _ (old new : HeldValue) (holds : HoldsAll old) (now : HoldsAll new) (told order : List ℕ) (h : HoldsOn told order old new) (it : KeptValue) (keeps : KeepsAll (held_of old.received) it) where
   w : IsWritten (held_of new.received)
   w = is_written new (holds_holding new now)
 
-  stays : StaysHeld (held_of old.received) (held_of new.received)
-  stays = turn_stays_held old new holds now order h
-
   nexts : (client : ℕ) → next_clock it.store.placed client ≡ clock_of old.vector client
   nexts client = same_clocks (next_clock it.store.placed client) (clock_of old.vector client)
-      (λ k lt. ((holds_holding old holds).tells (at k)).0 (keeps.below (at k) lt))
-      (λ k lt. keeps.has.all (at k) (((holds_holding old holds).tells (at k)).1 lt))
+      (λ k lt. ((holds_holding old holds).tells (at k)).0 (keeps.ids.below (at k) lt))
+      (λ k lt. keeps.ids.all (at k) (((holds_holding old holds).tells (at k)).1 lt))
     where
       at : ℕ → Id
       at k = record { client = record { 0 = client }; clock = k }
 
   placed_on : CanBePlaced new order it
   placed_on = record {
-    filled = filling_stays (held_of old.received) (held_of new.received) w stays it.names it.store.placed keeps.below keeps.filled;
-    grown = λ n name e. (stays_grown (held_of old.received) (held_of new.received) w stays).same name _ (keeps.grown n name e);
-    no_more = λ o i. h.stays o (keeps.has.no_more o i);
+    filled = filling_stays (held_of old.received) (held_of new.received) w h.stays it.names it.store.placed keeps.ids.below keeps.ids.filled;
+    grown = λ n name e. (stays_grown (held_of old.received) (held_of new.received) w h.stays).same name _ (keeps.ids.grown n name e);
     turn = turn_from new.received.runs new.received.entries (clock_of old.vector) (next_clock it.store.placed) (clock_of new.vector) order nexts h.turn;
   }
 
@@ -92,7 +75,6 @@ placed_anew : (new : HeldValue) → HoldsAll new → (order : List ℕ) → AreH
 placed_anew new now order turn it empty = record {
   filled = subst (λ ns. FillsLists (held_of new.received) ns it.store.placed) (sym empty.names) (filling_starts (held_of new.received) it.store.placed empty.lists empty.clocks);
   grown = λ n name e. absurd (nameless n name (ap (λ ns. slice_get ns n) (sym empty.names) ∙ e));
-  no_more = λ o i. absurd (omega (arith, i.within, ap length empty.runs));
   turn = turn_from new.received.runs new.received.entries (λ client. 0) (next_clock it.store.placed) (clock_of new.vector) order empty.clocks turn;
 }
   where
@@ -104,24 +86,39 @@ entries_can_be_placed = record { on = placed_on; anew = placed_anew }
 
 -- ---- where no unit changed
 
-pub keeping_keeps_all : KeepingKeepsAll
-keeping_keeps_all held w old new all keeps =
-    let further = keeps.filled held w all.filled in record {
+pub keeping_keeps_ids : (held : List Operation) → IsWritten held → (old new : KeptValue) → KeepsIds held old → KeepsLists old new → KeepsIds held new
+keeping_keeps_ids held w old new ids keeps =
+    let further = keeps.filled held w ids.filled in record {
       filled = further.fills;
-      has = record {
-        all = λ x e. omega (arith, all.has.all x e, keeps.nexts x.client.0);
-        no_more = λ o i. all.has.no_more o ((keeps.operations o).0 i);
-      };
-      below = λ x low. all.below x (omega (arith, low, keeps.nexts x.client.0));
+      all = λ x e. omega (arith, ids.all x e, keeps.nexts x.client.0);
+      below = λ x low. ids.below x (omega (arith, low, keeps.nexts x.client.0));
       grown = λ n name e. elim (split (length old.names) n) [
         | inl le ↦ further.grows.made n name e le
         | inr lt ↦
             let (x, f) = slice_below old.names n lt in
             let same : x ≡ name = some_is x name (sym (keeps.names n x f) ∙ e) in
             let g : slice_get old.names n ≡ Some name = f ∙ ap (λ (l : DocList). Some l) same in
-            grows_on (table_in (standing held) name) [] _ _ (all.grown n name g) (further.grows.grows n name g)
+            grows_on (table_in (standing held) name) [] _ _ (ids.grown n name g) (further.grows.grows n name g)
       ];
     }
+
+pub keeping_keeps_all : KeepingKeepsAll
+keeping_keeps_all held w old new all keeps = record {
+  ids = keeping_keeps_ids held w old new all.ids keeps;
+  no_more = λ o i. all.no_more o ((keeps.operations o).0 i);
+}
+
+-- so it is where runs are cut, or lists are added
+pub held_lists : (old new : KeptValue) → KeepsHeld old new → KeepsLists old new
+held_lists old new keeps = record {
+  names = keeps.names;
+  lists = keeps.lists;
+  made = keeps.made;
+  operations = keeps.operations;
+  marks = keeps.marks;
+  nexts = keeps.nexts;
+  filled = keeps.filled;
+}
 
 -- ---- the document
 
@@ -148,4 +145,5 @@ store_tells_lists = record {
   where
     lists_grown : (held : List Operation) → IsWritten held → (it : KeptValue) → IsSoundStore it.store → KeepsAll held it → (document : Document) →
         TellsLists document it.names it.store → HasGrownLists document held
-    lists_grown held w it sound all document tells = filled_lists_are_grown held w it.names it.store document sound all.filled all.has all.grown tells
+    lists_grown held w it sound all document tells = filled_lists_are_grown held w it.names it.store document sound all.ids.filled
+        (record { all = all.ids.all; no_more = all.no_more }) all.ids.grown tells

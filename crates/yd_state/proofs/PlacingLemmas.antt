@@ -35,7 +35,7 @@ use Rattle.yd_held.proofs.HoldingLemmas.{is_written}
 use Rattle.yd_held.proofs.KeptLemmas.{holds_holding}
 use Rattle.yd_held.proofs.TurnLemmas.{turn_more, clocks_own, clocks_other}
 use Rattle.yd_state.specs.Back.{BeginAtBorders, is_unit_below}
-use Rattle.yd_state.specs.Placing.{KeepsAll, CanBePlaced, PlacesAll, IsNextFor, AddsEntry}
+use Rattle.yd_state.specs.Placing.{KeepsIds, CanBePlaced, PlacesAll, IsNextFor, AddsEntry}
 use Rattle.yd_state.proofs.EntryLemmas.{entry_taken, held_lost, lost_other}
 use Rattle.yd_state.proofs.InTurnLemmas.{turn_from, turn_rises, turn_below}
 
@@ -260,13 +260,10 @@ module _ (k : HeldValue) (holds : HoldsAll k) where
       );
     }
 
-    pub keeps_all : KeepsAll held new
-    keeps_all = record {
+    pub keeps_ids : KeepsIds held new
+    keeps_ids = record {
       filled = is.further.fills;
-      has = record {
-        all = λ x e. omega (arith, ((holds_holding k holds).tells x).0 e, nexts x.client.0);
-        no_more = λ o h. elim ((is.operations o).0 h) [ inl was ↦ can.no_more o was | inr news ↦ news.0 ];
-      };
+      all = λ x e. omega (arith, ((holds_holding k holds).tells x).0 e, nexts x.client.0);
       below = λ x low. ((holds_holding k holds).tells x).1 (omega (arith, low, nexts x.client.0));
       grown = filling_goes_on.end held held all_written stays_itself start.names start.store.placed new.names new.store.placed can.grown is.further.grows;
     }

@@ -22,7 +22,7 @@ use Rattle.yd_held.specs.Held.{HeldValue, HoldsAll}
 use Rattle.yd_listing.specs.Law.{is_gone}
 use Rattle.yd_listing.proofs.LawLemmas.{has_named, named_has, gone_has, has_gone, deletions_go_on}
 use Rattle.yd_state.specs.PlacingLaw.{IsEmptyStore}
-use Rattle.yd_state.specs.Placing.{KeepsAll, CanBePlaced, PlacesAll}
+use Rattle.yd_state.specs.Placing.{KeepsIds, KeepsAll, CanBePlaced, PlacesAll}
 use Rattle.yd_state.specs.Grown.{units_named, units_of, ids_of, AreOwnDeletions}
 use Rattle.yd_state.specs.Settling.{DeletesBy, DeletesOn, DeletesAnew}
 use Rattle.yd_state.proofs.CameLemmas.{written}
@@ -43,7 +43,7 @@ is_gone-named deleted besides now e = λ i x. same x i
     same x = one_answer {P = HasId now x} (is_gone deleted besides x) (is_named now x) (to x, from x) (named_has now x, has_named now x)
 
 module _ (k : HeldValue) (holds : HoldsAll k) (was it : KeptValue) (order : List ℕ) (can : CanBePlaced k order was) (placed : PlacesAll k was it)
-    (keeps : KeepsAll (held_of k.received) it) (sound : IsSoundStore it.store) where
+    (keeps : KeepsIds (held_of k.received) it) (sound : IsSoundStore it.store) where
   pub deletes_on : (deleted waiting more besides now : List Span) → DeletesBy k order it deleted waiting more besides now → DeletesOn k deleted waiting more was it now
   deletes_on deleted waiting more besides now by part named news from =
       let same = is_gone-named deleted besides now by.grown in
@@ -55,11 +55,11 @@ module _ (k : HeldValue) (holds : HoldsAll k) (was it : KeptValue) (order : List
       }
 
 -- so it is with another store that has the same lists
-pub own_still : (k : HeldValue) (was it new : KeptValue) → ((list : DocList) → units_of new list ≡ units_of it list) → (deleted waiting more now : List Span) →
+pub own_still : (k : HeldValue) (was it new : KeptValue) → ((list : DocList) → ids_of new list ≡ ids_of it list) → (deleted waiting more now : List Span) →
     DeletesOn k deleted waiting more was it now → DeletesOn k deleted waiting more was new now
 own_still k was it new same deleted waiting more now on part named news from =
     let own = on part named news from in record {
-      closed = subst (λ lists. AreClosedDeletions lists (held_of k.received) (is_named news) (is_named now)) (λ i list. map (λ (o : Operation). o.id) (sym (same list) i)) own.closed;
+      closed = subst (λ lists. AreClosedDeletions lists (held_of k.received) (is_named news) (is_named now)) (λ i list. sym (same list) i) own.closed;
       sound = own.sound;
     }
 
@@ -79,13 +79,13 @@ nameless n name e = cc
 
 pub nothing_kept : (it : KeptValue) → IsEmptyStore it → KeepsAll [] it
 nothing_kept it empty = record {
-  filled = subst (λ ns. FillsLists [] ns it.store.placed) (sym empty.names) (filling_starts [] it.store.placed empty.lists empty.clocks);
-  has = record {
+  ids = record {
+    filled = subst (λ ns. FillsLists [] ns it.store.placed) (sym empty.names) (filling_starts [] it.store.placed empty.lists empty.clocks);
     all = λ x e. absurd (true≢false (sym e));
-    no_more = λ o i. absurd (omega (arith, i.within, ap length empty.runs));
+    below = λ x low. absurd (omega (arith, low, empty.clocks x.client.0));
+    grown = λ n name e. absurd (nameless n name (ap (λ ns. slice_get ns n) (sym empty.names) ∙ e));
   };
-  below = λ x low. absurd (omega (arith, low, empty.clocks x.client.0));
-  grown = λ n name e. absurd (nameless n name (ap (λ ns. slice_get ns n) (sym empty.names) ∙ e));
+  no_more = λ o i. absurd (omega (arith, i.within, ap length empty.runs));
 }
 
 pub nothing_deleted : (it : KeptValue) → it.names ≡ [] → AreOwnDeletions it [] [] []
@@ -107,7 +107,7 @@ pub deletes_anew : (k : HeldValue) (fresh it : KeptValue) → IsEmptyStore fresh
     DeletesOn k [] named more fresh it now → DeletesAnew k named more it now
 deletes_anew k fresh it empty sound named more now on news same = on [] [] news (record {
   stays = nothing_stays (held_of k.received);
-  keeps = nothing_kept fresh empty;
+  keeps = (nothing_kept fresh empty).ids;
   store = sound;
   own = nothing_deleted fresh empty.names;
   became = record {

@@ -21,10 +21,10 @@ use Rattle.yd_meaning.specs.Held.{is_named}
 use Rattle.yd_meaning.specs.Deletions.{for_loss, AreClosedDeletions}
 use Rattle.yd_kept.specs.Telling.{IsSoundStore}
 use Rattle.yd_kept.proofs.FillingLemmas.{slice_below, within_names}
-use Rattle.yd_kept.specs.Kept.{KeptValue, KeepsHeld, JoinsHeld}
+use Rattle.yd_kept.specs.Kept.{KeptValue, JoinsHeld}
 use Rattle.yd_received.specs.Received.{taken_of, held_of}
 use Rattle.yd_held.specs.Held.{HeldValue, HoldsAll}
-use Rattle.yd_held.specs.Turn.{HoldsInTurn, TellsOrder}
+use Rattle.yd_held.specs.Turn.{HoldsOn, TellsOrder}
 use Rattle.yd_held.proofs.HoldingLemmas.{is_written}
 use Rattle.yd_held.proofs.KeptLemmas.{holds_holding}
 use Rattle.yd_held.proofs.TryingLemmas.{got_in}
@@ -33,7 +33,8 @@ use Rattle.yd_listing.specs.Law.{BecameNamed}
 use Rattle.yd_listing.proofs.LawLemmas.{find_name, has_named, named_has}
 use Rattle.yd_state.specs.PlacingLaw.{IsEmptyStore, KeepsLists}
 use Rattle.yd_state.specs.Placing.{KeepsAll}
-use Rattle.yd_state.proofs.PlacingLawLemmas.{entries_can_be_placed, turn_stays_held, keeping_keeps_all}
+use Rattle.yd_state.proofs.LessLemmas.{can_be_less}
+use Rattle.yd_state.proofs.PlacingLawLemmas.{entries_can_be_placed, keeping_keeps_all}
 use Rattle.yd_state.specs.declared.sets.Sets.{Sets}
 use Rattle.yd_state.specs.Grown.{GrownValue, held_by, units_of, AreWaiting, AreOwnDeletions, AreMarked, seen_of, IsWhole}
 use Rattle.yd_state.specs.Settling.{CanSettle, AreLeft, known_of, DeletesThen, MarksThen, Settles}
@@ -45,10 +46,11 @@ use Rattle.yd_state.proofs.SoundLemmas.{still_received}
 
 -- ---- what became held can be placed
 
-pub can_settle : (anew : Bool) (old k : HeldValue) → HoldsAll old → HoldsAll k → (order : List ℕ) → TellsOrder anew order old k → (it : KeptValue) →
-    KeepsAll (held_of old.received) it → CanSettle anew k order it
-can_settle false old k holds now order tells it keeps = entries_can_be_placed.on old k holds now order tells it keeps
-can_settle true old k holds now order tells it keeps = tells
+pub can_settle : (anew : Bool) (old k : HeldValue) → HoldsAll old → HoldsAll k → (told order : List ℕ) → TellsOrder anew told order old k → (it : KeptValue) →
+    KeepsAll (held_of old.received) it → CanSettle anew k told order it
+can_settle false old k holds now told order tells it keeps =
+    (entries_can_be_placed.on old k holds now told order tells it keeps, can_be_less old k holds now told order tells it keeps)
+can_settle true old k holds now told order tells it keeps = tells
 
 -- ---- where it was taken
 
@@ -89,12 +91,12 @@ module _ (old : GrownValue) (sound : IsWhole old) (more named : List Span) (is :
       ];
     }
 
-    module _ (holds : HoldsAll k) (order : List ℕ) (sets : Sets) (same_named : sets.named ≡ old.named) (same_waiting : sets.waiting ≡ old.waiting) (same_deletes : sets.deletes ≡ old.deletes)
+    module _ (holds : HoldsAll k) (told order : List ℕ) (sets : Sets) (same_named : sets.named ≡ old.named) (same_waiting : sets.waiting ≡ old.waiting) (same_deletes : sets.deletes ≡ old.deletes)
         (it : KeptValue) (now : List Span) where
-      own_then : (anew : Bool) → TellsOrder anew order old.held k → DeletesThen anew k sets more old.kept it now → AreOwnDeletions it (held_of k.received) named now
+      own_then : (anew : Bool) → TellsOrder anew told order old.held k → DeletesThen anew k sets more old.kept it now → AreOwnDeletions it (held_of k.received) named now
       own_then false tells deletes = deletes (held_by old) old.named named (record {
-        stays = turn_stays_held old.held k sound.holds holds order tells;
-        keeps = sound.keeps;
+        stays = tells.stays;
+        keeps = sound.keeps.ids;
         store = sound.store;
         own = subst (λ d. AreOwnDeletions old.kept (held_by old) old.named d) (sym same_deletes) sound.own;
         became = subst (λ w. BecameNamed (held_by old) (held_of k.received) (is_named old.named) (is_named named) (IsNamedIn w more)) (sym same_waiting) became_named;
@@ -107,12 +109,12 @@ module _ (old : GrownValue) (sound : IsWhole old) (more named : List Span) (is :
       marks_then true own marks = marks (λ x gone. named_has now x (own.closed.all x (for_loss gone)))
 
 -- no clock falls where others are held as they were
-rises_on : (old k : HeldValue) → HoldsAll old → HoldsAll k → (order : List ℕ) → HoldsInTurn order old k → (client : ℕ) → clock_of old.vector client ≤ clock_of k.vector client
-rises_on old k holds now order turn client = elim (split (clock_of old.vector client) (clock_of k.vector client)) [
+rises_on : (old k : HeldValue) → HoldsAll old → HoldsAll k → (told order : List ℕ) → HoldsOn told order old k → (client : ℕ) → clock_of old.vector client ≤ clock_of k.vector client
+rises_on old k holds now told order on client = elim (split (clock_of old.vector client) (clock_of k.vector client)) [
   | inl le ↦ le
   | inr lt ↦
       let there : has_operation (held_of old.received) x ≡ true = ((holds_holding old holds).tells x).1 lt in
-      let still : has_operation (held_of k.received) x ≡ true = (turn_stays_held old k holds now order turn).ids x there in
+      let still : has_operation (held_of k.received) x ≡ true = on.stays.ids x there in
       absurd (less (clock_of k.vector client) (((holds_holding k now).tells x).0 still))
 ]
   where
@@ -122,43 +124,31 @@ rises_on old k holds now order turn client = elim (split (clock_of old.vector cl
     less : (n : ℕ) → n < n → ⊥
     less n lt = omega (arith, lt)
 
-rises_where : (anew : Bool) (old k : HeldValue) → HoldsAll old → HoldsAll k → (order : List ℕ) → TellsOrder anew order old k → (client : ℕ) → anew ≡ false →
+rises_where : (anew : Bool) (old k : HeldValue) → HoldsAll old → HoldsAll k → (told order : List ℕ) → TellsOrder anew told order old k → (client : ℕ) → anew ≡ false →
     clock_of old.vector client ≤ clock_of k.vector client
-rises_where false old k holds now order tells client e = rises_on old k holds now order tells client
-rises_where true old k holds now order tells client e = absurd (true≢false e)
+rises_where false old k holds now told order tells client e = rises_on old k holds now told order tells client
+rises_where true old k holds now told order tells client e = absurd (true≢false e)
 
 pub sound_then : (old : GrownValue) → IsWhole old → (update : UpdateValue) → IsValidUpdate update → (k : HeldValue) → HoldsAll k →
     taken_of k.received ≡ with_groups (groups_of update) (taken_of old.held.received) → (more named : List Span) → more ≡ deletes_of update → named ≡ union_of old.named more →
-    (anew : Bool) (order : List ℕ) → TellsOrder anew order old.held k → (sets : Sets) → sets.named ≡ old.named → sets.waiting ≡ old.waiting → sets.deletes ≡ old.deletes →
+    (anew : Bool) (told order : List ℕ) → TellsOrder anew told order old.held k → (sets : Sets) → sets.named ≡ old.named → sets.waiting ≡ old.waiting → sets.deletes ≡ old.deletes →
     (it : KeptValue) (left now : List Span) → Settles anew k sets more old.kept it left now →
     IsWhole (record { held = k; named = named; waiting = left; kept = it; deletes = now })
-sound_then old sound update valid k holds taken more named of is anew order tells sets e f g it left now settles = record {
+sound_then old sound update valid k holds taken more named of is anew told order tells sets e f g it left now settles = record {
   received = still_received (record { operations = taken_of old.held.received; deletes = old.named }) update (taken_of k.received) named sound.received valid taken
       (is ∙ ap (union_of old.named) of);
   holds = holds;
-  waits = waits_on old sound more named is k anew sets e f (rises_where anew old.held k sound.holds holds order tells) left settles.waits;
+  waits = waits_on old sound more named is k anew sets e f (rises_where anew old.held k sound.holds holds told order tells) left settles.waits;
   keeps = settles.keeps;
   store = settles.store;
-  own = own_then old sound more named is k holds order sets e f g it now anew tells settles.deletes;
-  marks = marks_then old sound more named is k holds order sets e f g it now anew
-      (own_then old sound more named is k holds order sets e f g it now anew tells settles.deletes) settles.marks;
+  own = own_then old sound more named is k holds told order sets e f g it now anew tells settles.deletes;
+  marks = marks_then old sound more named is k holds told order sets e f g it now anew
+      (own_then old sound more named is k holds told order sets e f g it now anew tells settles.deletes) settles.marks;
 }
 
 -- ---- where no unit changed
 
--- so it is where memory ended
-pub held_lists : (old new : KeptValue) → KeepsHeld old new → KeepsLists old new
-held_lists old new keeps = record {
-  names = keeps.names;
-  lists = keeps.lists;
-  made = keeps.made;
-  operations = keeps.operations;
-  marks = keeps.marks;
-  nexts = keeps.nexts;
-  filled = keeps.filled;
-}
-
--- and where runs are joined
+-- so it is where runs are joined
 pub joined_lists : (old new : KeptValue) → JoinsHeld old new → KeepsLists old new
 joined_lists old new joins = record {
   names = λ n name e. subst (λ names. slice_get names n ≡ Some name) (sym joins.names) e;
@@ -175,19 +165,19 @@ module _ (old : GrownValue) (sound : IsWhole old) (it : KeptValue) (keeps : Keep
   keeps_all = keeping_keeps_all (held_by old) (is_written old.held (holds_holding old.held sound.holds)) old.kept it sound.keeps keeps
 
   was : (n : ℕ) (name : DocList) → slice_get old.kept.names n ≡ Some name → n < count_of old.kept.store.placed
-  was n name e = let lt = within_names old.kept.names n name e in omega (arith, lt, sound.keeps.filled.count)
+  was n name e = let lt = within_names old.kept.names n name e in omega (arith, lt, sound.keeps.ids.filled.count)
 
   -- a list whose name is new has no unit
   none_new : (list : DocList) → (IsIn list old.kept.names → ⊥) → units_of it list ≡ []
   none_new list none = elim (find_name it.names list) [
-    | inl h ↦ units_at it keeps_all.filled.distinct h.0 list h.1 ∙ elim (split (count_of old.kept.store.placed) h.0) [
-      | inl le ↦ keeps.made h.0 le (let lt = within_names it.names h.0 list h.1 in omega (arith, lt, keeps_all.filled.count))
+    | inl h ↦ units_at it keeps_all.ids.filled.distinct h.0 list h.1 ∙ elim (split (count_of old.kept.store.placed) h.0) [
+      | inl le ↦ keeps.made h.0 le (let lt = within_names it.names h.0 list h.1 in omega (arith, lt, keeps_all.ids.filled.count))
       | inr lt ↦
-          let (name, e) = slice_below old.kept.names h.0 (omega (arith, lt, sound.keeps.filled.count)) in
+          let (name, e) = slice_below old.kept.names h.0 (omega (arith, lt, sound.keeps.ids.filled.count)) in
           let same : name ≡ list = some_is name list (sym (keeps.names h.0 name e) ∙ h.1) in
           absurd (none (subst (λ l. IsIn l old.kept.names) same (there old.kept.names h.0 name e)))
     ]
-    | inr out ↦ units_none it keeps_all.filled.distinct list out
+    | inr out ↦ units_none it keeps_all.ids.filled.distinct list out
   ]
     where
       there : (names : List DocList) (n : ℕ) (name : DocList) → slice_get names n ≡ Some name → IsIn name names
@@ -195,10 +185,10 @@ module _ (old : GrownValue) (sound : IsWhole old) (it : KeptValue) (keeps : Keep
 
   same_units : (list : DocList) → units_of it list ≡ units_of old.kept list
   same_units list = elim (find_name old.kept.names list) [
-    | inl h ↦ units_at it keeps_all.filled.distinct h.0 list (keeps.names h.0 list h.1)
+    | inl h ↦ units_at it keeps_all.ids.filled.distinct h.0 list (keeps.names h.0 list h.1)
         ∙ keeps.lists h.0 (was h.0 list h.1)
-        ∙ sym (units_at old.kept sound.keeps.filled.distinct h.0 list h.1)
-    | inr none ↦ none_new list none ∙ sym (units_none old.kept sound.keeps.filled.distinct list none)
+        ∙ sym (units_at old.kept sound.keeps.ids.filled.distinct h.0 list h.1)
+    | inr none ↦ none_new list none ∙ sym (units_none old.kept sound.keeps.ids.filled.distinct list none)
   ]
 
   abbrev after : GrownValue

@@ -17,12 +17,12 @@ use Rattle.yd_meaning.specs.Names.{item_of_list}
 use Rattle.yd_meaning.specs.Held.{standing}
 use Rattle.yd_meaning.specs.Order.{list_of}
 use Rattle.yd_meaning.specs.Document.{Document}
-use Rattle.yd_meaning.proofs.StandingLemmas.{standing_in}
+use Rattle.yd_meaning.proofs.StandingLemmas.{standing_in, standing_one}
 use Rattle.yd_meaning.specs.Own.{HasGrownLists}
 use Rattle.yd_meaning.proofs.GrownStayingLemmas.{stands_held}
 use Rattle.yd_kept.specs.Telling.{IsSoundStore}
 use Rattle.yd_kept.proofs.FillingLemmas.{slice_below}
-use Rattle.yd_kept.proofs.TellingLemmas.{filled_lists_are_grown}
+use Rattle.yd_kept.proofs.TellingLemmas.{in_store, lists_tell_units, filled_lists_are_grown}
 use Rattle.yd_kept.specs.Kept.{KeptValue}
 use Rattle.yd_entries.specs.Entries.{is_held}
 use Rattle.yd_received.specs.Received.{held_of, listed_of}
@@ -34,10 +34,12 @@ use Rattle.yd_held.proofs.ListedLemmas.{numbered_id}
 use Rattle.yd_held.proofs.NotedLemmas.{one_client}
 use Rattle.yd_held.proofs.StandingLemmas.{number_listed}
 use Rattle.yd_listing.specs.Falling.{units_of_list, IsTold}
-use Rattle.yd_state.specs.Placing.{KeepsAll}
+use Rattle.yd_listing.proofs.LawLemmas.{find_name}
+use Rattle.yd_state.specs.Placing.{KeepsIds, KeepsAll}
+use Rattle.yd_state.specs.Telling.{EachIsHeld}
 use Rattle.yd_state.proofs.EntryLemmas.{entry_taken}
 use Rattle.yd_state.specs.Grown.{units_of}
-use Rattle.yd_state.proofs.NamesLemmas.{units_at, units_none}
+use Rattle.yd_state.proofs.NamesLemmas.{units_at, units_none, has_lists}
 use Rattle.yd_state.proofs.CameLemmas.{written, filled}
 
 -- ---- numbers past the last
@@ -61,26 +63,27 @@ id_in (p ∷ os) o (inr i) = inr (id_in os o i)
 
 -- ---- the document
 
-module _ (k : HeldValue) (holds : HoldsAll k) (it : KeptValue) (keeps : KeepsAll (held_of k.received) it) (sound : IsSoundStore it.store) where
+-- a document that tells the lists by their names has grown lists
+pub lists_grown : (k : HeldValue) → HoldsAll k → (it : KeptValue) → KeepsAll (held_of k.received) it → IsSoundStore it.store → (document : Document) →
+    ((list : DocList) → document.units list ≡ units_of it list) → HasGrownLists document (held_of k.received)
+lists_grown k holds it keeps sound document same =
+    filled_lists_are_grown (held_of k.received) (written k holds it keeps.ids) it.names it.store document sound keeps.ids.filled
+    (record { all = keeps.ids.all; no_more = keeps.no_more }) keeps.ids.grown (record {
+      named = λ n name e. same name ∙ units_at it keeps.ids.filled.distinct n name e;
+      others = λ name none. same name ∙ units_none it keeps.ids.filled.distinct name none;
+    })
+
+-- so an operation of a list stands
+pub list_stands : (k : HeldValue) → HoldsAll k → (it : KeptValue) → KeepsAll (held_of k.received) it → IsSoundStore it.store → (n : ℕ) → n < count_of it.store.placed →
+    (o : Operation) → IsIn o (operations_in it.store n) → IsIn o (standing (held_of k.received))
+list_stands k holds it keeps sound n lt o i =
+    let (name, e) = slice_below it.names n (omega (arith, lt, keeps.ids.filled.count)) in
+    (lists_grown k holds it keeps sound (record { units = units_of it; deleted = λ x. false; keys = λ parent. [] }) (λ list. refl)).as_held name o
+    (subst (IsIn o) (sym (units_at it keeps.ids.filled.distinct n name e)) i)
+
+module _ (k : HeldValue) (holds : HoldsAll k) (it : KeptValue) (keeps : KeepsIds (held_of k.received) it) (sound : IsSoundStore it.store) where
   abbrev held : List Operation
   held = held_of k.received
-
-  -- a document that tells the lists by their names has grown lists
-  pub lists_grown : (document : Document) → ((list : DocList) → document.units list ≡ units_of it list) → HasGrownLists document held
-  lists_grown document same = filled_lists_are_grown held (written k holds it keeps) it.names it.store document sound keeps.filled keeps.has keeps.grown (record {
-    named = λ n name e. same name ∙ units_at it keeps.filled.distinct n name e;
-    others = λ name none. same name ∙ units_none it keeps.filled.distinct name none;
-  })
-
-  -- an operation of a list stands
-  pub list_stands : (n : ℕ) → n < count_of it.store.placed → (o : Operation) → IsIn o (operations_in it.store n) → IsIn o (standing held)
-  list_stands n lt o i =
-      let (name, e) = slice_below it.names n (omega (arith, lt, keeps.filled.count)) in
-      (lists_grown (record { units = units_of it; deleted = λ x. false; keys = λ parent. [] }) (λ list. refl)).as_held name o
-      (subst (IsIn o) (sym (units_at it keeps.filled.distinct n name e)) i)
-
-  told : (n : ℕ) → n < count_of it.store.placed → HasNoGone it.store n
-  told n lt o i gone = true≢false (sym (ap (λ (c : UnitContent). nat_eq (level_of c) 0) gone) ∙ (standing_in held (written k holds it keeps) o (list_stands n lt o i)).1)
 
   -- a held id is an id
   id_of_held : (x : Id) → has_operation held x ≡ true → IsId x
@@ -111,17 +114,35 @@ module _ (k : HeldValue) (holds : HoldsAll k) (it : KeptValue) (keeps : KeepsAll
 
   -- a list that has a unit has a name
   pub unit_named : (list : DocList) (o : Operation) → IsIn o (units_of it list) → (n : ℕ) × (slice_get k.names n ≡ Some list)
-  unit_named list o i =
-      let grown = lists_grown (record { units = units_of it; deleted = λ x. false; keys = λ parent. [] }) (λ list. refl) in
-      let (up, of) = (grown.each list o.id).0 (id_in (units_of it list) o i) in
-      let (m, number, got) = numbered_id k (holds_holding k holds) o.id (subst (λ os. has_operation os o.id ≡ true) (sym holds.stands) up) in
-      (m, got ∙ ap (λ (l : DocList). Some l) (ap (λ os. list_of os o.id) holds.stands ∙ of))
+  unit_named list o i = elim (find_name it.names list) [
+    | inl h ↦
+        let there : IsIn o.id (units_of_list it h.0) = subst (IsIn o.id) ((has_lists it keeps.filled.distinct sound keeps.filled.count).named h.0 list h.1) (id_in (units_of it list) o i) in
+        let (up, of) = unit_stands h.0 list o.id h.1 there in
+        let (m, number, got) = numbered_id k (holds_holding k holds) o.id (subst (λ os. has_operation os o.id ≡ true) (sym holds.stands) up) in
+        (m, got ∙ ap (λ (l : DocList). Some l) (ap (λ os. list_of os o.id) holds.stands ∙ of))
+    | inr none ↦ absurd (subst (IsIn o) (units_none it keeps.filled.distinct list none) i)
+  ]
 
-  pub is_told : IsTold it
-  is_told = record {
-    told = told;
-    clients = λ n x lt i.
+  module _ (left : Id → Type 0) (each : EachIsHeld k left it.store) where
+    -- no operation of a list is gone
+    told : (n : ℕ) → n < count_of it.store.placed → HasNoGone it.store n
+    told n lt o i gone =
         let (name, e) = slice_below it.names n (omega (arith, lt, keeps.filled.count)) in
-        (id_of_held x (stands_held held (written k holds it keeps) x (unit_stands n name x e i).0)).client;
-    items = item_is_id;
-  }
+        let there : IsIn o.id (units_of_list it n) = subst (IsIn o.id) (lists_tell_units it.store sound n lt) (id_in (operations_in it.store n) o i) in
+        let up = (unit_stands n name o.id e there).0 in
+        let found = each o (in_store it.store sound n lt o i) in
+        elim found.told.alike [
+          | inl lost ↦
+              let stands : IsIn found.held (standing held) = standing_one held (written k holds it keeps) found.held found.there (subst (λ x. has_operation (standing held) x ≡ true) (sym found.told.id) up) in
+              true≢false (sym lost ∙ (standing_in held (written k holds it keeps) found.held stands).1)
+          | inr both ↦ true≢false (sym (ap (λ (c : UnitContent). nat_eq (level_of c) 0) gone) ∙ both.0)
+        ]
+
+    pub is_told : IsTold it
+    is_told = record {
+      told = told;
+      clients = λ n x lt i.
+          let (name, e) = slice_below it.names n (omega (arith, lt, keeps.filled.count)) in
+          (id_of_held x (stands_held held (written k holds it keeps) x (unit_stands n name x e i).0)).client;
+      items = item_is_id;
+    }

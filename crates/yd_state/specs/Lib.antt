@@ -12,4 +12,5 @@ pub mod Placing
 pub mod PlacingLaw
 pub mod Settling
 pub mod State
+pub mod Telling
 pub mod Waiting

@@ -9,7 +9,7 @@ use Rattle.yd_arena.specs.Marks.{IsBorder}
 use Rattle.yd_store.specs.Units.{operations_in, HasOperation, HasMarked}
 use Rattle.yd_ops.specs.Received.{has_operation}
 use Rattle.yd_meaning.specs.Held.{is_lost}
-use Rattle.yd_kept.specs.Telling.{HasAllHeld, ListsAreGrown}
+use Rattle.yd_kept.specs.Telling.{ListsAreGrown}
 use Rattle.yd_kept.specs.Kept.{KeptValue, IsFilled, FillsFurther}
 use Rattle.yd_entries.specs.declared.entry.Entry.{Entry}
 use Rattle.yd_entries.specs.Entries.{operations_of_taken, covers, is_listed}
@@ -17,19 +17,23 @@ use Rattle.yd_received.specs.Received.{held_of}
 use Rattle.yd_held.specs.Held.{HeldValue}
 use Rattle.yd_held.specs.Turn.{IsNextHeld, AreHeldInTurn}
 
--- the store has just what is held, in lists that are filled and grew by scans
-pub record KeepsAll (held : List Operation) (it : KeptValue) : Type 0 where
+-- the store has just the ids of what is held, in lists that are filled and grew by scans
+pub record KeepsIds (held : List Operation) (it : KeptValue) : Type 0 where
   pub filled : IsFilled held it
-  pub has : HasAllHeld held it.store
+  pub all : (x : Id) → has_operation held x ≡ true → x.clock < next_clock it.store.placed x.client.0
   pub below : (x : Id) → x.clock < next_clock it.store.placed x.client.0 → has_operation held x ≡ true
   pub grown : ListsAreGrown held it.names it.store
 
--- entries can be placed: the store has operations of what is held, in lists that are filled and grew by scans, and from its
--- next clocks on these entries became held in turn, and no others
+-- and it tells of them just what is held
+pub record KeepsAll (held : List Operation) (it : KeptValue) : Type 0 where
+  pub ids : KeepsIds held it
+  pub no_more : (o : Operation) → HasOperation it.store o → IsIn o held
+
+-- entries can be placed: the store has ids of what is held, in lists that are filled and grew by scans, and from its next
+-- clocks on these entries became held in turn, and no others
 pub record CanBePlaced (k : HeldValue) (order : List ℕ) (it : KeptValue) : Type 0 where
   pub filled : IsFilled (held_of k.received) it
   pub grown : ListsAreGrown (held_of k.received) it.names it.store
-  pub no_more : (o : Operation) → HasOperation it.store o → IsIn o (held_of k.received)
   pub turn : AreHeldInTurn k.received.runs k.received.entries (next_clock it.store.placed) order (clock_of k.vector)
 
 -- lists grew by scans and some are new; the store has the held operations from its old next clocks on besides, and those

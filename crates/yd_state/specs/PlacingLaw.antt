@@ -10,12 +10,11 @@ use Rattle.yd_ops.specs.Received.{IsWritten}
 use Rattle.yd_meaning.specs.Document.{Document, document_with}
 use Rattle.yd_meaning.specs.Grown.{StandsHonest}
 use Rattle.yd_meaning.specs.Own.{HasGrownLists}
-use Rattle.yd_meaning.specs.Staying.{StaysHeld}
 use Rattle.yd_kept.specs.Telling.{IsSoundStore, TellsLists}
 use Rattle.yd_kept.specs.Kept.{KeptValue, StaysFilled}
 use Rattle.yd_received.specs.Received.{held_of}
 use Rattle.yd_held.specs.Held.{HeldValue, HoldsAll}
-use Rattle.yd_held.specs.Turn.{AreHeldInTurn, HoldsInTurn}
+use Rattle.yd_held.specs.Turn.{AreHeldInTurn, HoldsOn}
 use Rattle.yd_state.specs.Placing.{KeepsAll, CanBePlaced}
 
 -- a store has no runs and no lists
@@ -25,18 +24,13 @@ pub record IsEmptyStore (it : KeptValue) : Type 0 where
   pub lists : count_of it.store.placed ≡ 0
   pub clocks : (client : ℕ) → next_clock it.store.placed client ≡ 0
 
--- entries that became held can be placed: where others were held as they are, in a store that has just these; and where all
--- was held anew, in one that is empty
+-- entries that became held can be placed: where what was held stays held, in a store that has just this; and where all was
+-- held anew, in one that is empty
 pub record EntriesCanBePlaced : Type 0 where
-  pub on : (old new : HeldValue) → HoldsAll old → HoldsAll new → (order : List ℕ) → HoldsInTurn order old new → (it : KeptValue) →
+  pub on : (old new : HeldValue) → HoldsAll old → HoldsAll new → (told order : List ℕ) → HoldsOn told order old new → (it : KeptValue) →
       KeepsAll (held_of old.received) it → CanBePlaced new order it
   pub anew : (new : HeldValue) → HoldsAll new → (order : List ℕ) →
       AreHeldInTurn new.received.runs new.received.entries (λ client. 0) order (clock_of new.vector) → (it : KeptValue) → IsEmptyStore it → CanBePlaced new order it
-
--- what was held as it is stays held
-abbrev pub TurnStaysHeld : Type 0
-TurnStaysHeld = (old new : HeldValue) → HoldsAll old → HoldsAll new → (order : List ℕ) → HoldsInTurn order old new →
-    StaysHeld (held_of old.received) (held_of new.received)
 
 -- each list of a store has the operations that it had, in their order, under its name; there may be lists more, which are empty; each unit keeps its
 -- mark, and no clock is added

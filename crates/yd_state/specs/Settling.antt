@@ -18,7 +18,8 @@ use Rattle.yd_held.specs.Turn.{AreHeldInTurn}
 use Rattle.yd_listing.specs.declared.came.Came.{Came}
 use Rattle.yd_listing.specs.Falling.{IsNamedIn, Drops}
 use Rattle.yd_listing.specs.Law.{BecameNamed}
-use Rattle.yd_state.specs.Placing.{KeepsAll, CanBePlaced}
+use Rattle.yd_state.specs.Placing.{KeepsIds, KeepsAll, CanBePlaced}
+use Rattle.yd_state.specs.Telling.{CanBeLess}
 use Rattle.yd_state.specs.declared.sets.Sets.{Sets as SetsValue}
 use Rattle.yd_state.specs.Grown.{ids_of, AreOwnDeletions, AreMarked}
 use Rattle.yd_state.specs.Coming.{AreCame}
@@ -37,11 +38,11 @@ pub record DeletesBy (k : HeldValue) (order : List ℕ) (it : KeptValue) (delete
   pub drops : Drops it deleted (IsNamedIn waiting more) came besides
   pub grown : now ≡ union_of deleted besides
 
--- what was held of a part stays held, in a store that had just this, with its own deletions; and named are those that were
+-- what was held of a part stays held, in a store that had just its ids, with its own deletions; and named are those that were
 -- and more, of which all are among the waiting and the new ones that are held now and were not, or were not named
 pub record GoesOnFrom (k : HeldValue) (part : List Operation) (was : KeptValue) (deleted named waiting more news : List Span) : Type 0 where
   pub stays : StaysHeld part (held_of k.received)
-  pub keeps : KeepsAll part was
+  pub keeps : KeepsIds part was
   pub store : IsSoundStore was.store
   pub own : AreOwnDeletions was part named deleted
   pub became : BecameNamed part (held_of k.received) (is_named named) (is_named news) (IsNamedIn waiting more)
@@ -74,10 +75,11 @@ GrowsThen true k was new = Unit {0}
 
 -- ---- all of this
 
--- what became held can be placed: in a store with what was held, or, where all was held anew, in an empty one
-abbrev pub CanSettle : Bool → HeldValue → List ℕ → KeptValue → Type 0
-CanSettle false k order it = CanBePlaced k order it
-CanSettle true k order it = AreHeldInTurn k.received.runs k.received.entries (λ client. 0) order (clock_of k.vector)
+-- what became held can be placed: in a store with what was held, of which less can be told; or, where all was held anew, in
+-- an empty one
+abbrev pub CanSettle : Bool → HeldValue → List ℕ → List ℕ → KeptValue → Type 0
+CanSettle false k told order it = CanBePlaced k order it × CanBeLess k told it.store
+CanSettle true k told order it = AreHeldInTurn k.received.runs k.received.entries (λ client. 0) order (clock_of k.vector)
 
 -- the set is a store's own deletions, where all was held anew and deletions name what either set has
 abbrev pub DeletesAnew : HeldValue → List Span → List Span → KeptValue → List Span → Type 0

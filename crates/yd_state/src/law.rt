@@ -1,7 +1,7 @@
 //! The laws of the document that a state has, and of placing, each the contract of an empty function.
 
 ghost use Rattle.yd_state.specs.Law.{DocumentIsOwn, DocumentIsDefined};
-ghost use Rattle.yd_state.specs.PlacingLaw.{EntriesCanBePlaced, TurnStaysHeld, KeepingKeepsAll, StoreTellsLists};
+ghost use Rattle.yd_state.specs.PlacingLaw.{EntriesCanBePlaced, KeepingKeepsAll, StoreTellsLists};
 
 /// The document is one that a replica may have of what it received.
 pub fn document_is_own()
@@ -17,11 +17,6 @@ pub fn document_is_defined()
 /// What became held can be placed: in a store with all that was held before, or in an empty one.
 pub fn entries_can_be_placed()
     ensures { EntriesCanBePlaced }
-{}
-
-/// What was held before a `take` that only added units stays held, and stands and is lost as it was.
-pub fn turn_stays_held()
-    ensures { TurnStaysHeld }
 {}
 
 /// Where no unit changes, a store has just what is held still.

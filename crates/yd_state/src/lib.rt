@@ -8,7 +8,8 @@
 //! nothing.
 //!
 //! What became held goes into the store entry by entry, in the order in which it did; where memory
-//! ends, all that was put in is taken out again (`specs/Placing.antt`). At the end what goes on where
+//! ends, all that was put in is taken out again (`specs/Placing.antt`). Where less is told of what
+//! was held, the store tells it less last, which cannot fail (`specs/Telling.antt`). At the end what goes on where
 //! something else ends is joined to it, so text that is typed letter by letter is one run.
 //!
 //! ```rust
@@ -26,6 +27,7 @@ mod fault;
 mod joining;
 pub mod law;
 mod lengths;
+mod less;
 mod listing;
 mod naming;
 mod novelty;

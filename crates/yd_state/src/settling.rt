@@ -1,19 +1,22 @@
 //! What is deleted and what waits once more is held or named.
 
-ghost use Rattle.std.specs.Prelude.{◌≡◌, true, IfOk, OnOk, OnErr};
+ghost use Rattle.std.specs.Prelude.{◌≡◌, true, [], IfOk, OnOk, OnErr};
 ghost use Rattle.yd_arena.specs.Arena.{count_of};
 ghost use Rattle.yd_kept.specs.Telling.{IsSoundStore};
 ghost use Rattle.yd_kept.specs.Kept.{KeepsHeld};
 ghost use Rattle.yd_kept.specs.Marking.{AreHeld, AreParted};
 ghost use Rattle.yd_received.specs.Received.{held_of};
+ghost use Rattle.yd_listing.specs.Falling.{IsTold};
 ghost use Rattle.yd_state.specs.Back.{CanBeTakenOut};
-ghost use Rattle.yd_state.specs.Placing.{KeepsAll, CanBePlaced};
+ghost use Rattle.yd_state.specs.Placing.{KeepsIds, KeepsAll, CanBePlaced};
 ghost use Rattle.yd_state.specs.Settling.{grown_to, DeletesBy, DeletesOn, DeletesAnew, MarksOn, MarksAnew, ListsGrow};
 ghost use Rattle.yd_state.specs.Settling.{CanSettle, known_of, Settles};
+ghost use Rattle.yd_state.specs.Telling.{CanBeLess, LeavesLess};
 
 use crate::back::put_out;
 use crate::coming::came_of;
 use crate::fault::NoMemory;
+use crate::less::{Less, ready, tell};
 use crate::placing::place;
 use crate::sets::Sets;
 use crate::uniting::grown_by;
@@ -41,18 +44,29 @@ pub(crate) struct Fallen {
     pub grown: Option<IdSet>,
 }
 
-/// Places what became held, marks what is deleted then, and answers that and what waits. `sets` has
-/// what was so before, and `more` what is named besides. Where all was held anew, another store takes
-/// the place of the one that was there. Where memory ends, no unit has changed.
+/// What is to be done in a store whose runs are parted for it.
+#[derive(Drop)]
+pub(crate) struct Parted {
+    /// What is deleted besides.
+    pub fallen: Fallen,
+    /// What is told less.
+    pub less: Vec<Less>,
+}
+
+/// Places what became held, tells less of the entries that are `told`, marks what is deleted then,
+/// and answers that and what waits. `sets` has what was so before, and `more` what is named besides.
+/// Where all was held anew, another store takes the place of the one that was there. Where memory
+/// ends, no unit has changed.
 pub(crate) fn settle(
     kept: &mut Kept,
     held: &Held,
     anew: bool,
+    told: &[usize],
     order: &[usize],
     sets: &Sets,
     more: &IdSet,
 ) -> Result<Settled, NoMemory>
-    requires { CanSettle anew held.now order.now kept.old }
+    requires { CanSettle anew held.now told.now order.now kept.old }
     ensures settled { IfOk result (λ settled. Settles anew held.now sets.now more.now kept.old kept.new
         settled.waiting (grown_to sets.now.deletes settled.deletes)) }
     ensures unchanged { OnErr result (KeepsHeld kept.old kept.new) }
@@ -66,7 +80,7 @@ pub(crate) fn settle(
             deletes: Some(deletes),
         });
     }
-    let deletes = settle_on(kept, held, order, &sets.deletes, &sets.waiting, more)?;
+    let deletes = settle_on(kept, held, told, order, &sets.deletes, &sets.waiting, more)?;
     Ok(Settled { waiting, deletes })
 }
 
@@ -86,7 +100,7 @@ fn settle_anew(
     named: &IdSet,
     more: &IdSet,
 ) -> Result<IdSet, NoMemory>
-    requires { CanSettle true held.now order.now kept.old }
+    requires { CanSettle true held.now [] order.now kept.old }
     ensures all { OnOk result (KeepsAll (held_of held.now.received) kept.new) }
     ensures store { OnOk result (IsSoundStore kept.new.store) }
     ensures deletes { IfOk result (λ now. DeletesAnew held.now named.now more.now kept.new now) }
@@ -98,7 +112,7 @@ fn settle_anew(
     let nothing = IdSet::new(alloc);
     // That both are sound says that nothing was held there before.
     let _ = fresh.store();
-    let grown = settle_on(&mut fresh, held, order, &nothing, named, more)?;
+    let grown = settle_on(&mut fresh, held, &[], order, &nothing, named, more)?;
     *kept = fresh;
     match grown {
         Some(now) => Ok(now),
@@ -106,17 +120,19 @@ fn settle_anew(
     }
 }
 
-/// Places what became held, marks what falls, and answers what the deleted ids grow to. Where memory
-/// ends, no unit has changed.
+/// Places what became held, marks what falls, tells less of what was held, and answers what the
+/// deleted ids grow to. Where memory ends, no unit has changed.
 fn settle_on(
     kept: &mut Kept,
     held: &Held,
+    told: &[usize],
     order: &[usize],
     deletes: &IdSet,
     waiting: &IdSet,
     more: &IdSet,
 ) -> Result<Option<IdSet>, NoMemory>
-    requires { CanBePlaced held.now order.now kept.old }
+    requires placed { CanBePlaced held.now order.now kept.old }
+    requires less { CanBeLess held.now told.now kept.old.store }
     ensures all { OnOk result (KeepsAll (held_of held.now.received) kept.new) }
     ensures store { OnOk result (IsSoundStore kept.new.store) }
     ensures deletes { IfOk result (λ grown. DeletesOn held.now deletes.now waiting.now more.now
@@ -130,9 +146,12 @@ fn settle_on(
     let _ = held.received();
     place(kept, held, order)?;
     let _ = kept.store();
-    match parted_then(kept, held, order, deletes, waiting, more) {
-        Ok(Fallen { besides, grown }) => {
+    match parted_then(kept, held, told, order, deletes, waiting, more) {
+        Ok(Parted { fallen, less }) => {
+            let Fallen { besides, grown } = fallen;
             kept.mark_each(&besides);
+            let _ = kept.store();
+            tell(kept, held, less);
             let _ = kept.store();
             Ok(grown)
         }
@@ -143,30 +162,38 @@ fn settle_on(
     }
 }
 
-/// What falls, since entries came into the store, whose runs are parted there. Where memory ends, no
-/// unit has changed either.
+/// What falls, since entries came into the store, and what is told less there. Its runs are parted
+/// for both. Where memory ends, no unit has changed either.
 fn parted_then(
     kept: &mut Kept,
     held: &Held,
+    told: &[usize],
     order: &[usize],
     deletes: &IdSet,
     waiting: &IdSet,
     more: &IdSet,
-) -> Result<Fallen, NoMemory>
-    requires all { KeepsAll (held_of held.now.received) kept.old }
+) -> Result<Parted, NoMemory>
+    requires ids { KeepsIds (held_of held.now.received) kept.old }
+    requires less { CanBeLess held.now told.now kept.old.store }
     requires store { IsSoundStore kept.old.store }
     requires came { CanBeTakenOut held.now order.now kept.old }
-    ensures deletes { IfOk result (λ fallen. DeletesBy held.now order.now kept.old deletes.now
-        waiting.now more.now fallen.besides (grown_to deletes.now fallen.grown)) }
-    ensures held { IfOk result (λ fallen. AreHeld kept.new.store fallen.besides) }
-    ensures parted { IfOk result (λ fallen. AreParted kept.new.store fallen.besides) }
+    ensures deletes { IfOk result (λ parted. DeletesBy held.now order.now kept.old deletes.now
+        waiting.now more.now parted.fallen.besides (grown_to deletes.now parted.fallen.grown)) }
+    ensures held { IfOk result (λ parted. AreHeld kept.new.store parted.fallen.besides) }
+    ensures parted { IfOk result (λ parted. AreParted kept.new.store parted.fallen.besides) }
+    ensures less { IfOk result (λ parted. LeavesLess held.now parted.less.items kept.new.store) }
     ensures kept { KeepsHeld kept.old kept.new }
     ensures names { kept.new.names ≡ kept.old.names }
     ensures count { count_of kept.new.store.placed ≡ count_of kept.old.store.placed }
 {
+    // What is held says that no unit of a list is gone.
+    let _ = held.received();
     let fallen = fallen_then(kept, held, order, deletes, waiting, more)?;
     kept.part_each(&fallen.besides)?;
-    Ok(fallen)
+    // That the store is sound says that each held unit is found.
+    let _ = kept.store();
+    let less = ready(kept, held, told)?;
+    Ok(Parted { fallen, less })
 }
 
 /// What falls, since entries came into the store.
@@ -178,8 +205,8 @@ fn fallen_then(
     waiting: &IdSet,
     more: &IdSet,
 ) -> Result<Fallen, NoMemory>
-    requires all { KeepsAll (held_of held.now.received) kept.now }
-    requires store { IsSoundStore kept.now.store }
+    requires ids { KeepsIds (held_of held.now.received) kept.now }
+    requires told { IsTold kept.now }
     requires came { CanBeTakenOut held.now order.now kept.now }
     ensures deletes { IfOk result (λ fallen. DeletesBy held.now order.now kept.now deletes.now
         waiting.now more.now fallen.besides (grown_to deletes.now fallen.grown)) }

@@ -1,20 +1,21 @@
 //! The state of a replica, as one value.
 
-ghost use Rattle.std.specs.Prelude.{◌≡◌, ◌↔◌, ℕ, IsTrue, IfOk, OnOk, OnErr};
+ghost use Rattle.std.specs.Prelude.{◌≡◌, ◌↔◌, ◌⊎◌, ℕ, IsTrue, IfOk, OnOk, OnErr};
 ghost use Rattle.yd_words.specs.Member.{IsIn};
 ghost use Rattle.yd_ids.specs.Vector.{clock_of};
 ghost use Rattle.yd_ops.specs.Valid.{IsValidUpdate};
-ghost use Rattle.yd_ops.specs.Operation.{Operation};
+ghost use Rattle.yd_ops.specs.Operation.{Operation, operations_of};
 ghost use Rattle.yd_ops.specs.View.{update_value};
 ghost use Rattle.yd_ops.specs.Received.{nothing_received, received_after};
 ghost use Rattle.yd_ops.specs.ReceivedLaw.{ArePaired};
 ghost use Rattle.yd_meaning.specs.Held.{held_set, held_clock, waiting_counts};
 ghost use Rattle.yd_meaning.specs.Document.{AreDeletedIn};
+ghost use Rattle.yd_received.specs.Received.{LowersOne};
 ghost use Rattle.yd_listing.specs.Falling.{IsTold};
 ghost use Rattle.yd_listing.specs.Listing.{Tells, IsFrom};
 ghost use Rattle.yd_state.specs.State.{received_in, document_in, IsSound};
 ghost use Rattle.yd_state.specs.Brings.{BringsUnknown};
-ghost use Rattle.yd_state.specs.Growing.{Grows};
+ghost use Rattle.yd_state.specs.Growing.{Grows, LosesNone};
 ghost use Rattle.yd_state.specs.Lent.{lent_units, units_left, last_unit, IsAround};
 
 use crate::counting::{count_ids, count_units};
@@ -97,15 +98,19 @@ impl State {
     /// Receives an update, holds what can be held then, and puts it into its lists, where the
     /// integration scan puts it. It answers whether the update brought something. It looks at what
     /// came, at what waits, and at what is deleted besides, and at what is known by look-ups alone;
-    /// a set that grows is copied. Where the update says less of something that was received, all
-    /// lists grow anew. Where memory ends, nothing has changed that is told.
+    /// a set that grows is copied. Where the update says less of something that was received, the
+    /// entries are copied too, and where a unit that a list had is lost, all lists grow anew. Where
+    /// memory ends, nothing has changed that is told.
     pub fn take(&mut self, update: &Update) -> Result<bool, NoMemory>
         requires { IsValidUpdate (update_value update.now) }
         ensures received { OnOk result (received_in self.new
             ≡ received_after (received_in self.old) (update_value update.now)) }
         ensures brings { IfOk result (λ brings. IsTrue brings
             ↔ BringsUnknown (update_value update.now) (received_in self.old) self.old.deletes) }
-        ensures grows { OnOk result (Grows (update_value update.now) self.old self.new) }
+        ensures grows { OnOk result (Grows self.old self.new) }
+        ensures loses { OnOk result (LosesNone self.old self.new
+            ⊎ LowersOne (operations_of (update_value update.now))
+            (received_in self.old).operations) }
         ensures sound { IsSound self.new }
         ensures unchanged { OnErr result (self.new ≡ self.old) }
     {
@@ -119,6 +124,7 @@ impl State {
             &mut self.kept,
             &self.held,
             taken.anew,
+            &taken.told,
             &taken.order,
             &self.sets,
             &more,

@@ -1,4 +1,4 @@
-use Rattle.std.proofs.Common.{◌∙◌, ap, subst}
+use Rattle.std.proofs.Common.{◌∙◌, inl, inr, ap, subst}
 use Rattle.yd_words.specs.Member.{IsIn}
 use Rattle.yd_ops.specs.Operation.{operations_of}
 use Rattle.yd_state.specs.State.{document_in}
@@ -14,5 +14,8 @@ returns c =
     let sound = c.received-received.ensures.sound in
     subst EditsGrow c.replica.view_is (λ new steps update makes is.
     let taken = c.own_edits_are_taken.ensures r.client (document_in r.state) (received_of r) steps sound.received (document_replica r.state sound) makes is.accepted in
-    is.grows (full_lowers_none (operations_of update) (received_of r).operations (λ o i.
-    steps_full r.client ((own_basis r).vector r.client.0) (own_document r).units steps makes o (subst (IsIn o) (ap operations_of is.made ∙ taken.made) i))))
+    elim is.grows.loses [
+      | inl none ↦ is.grows.grows none
+      | inr lowers ↦ absurd (full_lowers_none (operations_of update) (received_of r).operations (λ o i.
+          steps_full r.client ((own_basis r).vector r.client.0) (own_document r).units steps makes o (subst (IsIn o) (ap operations_of is.made ∙ taken.made) i)) lowers)
+    ])

@@ -8,7 +8,7 @@ returns-clause-taken c =
     less_taken c.args.is_gone c.args.runs.now.items c.args.taken.now.items (run_value c.args.run.now) c.requires.taken c.requires.run c.requires.deleted
     c.add_run.new.runs.items c.add_run.new.taken.items c.in_ok-adds.ensures.added c.in_ok-lowers.lowers c.lower.new.runs.items c.lower.new.taken.items
     (rw (c.len.ensures, c.level_from-level.ensures) at c.in_ok-lowers.ensures.says) (rw (c.len.ensures, c.level_from-level.ensures) at c.in_ok-lowers.ensures.lowered)
-    c.in_ok-lowers.ensures.unchanged
+    c.in_ok-lowers.ensures.unchanged c.in_ok-adds.ensures.grows c.in_ok-adds.ensures.adds c.in_ok-lowers.ensures.places
 
 pub returns-clause-brings : goal.returns-clause-brings
 returns-clause-brings c =

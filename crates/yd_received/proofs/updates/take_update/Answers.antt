@@ -1,27 +1,20 @@
 use Rattle.std.proofs.Common.{arith}
-use Rattle.yd_ops.specs.View.{update_value}
-use Rattle.yd_ops.specs.Received.{groups_of}
-use Rattle.yd_received.proofs.EndLemmas.{end_takes, end_brings, end_lowers, end_brought, end_back}
+use Rattle.yd_received.proofs.EndLemmas.{end_brings, end_lowers, end_brought, end_back}
 use Rattle.yd_received.proofs.updates.take_update.Goals as goal
-
-pub returns-in-Ok-clause-taken : goal.returns-in-Ok-clause-taken
-returns-in-Ok-clause-taken c =
-    end_takes c.len-count.result c.take_blocks.new.before c.in-Ok.more c.args.runs.now.items c.take_blocks.new.runs.items c.args.taken.now.items c.take_blocks.new.taken.items c.brought.new.taken.items
-    c.brought.result (groups_of (update_value c.args.update.now)) (rw c.as_slice.ensures at c.in-Ok.ensures.taken) c.brought.ensures
 
 pub returns-in-Ok-clause-brings : goal.returns-in-Ok-clause-brings
 returns-in-Ok-clause-brings c =
-    end_brings c.len-count.result c.take_blocks.new.before c.in-Ok.more c.args.runs.now.items c.take_blocks.new.runs.items c.args.taken.now.items c.take_blocks.new.taken.items c.brought.new.taken.items
+    end_brings c.len-count.result c.take_blocks.new.before c.in-Ok.more c.args.runs.now.items c.take_blocks.new.runs.items c.args.taken.now.items c.take_blocks.new.taken.items
     c.brought.result _ (rw c.as_slice.ensures at c.in-Ok.ensures.brings) c.brought.ensures
 
 pub returns-in-Ok-clause-lowers : goal.returns-in-Ok-clause-lowers
 returns-in-Ok-clause-lowers c =
-    end_lowers c.len-count.result c.take_blocks.new.before c.in-Ok.more c.args.runs.now.items c.take_blocks.new.runs.items c.args.taken.now.items c.take_blocks.new.taken.items c.brought.new.taken.items
+    end_lowers c.len-count.result c.take_blocks.new.before c.in-Ok.more c.args.runs.now.items c.take_blocks.new.runs.items c.args.taken.now.items c.take_blocks.new.taken.items
     c.brought.result _ _ (rw c.as_slice.ensures at c.in-Ok.ensures.lowers) c.brought.ensures
 
 pub returns-in-Ok-clause-brought : goal.returns-in-Ok-clause-brought
 returns-in-Ok-clause-brought c =
-    end_brought c.len-count.result c.take_blocks.new.before c.in-Ok.more c.args.runs.now.items c.take_blocks.new.runs.items c.args.taken.now.items c.take_blocks.new.taken.items c.brought.new.taken.items
+    end_brought c.len-count.result c.take_blocks.new.before c.in-Ok.more c.args.runs.now.items c.take_blocks.new.runs.items c.args.taken.now.items c.take_blocks.new.taken.items
     c.brought.result c.requires.taken (omega (arith, c.len-count.ensures, c.args.runs.now.ok.0)) c.in-Ok.ensures.unchanged c.in-Ok.ensures.backed c.brought.ensures
 
 pub returns-in-Err-clause-unchanged : goal.returns-in-Err-clause-unchanged

@@ -1,6 +1,6 @@
 use Rattle.std.proofs.Common.{get_or, refl}
 use Rattle.yd_state.proofs.ErrorLemmas.{can_be_taken, as_before, can_be_undone}
-use Rattle.yd_state.proofs.PlacingLemmas.{placing_none, next_is, placing_then, keeps_all, places_all}
+use Rattle.yd_state.proofs.PlacingLemmas.{placing_none, next_is, placing_then, keeps_ids, places_all}
 use Rattle.yd_state.proofs.placing.place.Goals as goal
 
 pub loop-done-init : goal.loop-done-init
@@ -28,9 +28,9 @@ returns-in_default-clause-unchanged c =
     (record { arena = c.store.ensures.arena; lists = c.store.ensures.lists; told = c.store.ensures.told })
     (record { arena = c.store-in_default.ensures.arena; lists = c.store-in_default.ensures.lists; told = c.store-in_default.ensures.told })
 
-pub returns-clause-all : goal.returns-clause-all
-returns-clause-all c =
-    keeps_all c.args.held.now c.received.ensures.holds c.args.order.now c.args.kept.now c.loop-done.kept c.loop-done.done c.requires c.loop-done.invariant c.loop-done-test.false
+pub returns-clause-ids : goal.returns-clause-ids
+returns-clause-ids c =
+    keeps_ids c.args.held.now c.received.ensures.holds c.args.order.now c.args.kept.now c.loop-done.kept c.loop-done.done c.requires c.loop-done.invariant c.loop-done-test.false
 
 pub returns-clause-placed : goal.returns-clause-placed
 returns-clause-placed c =

@@ -1,4 +1,4 @@
-use Rattle.std.proofs.Common.{[], subst}
+use Rattle.std.proofs.Common.{[], length, ap, subst, arith}
 use Rattle.yd_state.proofs.PlacingLawLemmas.{entries_can_be_placed}
 use Rattle.yd_state.specs.Settling.{grown_to, DeletesOn, MarksOn}
 use Rattle.yd_state.proofs.MarkingLemmas.{marks_anew}
@@ -6,8 +6,11 @@ use Rattle.yd_state.proofs.SettlingLemmas.{deletes_anew}
 use Rattle.yd_state.proofs.settling.settle_anew.Goals as goal
 
 pub settle_on-requires : goal.settle_on-requires
-settle_on-requires c = entries_can_be_placed.anew c.args.held.now c.received.ensures.holds c.args.order.now c.requires c.new-fresh.result
-    (record { names = c.new-fresh.ensures.names; runs = c.new-fresh.ensures.runs; lists = c.new-fresh.ensures.lists; clocks = c.new-fresh.ensures.clocks })
+settle_on-requires c = record {
+  placed = entries_can_be_placed.anew c.args.held.now c.received.ensures.holds c.args.order.now c.requires c.new-fresh.result
+      (record { names = c.new-fresh.ensures.names; runs = c.new-fresh.ensures.runs; lists = c.new-fresh.ensures.lists; clocks = c.new-fresh.ensures.clocks });
+  less = record { each = λ o h. absurd (omega (arith, h.within, ap length c.new-fresh.ensures.runs)); less = tt };
+}
 
 pub returns-in-Some-clause-deletes : goal.returns-in-Some-clause-deletes
 returns-in-Some-clause-deletes c = deletes_anew c.args.held.now c.new-fresh.result c.settle_on.new.kept

@@ -1,9 +1,11 @@
 use Rattle.std.proofs.Common.{subst}
-use Rattle.std.specs.Prelude.{◌↔◌, IfOk, OnOk, IsTrue}
+use Rattle.std.specs.Prelude.{◌↔◌, ◌⊎◌, IfOk, OnOk, IsTrue}
+use Rattle.yd_ops.specs.Operation.{operations_of}
 use Rattle.yd_ops.specs.View.{update_value}
 use Rattle.yd_state.specs.State.{StateValue, received_in}
 use Rattle.yd_state.specs.Brings.{BringsUnknown}
-use Rattle.yd_state.specs.Growing.{Grows}
+use Rattle.yd_received.specs.Received.{LowersOne}
+use Rattle.yd_state.specs.Growing.{LosesNone, Grows}
 use Rattle.yd_doc.specs.Kept.{Kept, received_of, own_deletes}
 use Rattle.yd_doc.proofs.replica.Replica.apply.Goals as goal
 
@@ -17,6 +19,11 @@ returns-clause-brings c =
 pub returns-clause-grows : goal.returns-clause-grows
 returns-clause-grows c =
     let update = update_value c.args.update.now in
+    let old : StateValue = c.self.inside.state in
     let new : StateValue = c.take-applied.new.self in
-    subst (λ (r : Kept). Grows update r.state new) c.self.view_is
-    (subst (λ r. OnOk r (Grows update c.self.inside.state new)) c.in_ok-brings.was c.take-applied.ensures.grows)
+    let less : Type 0 = LowersOne (operations_of update) (received_in old).operations in
+    record {
+      grows = subst (λ (r : Kept). Grows r.state new) c.self.view_is (subst (λ r. OnOk r (Grows old new)) c.in_ok-brings.was c.take-applied.ensures.grows);
+      loses = subst (λ (r : Kept). LosesNone r.state new ⊎ LowersOne (operations_of update) (received_of r).operations) c.self.view_is
+          (subst (λ r. OnOk r (LosesNone old new ⊎ less)) c.in_ok-brings.was c.take-applied.ensures.loses);
+    }

@@ -12,5 +12,5 @@ returns-clause-taken c =
       received = c.in_ok-take.ensures.received;
       client = refl;
       is_behind = refl;
-      grows = c.in_ok-take.ensures.grows;
+      grows = record { grows = c.in_ok-take.ensures.grows; loses = c.in_ok-take.ensures.loses };
     })

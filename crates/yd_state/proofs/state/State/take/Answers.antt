@@ -1,4 +1,4 @@
-use Rattle.std.proofs.Common.{◌≡◌, ◌||◌, ap, sym, refl, ◌∙◌, subst}
+use Rattle.std.proofs.Common.{◌≡◌, ◌||◌, inl, inr, ap, sym, refl, ◌∙◌, subst}
 use Rattle.std.specs.Prelude.{◌↔◌, ◌⊎◌, IsTrue}
 use Rattle.yd_ids.specs.declared.id.Id.{Id}
 use Rattle.yd_ids.specs.Set.{HasId}
@@ -6,21 +6,28 @@ use Rattle.yd_ops.specs.View.{update_value}
 use Rattle.yd_state.specs.Brings.{BringsUnknown}
 use Rattle.yd_held.specs.Held.{HeldValue}
 use Rattle.yd_state.specs.Grown.{GrownValue, seen_of, IsWhole}
-use Rattle.yd_state.specs.Growing.{Grows}
+use Rattle.yd_received.specs.Received.{taken_of, LowersOne}
+use Rattle.yd_ops.specs.Operation.{operations_of}
+use Rattle.yd_state.specs.Growing.{LosesNone, Grows}
 use Rattle.yd_state.specs.State.{received_in, IsSound}
 use Rattle.yd_state.specs.Settling.{CanSettle, Settles}
 use Rattle.yd_state.proofs.BringsLemmas.{either_tells}
 use Rattle.yd_state.proofs.DocumentLemmas.{seen_sound}
-use Rattle.yd_state.proofs.GrowingLemmas.{grows_then}
-use Rattle.yd_state.proofs.JoinedLemmas.{joined_whole, joined_grows}
-use Rattle.yd_state.proofs.TakeLemmas.{can_settle, sound_then, held_lists, still_sound, still_seen}
+use Rattle.yd_state.proofs.GrowingLemmas.{grows_then, loses_then}
+use Rattle.yd_state.proofs.JoinedLemmas.{joined_whole, joined_grows, joined_loses}
+use Rattle.yd_state.proofs.PlacingLawLemmas.{held_lists}
+use Rattle.yd_state.proofs.TakeLemmas.{can_settle, sound_then, still_sound, still_seen}
 use Rattle.yd_state.proofs.state.State.take.Goals.{then-taken, else-taken}
 use Rattle.yd_state.proofs.state.State.take.Goals as goal
 
 pub settle-requires : goal.settle-requires
-settle-requires c = subst (λ order. CanSettle c.in_ok-taken.taken.anew c.take.new.self order c.self.inside.kept) (sym c.deref.ensures.value)
-    (can_settle c.in_ok-taken.taken.anew c.self.inside.held c.take.new.self c.self.invariant.holds c.in_ok-taken.ensures.holds
-    c.in_ok-taken.taken.order.items c.in_ok-taken.ensures.order c.self.inside.kept c.self.invariant.keeps)
+settle-requires c =
+    let anew = c.in_ok-taken.taken.anew in
+    let k = c.take.new.self in
+    subst (λ told. CanSettle anew k told c.deref-2.result.now c.self.inside.kept) (sym c.deref.ensures.value)
+    (subst (λ order. CanSettle anew k c.in_ok-taken.taken.told.items order c.self.inside.kept) (sym c.deref-2.ensures.value)
+    (can_settle anew c.self.inside.held k c.self.invariant.holds c.in_ok-taken.ensures.holds
+    c.in_ok-taken.taken.told.items c.in_ok-taken.taken.order.items c.in_ok-taken.ensures.order c.self.inside.kept c.self.invariant.keeps))
 
 pub invariant_of-self-in-Ok : goal.invariant_of-self-in-Ok
 invariant_of-self-in-Ok c =
@@ -29,7 +36,7 @@ invariant_of-self-in-Ok c =
     (record { held = c.self.inside.held; named = c.self.inside.sets.named; waiting = c.self.inside.sets.waiting; kept = c.self.inside.kept; deletes = c.self.inside.sets.deletes })
     c.self.invariant (update_value c.args.update.now) c.requires c.take.new.self c.in_ok-taken.ensures.holds c.in_ok-taken.ensures.received
     c.in_ok-more.more c.put.new.set c.in_ok-more.ensures (c.put.ensures ∙ c.in_ok-named.ensures)
-    c.in_ok-taken.taken.anew c.in_ok-taken.taken.order.items c.in_ok-taken.ensures.order c.self.inside.sets refl refl refl
+    c.in_ok-taken.taken.anew c.in_ok-taken.taken.told.items c.in_ok-taken.taken.order.items c.in_ok-taken.ensures.order c.self.inside.sets refl refl refl
     c.settle.new.kept c.in-Ok.field-0.waiting c.put-in-Ok.new.set
     (subst (Settles c.in_ok-taken.taken.anew c.take.new.self c.self.inside.sets c.in_ok-more.more c.self.inside.kept c.settle.new.kept c.in-Ok.field-0.waiting) (sym c.put-in-Ok.ensures)
     c.in-Ok.ensures.settled))
@@ -44,7 +51,7 @@ returns-in-Ok-clause-sound c =
     (record { held = c.self.inside.held; named = c.self.inside.sets.named; waiting = c.self.inside.sets.waiting; kept = c.self.inside.kept; deletes = c.self.inside.sets.deletes })
     c.self.invariant (update_value c.args.update.now) c.requires c.take.new.self c.in_ok-taken.ensures.holds c.in_ok-taken.ensures.received
     c.in_ok-more.more c.put.new.set c.in_ok-more.ensures (c.put.ensures ∙ c.in_ok-named.ensures)
-    c.in_ok-taken.taken.anew c.in_ok-taken.taken.order.items c.in_ok-taken.ensures.order c.self.inside.sets refl refl refl
+    c.in_ok-taken.taken.anew c.in_ok-taken.taken.told.items c.in_ok-taken.taken.order.items c.in_ok-taken.ensures.order c.self.inside.sets refl refl refl
     c.settle.new.kept c.in-Ok.field-0.waiting c.put-in-Ok.new.set
     (subst (Settles c.in_ok-taken.taken.anew c.take.new.self c.self.inside.sets c.in_ok-more.more c.self.inside.kept c.settle.new.kept c.in-Ok.field-0.waiting) (sym c.put-in-Ok.ensures)
     c.in-Ok.ensures.settled))
@@ -135,10 +142,31 @@ returns-in-Ok-clause-grows c =
     (record { held = c.self.inside.held; named = c.self.inside.sets.named; waiting = c.self.inside.sets.waiting; kept = c.self.inside.kept; deletes = c.self.inside.sets.deletes })
     c.self.invariant (update_value c.args.update.now) c.requires c.take.new.self c.in_ok-taken.ensures.holds c.in_ok-taken.ensures.received
     c.in_ok-more.more c.put.new.set c.in_ok-more.ensures (c.put.ensures ∙ c.in_ok-named.ensures)
-    c.in_ok-taken.taken.anew c.in_ok-taken.taken.order.items c.in_ok-taken.ensures.order c.self.inside.sets refl refl refl
+    c.in_ok-taken.taken.anew c.in_ok-taken.taken.told.items c.in_ok-taken.taken.order.items c.in_ok-taken.ensures.order c.self.inside.sets refl refl refl
     c.settle.new.kept c.in-Ok.field-0.waiting c.put-in-Ok.new.set
     (subst (Settles c.in_ok-taken.taken.anew c.take.new.self c.self.inside.sets c.in_ok-more.more c.self.inside.kept c.settle.new.kept c.in-Ok.field-0.waiting) (sym c.put-in-Ok.ensures)
     c.in-Ok.ensures.settled) in
-    subst (λ s. Grows (update_value c.args.update.now) s (seen_of (record { held = c.join.new.held; named = c.put.new.set; waiting = c.in-Ok.field-0.waiting; kept = c.join.new.kept; deletes = c.put-in-Ok.new.set }))) c.self.view_is
-    (joined_grows new whole c.join.new.held c.join.ensures.held c.join.new.kept c.join.ensures.kept (update_value c.args.update.now) (seen_of old)
-    (grows_then (update_value c.args.update.now) old new c.self.invariant whole c.in_ok-taken.taken.anew c.in_ok-taken.ensures.lowers c.in-Ok.ensures.settled.grows))
+    subst (λ s. Grows s (seen_of (record { held = c.join.new.held; named = c.put.new.set; waiting = c.in-Ok.field-0.waiting; kept = c.join.new.kept; deletes = c.put-in-Ok.new.set }))) c.self.view_is
+    (joined_grows new whole c.join.new.held c.join.ensures.held c.join.new.kept c.join.ensures.kept (seen_of old)
+    (grows_then old new c.self.invariant whole c.in_ok-taken.taken.anew (λ anew. (c.in_ok-taken.ensures.anew anew).1) c.in-Ok.ensures.settled.grows))
+
+pub returns-in-Ok-clause-loses : goal.returns-in-Ok-clause-loses
+returns-in-Ok-clause-loses c =
+    let old : GrownValue = record { held = c.self.inside.held; named = c.self.inside.sets.named; waiting = c.self.inside.sets.waiting; kept = c.self.inside.kept; deletes = c.self.inside.sets.deletes } in
+    let new : GrownValue = record { held = c.take.new.self; named = c.put.new.set; waiting = c.in-Ok.field-0.waiting; kept = c.settle.new.kept; deletes = c.put-in-Ok.new.set } in
+    let whole : IsWhole new = sound_then
+    (record { held = c.self.inside.held; named = c.self.inside.sets.named; waiting = c.self.inside.sets.waiting; kept = c.self.inside.kept; deletes = c.self.inside.sets.deletes })
+    c.self.invariant (update_value c.args.update.now) c.requires c.take.new.self c.in_ok-taken.ensures.holds c.in_ok-taken.ensures.received
+    c.in_ok-more.more c.put.new.set c.in_ok-more.ensures (c.put.ensures ∙ c.in_ok-named.ensures)
+    c.in_ok-taken.taken.anew c.in_ok-taken.taken.told.items c.in_ok-taken.taken.order.items c.in_ok-taken.ensures.order c.self.inside.sets refl refl refl
+    c.settle.new.kept c.in-Ok.field-0.waiting c.put-in-Ok.new.set
+    (subst (Settles c.in_ok-taken.taken.anew c.take.new.self c.self.inside.sets c.in_ok-more.more c.self.inside.kept c.settle.new.kept c.in-Ok.field-0.waiting) (sym c.put-in-Ok.ensures)
+    c.in-Ok.ensures.settled) in
+    let less : Type 0 = LowersOne (operations_of (update_value c.args.update.now)) (taken_of c.self.inside.held.received) in
+    subst (λ s. LosesNone s (seen_of (record { held = c.join.new.held; named = c.put.new.set; waiting = c.in-Ok.field-0.waiting; kept = c.join.new.kept; deletes = c.put-in-Ok.new.set }))
+    ⊎ LowersOne (operations_of (update_value c.args.update.now)) (received_in s).operations) c.self.view_is
+    (elim (loses_then old new c.self.invariant less c.in_ok-taken.taken.anew c.in_ok-taken.taken.told.items c.in_ok-taken.taken.order.items c.in_ok-taken.ensures.order
+    (λ anew. (c.in_ok-taken.ensures.anew anew).0)) [
+      | inl none ↦ inl (joined_loses new whole c.join.new.held c.join.ensures.held c.join.new.kept c.join.ensures.kept (seen_of old) none)
+      | inr lowers ↦ inr lowers
+    ])
