@@ -16,7 +16,7 @@ if [ -z "${YD_RETRY:-}" ]; then
 fi
 cc -shared -fPIC -o "$work/refuse.so" "$checks/refuse.c" || exit 1
 
-for growth in $(seq 1 "${GROWTHS:-200}"); do
+for growth in $(seq 1 "${GROWTHS:-300}"); do
   REFUSE=$growth LD_PRELOAD=$work/refuse.so "$YD_RETRY" >"$work/out" 2>"$work/err"
   status=$?
   if [ "$status" -eq 0 ] && cmp -s "$work/out" stdout; then

@@ -17,12 +17,18 @@ use yd_v1::read_v1;
 use yd_view::text;
 use yd_world::{Sink, StdSink};
 
-/// A deletion of client 1's unit 0, `bc` behind that unit, `a` as that unit, and a pair of client 2.
-const UPDATES: [&[u8]; 4] = [
+/// A deletion of client 1's unit 0, `bc` behind that unit, `a` as that unit, a pair of client 2, and
+/// `x` of client 3. Then the low half of the pair is told as deleted, so that the high one is U+FFFD;
+/// `c` is told as deleted, with `d` behind it; and `x` is gone.
+const UPDATES: [&[u8]; 8] = [
     &[0, 1, 1, 1, 0, 1],
     &[1, 1, 1, 1, 0x84, 1, 0, 2, 0x62, 0x63, 0],
     &[1, 1, 1, 0, 4, 1, 1, 0x74, 1, 0x61, 0],
     &[1, 1, 2, 0, 4, 1, 1, 0x74, 4, 0xF0, 0x9F, 0x98, 0x80, 0],
+    &[1, 1, 3, 0, 4, 1, 1, 0x74, 1, 0x78, 0],
+    &[1, 1, 2, 1, 0x81, 2, 0, 1, 0],
+    &[1, 2, 1, 2, 0x81, 1, 1, 1, 0x84, 1, 2, 1, 0x64, 0],
+    &[1, 1, 3, 0, 0, 1, 0],
 ];
 
 /// What is seen of the updates that found no memory.
