@@ -9,6 +9,7 @@ ghost use Rattle.yd_meaning.specs.Law.{IsCompleted};
 ghost use Rattle.yd_meaning.specs.Replica.{IsReplicaDocument};
 ghost use Rattle.yd_grouping.specs.Groupable.{AreGroupable};
 ghost use Rattle.yd_grouping.specs.Merged.{reply_of};
+ghost use Rattle.yd_doc.specs.Editing.{HasGrownLists};
 ghost use Rattle.yd_doc.specs.Kept.{received_of, own_deletes, own_document};
 
 use crate::replica::Replica;
@@ -21,6 +22,15 @@ pub fn own_document_is_replicas(replica: &Replica)
 {
     // What is kept is looked at, since its invariant says this.
     let _state = &replica.state;
+}
+
+/// Each list of a replica's own document grew by integration scans, from nothing, for every set of
+/// operations.
+pub fn own_lists_are_grown(replica: &Replica)
+    ensures { HasGrownLists replica.now }
+{
+    // What is kept is looked at, since its invariant says this.
+    let _received = replica.state.received();
 }
 
 /// A reply leaves the asker with an operation of each id, and with each deletion, that the answerer

@@ -11,7 +11,7 @@ ghost use Rattle.yd_meaning.specs.Document.{AreDeletedIn};
 ghost use Rattle.yd_grouping.specs.Merged.{reply_of};
 ghost use Rattle.yd_listing.specs.Listing.{Tells};
 ghost use Rattle.yd_state.specs.Brings.{BringsUnknown};
-ghost use Rattle.yd_doc.specs.Editing.{ListsGrow};
+ghost use Rattle.yd_doc.specs.Editing.{GrowsUnlessLost};
 ghost use Rattle.yd_doc.specs.Kept.{received_of, own_deletes, own_document};
 ghost use Rattle.yd_doc.specs.Waiting.{counts_of};
 
@@ -93,19 +93,21 @@ impl Replica {
     /// the integration scan, whose steps are runs. The call takes time with the update and with what is
     /// deleted besides; of what is known, it copies the clocks of the clients and the spans of deletions,
     /// and moves the entries behind a new one. No list is walked as a whole, and no deleted run unit by
-    /// unit. At the end texts and deleted units that came are joined to what they go on with.
+    /// unit. At the end the last run that came may be joined to what it goes on with: a text, or deleted
+    /// units in a list.
     ///
-    /// Where the update says less of something that was received, this is told less where it stands, and
-    /// the entries of all that was received are copied. Where a unit that a list had is lost by it, all
-    /// that is received is held anew, and all lists grow anew. What units held that are lowered stays in
-    /// memory.
+    /// Where the update says less of something that was received, this is told less where it stands. The
+    /// entries of all that was received are copied and walked then, and each client is tried again. Where
+    /// a unit that a list had is lost, all that is received is held anew, and all lists grow anew. The
+    /// contents of lowered units stay in memory.
     pub fn apply(&mut self, update: &Update) -> Result<bool, NoMemory>
         requires { IsValidUpdate (update_value update.now) }
         ensures received { OnOk result (received_of self.new
             ≡ received_after (received_of self.old) (update_value update.now)) }
         ensures brings { IfOk result (λ brings. IsTrue brings ↔ BringsUnknown
             (update_value update.now) (received_of self.old) (own_deletes self.old)) }
-        ensures grows { OnOk result (ListsGrow (update_value update.now) self.old self.new) }
+        ensures grows { OnOk result (GrowsUnlessLost
+            (update_value update.now) self.old self.new) }
         ensures caught_up { OnOk result (self.new.is_behind ≡ false) }
         ensures client { self.new.client ≡ self.old.client }
         ensures unchanged { OnErr result (received_of self.new ≡ received_of self.old) }

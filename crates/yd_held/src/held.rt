@@ -52,8 +52,8 @@ pub struct Taken {
     /// All was held anew, since a unit that was in a list is gone. Then the lists may have other
     /// numbers than before.
     pub anew: bool,
-    /// The numbers of the entries that were held before and of which less is told now, or that are
-    /// gone; none where all was held anew.
+    /// The numbers of entries that were held before and are gone, deleted or U+FFFD; each of which less
+    /// is told is among them. Where all was held anew there are none.
     pub told: Vec<usize>,
     /// The numbers of the entries that became held, in the order in which they did: each after what
     /// it stands on, and after the smaller clocks of its client.

@@ -99,8 +99,9 @@ impl State {
     /// integration scan puts it. It answers whether the update brought something. It looks at what
     /// came, at what waits, and at what is deleted besides, and at what is known by look-ups alone;
     /// a set that grows is copied. Where the update says less of something that was received, the
-    /// entries are copied too, and where a unit that a list had is lost, all lists grow anew. Where
-    /// memory ends, nothing has changed that is told.
+    /// entries are copied and walked, and each client is tried again; what is gone already is told so
+    /// once more. Where a unit that a list had is lost, all lists grow anew. Where memory ends, nothing
+    /// has changed that is told.
     pub fn take(&mut self, update: &Update) -> Result<bool, NoMemory>
         requires { IsValidUpdate (update_value update.now) }
         ensures received { OnOk result (received_in self.new
