@@ -69,10 +69,9 @@ impl Codes {
         ensures unchanged { OnErr result (self.new ≡ self.old) }
     {
         let place = self.len();
-        let was = self.last_of(code);
         self.codes.reserve(1)?;
         self.before.reserve(1)?;
-        self.last.insert(code, place)?;
+        let was = self.last.insert(code, place)?;
         self.codes.push(code)?;
         self.before.push(was)?;
         Ok(())
