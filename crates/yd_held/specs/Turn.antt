@@ -66,10 +66,11 @@ pub record HoldsOn (told order : List ℕ) (old new : HeldValue) : Type 0 where
   pub less : (at : ℕ) → IsIn at told → IsHeldLess old new at
   pub turn : AreHeldInTurn new.received.runs new.received.entries (clock_of old.vector) order (clock_of new.vector)
 
--- of which entries less is told, and in which order entries became held: those that were not, or, where all was held anew, each
+-- of which entries less is told, and in which order entries became held: those that were not; or, where all was held anew, of
+-- none, and each
 abbrev pub TellsOrder : Bool → List ℕ → List ℕ → HeldValue → HeldValue → Type 0
 TellsOrder false told order old new = HoldsOn told order old new
-TellsOrder true told order old new = AreHeldInTurn new.received.runs new.received.entries (λ client. 0) order (clock_of new.vector)
+TellsOrder true told order old new = (told ≡ []) × AreHeldInTurn new.received.runs new.received.entries (λ client. 0) order (clock_of new.vector)
 
 -- a unit that was in a list is lost
 pub record LosesOne (old new : HeldValue) : Type 0 where

@@ -1,6 +1,6 @@
 //! An update is taken in, and what can be held then is held.
 
-ghost use Rattle.std.specs.Prelude.{◌≡◌, ◌↔◌, ◌≤◌, ◌<◌, [], length, filter, IsTrue, OnOk, IfOk, IfSome};
+ghost use Rattle.std.specs.Prelude.{◌≡◌, ◌↔◌, ◌⊎◌, ◌≤◌, ◌<◌, [], length, filter, IsTrue, OnOk, IfOk, IfSome, IfNone};
 ghost use Rattle.yd_words.specs.Each.{Each};
 ghost use Rattle.yd_ops.specs.Operation.{operations_of};
 ghost use Rattle.yd_ops.specs.Valid.{IsValidUpdate};
@@ -11,7 +11,7 @@ ghost use Rattle.yd_entries.specs.Taking.{BringsOperation};
 ghost use Rattle.yd_held.specs.Changing.{KeepsNumbers, IsOf, back_to};
 ghost use Rattle.yd_held.specs.Held.{held_value, HoldsAll};
 ghost use Rattle.yd_held.specs.Holding.{IsHolding, HoldsRest, OnlyHolds};
-ghost use Rattle.yd_held.specs.Joining.{CameAlone};
+ghost use Rattle.yd_held.specs.Joining.{CameAlone, NoneCameAlone};
 ghost use Rattle.yd_held.specs.Noted.{AreNoted, AreMissing};
 ghost use Rattle.yd_held.specs.Turn.{HoldsInTurn, TellsOrder};
 ghost use Rattle.yd_held.specs.Noted.{AreSorted};
@@ -71,6 +71,10 @@ pub(crate) fn change(
         held.old.names held.new.names) }
     ensures single { IfOk result (λ changed. IfSome changed.single
         (CameAlone changed.order.items (held_value held.new))) }
+    ensures together { IfOk result (λ changed. IfNone changed.single
+        (LowersOne (operations_of (update_value update.now)) (taken_of held.old.received)
+        ⊎ NoneCameAlone (length held.old.received.runs) (length held.old.received.entries)
+        changed.order.items (held_value held.new))) }
     ensures holds { OnOk result (HoldsAll (held_value held.new)) }
     ensures back { back_to before.new (held_value held.new) ≡ held_value held.old }
 {
@@ -113,13 +117,14 @@ pub(crate) fn change(
     })
 }
 
-/// The number of the entry that became held, where it alone is new, and all of the one new run. So
-/// many runs and entries there were before.
+/// The number of the entry that became held, where it alone is new, and all that is of the one new
+/// run. So many runs and entries there were before.
 fn single_of(held: &HeldParts, from: usize, count: usize, order: &[usize]) -> Option<usize>
     requires from { from ≤ length held.now.received.runs }
     requires inside { Each (λ at. at < length held.now.received.entries) order.now }
     requires were { length (filter (is_of_first from) held.now.received.entries) ≡ count }
-    ensures { IfSome result (CameAlone order.now (held_value held.now)) }
+    ensures single { IfSome result (CameAlone order.now (held_value held.now)) }
+    ensures none { IfNone result (NoneCameAlone from count order.now (held_value held.now)) }
 {
     let runs = held.received.runs();
     let entries = held.received.entries();

@@ -1,6 +1,6 @@
 //! What is held, as one value.
 
-ghost use Rattle.std.specs.Prelude.{◌≡◌, ◌≢◌, ◌↔◌, [], ℕ, Some, IsTrue, IfSome, IfNone, OnOk, OnErr, IfOk, slice_get};
+ghost use Rattle.std.specs.Prelude.{◌≡◌, ◌≢◌, ◌↔◌, ◌⊎◌, [], ℕ, Some, IsTrue, IfSome, IfNone, OnOk, OnErr, IfOk, length, slice_get};
 ghost use Rattle.yd_ops.specs.Operation.{operations_of};
 ghost use Rattle.yd_ops.specs.Valid.{IsValidUpdate};
 ghost use Rattle.yd_ops.specs.View.{update_value};
@@ -10,7 +10,7 @@ ghost use Rattle.yd_received.specs.Received.{taken_of, LowersOne, IsSingleOf};
 ghost use Rattle.yd_entries.specs.Taking.{BringsOperation};
 ghost use Rattle.yd_held.specs.Changing.{KeepsNumbers, back_to};
 ghost use Rattle.yd_held.specs.Held.{HoldsAll};
-ghost use Rattle.yd_held.specs.Joining.{CameAlone, StaysSame};
+ghost use Rattle.yd_held.specs.Joining.{CameAlone, NoneCameAlone, StaysSame};
 ghost use Rattle.yd_held.specs.Turn.{TellsOrder, LosesOne};
 
 use crate::changing::{Changed, change};
@@ -59,7 +59,8 @@ pub struct Taken {
     /// it stands on, and after the smaller clocks of its client.
     pub order: Vec<usize>,
     /// The number of the entry that became held, where no other did and no other is of the last run.
-    /// So it can be joined to the one before it ([`Held::join`]).
+    /// So it can be joined to the one before it ([`Held::join`]). None where less was told of something,
+    /// or where not just one run and one entry are new.
     pub single: Option<usize>,
     /// What puts back what was held before.
     pub before: Before,
@@ -146,6 +147,10 @@ impl Held {
             self.old.names self.new.names) }
         ensures single { IfOk result (λ taken. IfSome taken.single
             (CameAlone taken.order.items self.new)) }
+        ensures together { IfOk result (λ taken. IfNone taken.single
+            (LowersOne (operations_of (update_value update.now)) (taken_of self.old.received)
+            ⊎ NoneCameAlone (length self.old.received.runs) (length self.old.received.entries)
+            taken.order.items self.new)) }
         ensures holds { HoldsAll self.new }
         ensures back { IfOk result (λ taken. back_to taken.before self.new ≡ self.old) }
         ensures unchanged { OnErr result (self.new ≡ self.old) }

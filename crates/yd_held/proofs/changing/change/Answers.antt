@@ -1,15 +1,17 @@
-use Rattle.std.proofs.Common.{◌≡◌, ◌∙◌, true, false, length, refl, sym, ap, subst}
-use Rattle.std.specs.Prelude.{IsTrue}
+use Rattle.std.proofs.Common.{◌≡◌, ◌∙◌, ℕ, true, false, Option, Some, None, length, inr, refl, sym, ap, subst}
+use Rattle.std.specs.Prelude.{◌⊎◌, IsTrue, IfNone}
 use Rattle.yd_words.specs.Each.{Each}
 use Rattle.yd_words.specs.Member.{IsIn}
 use Rattle.yd_ids.specs.Vector.{clock_of}
 use Rattle.yd_ops.specs.Received.{groups_of}
 use Rattle.yd_ops.specs.View.{update_value}
 use Rattle.yd_entries.specs.declared.entry.Entry.{Entry}
-use Rattle.yd_received.specs.Received.{lowers, taken_of}
+use Rattle.yd_ops.specs.Operation.{operations_of}
+use Rattle.yd_received.specs.Received.{lowers, taken_of, LowersOne}
 use Rattle.yd_received.proofs.PlacingLemmas.{operations-wait}
 use Rattle.yd_held.specs.Held.{HeldValue, held_value}
 use Rattle.yd_held.specs.Holding.{IsHolding}
+use Rattle.yd_held.specs.Joining.{NoneCameAlone}
 use Rattle.yd_held.specs.Telling.{is_gone_listed, AreHeldLess}
 use Rattle.yd_held.specs.Turn.{HoldsOn}
 use Rattle.yd_held.proofs.BackLemmas.{none_back, added_back}
@@ -67,6 +69,20 @@ single_of-single-requires c =
       were = firsts_stay old c.take.new.self c.requires.holds.in_order adds (with_received (held_value c.args.held.now) c.take.new.self) new refl c.hold_new.ensures.only
           (length c.runs-from.result.now) (length c.entries-count.result.now) (ap length c.runs-from.ensures) (ap length c.entries-count.ensures.entries);
     }
+
+pub returns-clause-together : goal.returns-clause-together
+returns-clause-together c = or_alone c.single_of-single.result c.single_of-single.ensures.none
+  where
+    k : HeldValue
+    k = held_value c.hold_new.new.held
+
+    or_alone : (single : Option ℕ) → IfNone single (NoneCameAlone (length c.runs-from.result.now) (length c.entries-count.result.now) c.deref.result.now k) →
+        IfNone single (LowersOne (operations_of (update_value c.args.update.now)) (taken_of c.args.held.now.received)
+        ⊎ NoneCameAlone (length c.args.held.now.received.runs) (length c.args.held.now.received.entries) c.in_ok-order-3.order.items k)
+    or_alone (Some at) alone = tt
+    or_alone None alone = inr (subst (λ order. NoneCameAlone (length c.args.held.now.received.runs) (length c.args.held.now.received.entries) order k) c.deref.ensures.value
+        (subst (λ n. NoneCameAlone (length c.args.held.now.received.runs) n c.deref.result.now k) (ap length c.entries-count.ensures.entries)
+        (subst (λ n. NoneCameAlone n (length c.entries-count.result.now) c.deref.result.now k) (ap length c.runs-from.ensures) alone)))
 
 -- ---- where a unit of a list is gone
 

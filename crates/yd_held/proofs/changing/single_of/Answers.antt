@@ -10,6 +10,8 @@ overflow_sub-entries c =
     rw c.entries-entries.ensures.entries (omega (arith, c.requires.were, length-filter (is_of_first c.args.from) c.args.held.now.received.entries))
 
 pub returns : goal.returns
-returns c =
-    came_alone (held_value c.args.held.now) c.args.order.now c.args.from c.args.count _ c.requires.were (rw c.runs-runs.ensures at c.if-runs-from-ne1.false)
-    (rw c.entries-entries.ensures.entries at c.if-entries-count-ne1.false) c.requires.inside c.if-order-ne1.false (rw c.entries-entries.ensures.entries at c.if-entries-at.false)
+returns c = record {
+  single = came_alone (held_value c.args.held.now) c.args.order.now c.args.from c.args.count _ c.requires.were (rw c.runs-runs.ensures at c.if-runs-from-ne1.false)
+      (rw c.entries-entries.ensures.entries at c.if-entries-count-ne1.false) c.requires.inside c.if-order-ne1.false (rw c.entries-entries.ensures.entries at c.if-entries-at.false);
+  none = tt;
+}
