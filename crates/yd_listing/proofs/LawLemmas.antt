@@ -1,4 +1,4 @@
--- What is deleted besides keeps deletions closed and sound, and is the least that does.
+-- With what is deleted besides all is deleted that must be, and nothing else.
 use Rattle.std.proofs.Common.{◌≡◌, ◌≢◌, ℕ, zero, suc, ◌⊎◌, inl, inr, Bool, true, false, ◌||◌, List, [], ◌∷◌, ◌++◌, Option, Some, None, refl, sym, ap, ◌∙◌, subst, arith, tests, true≢false}
 use Rattle.std.proofs.lemmas.Bool.{cases_Bool, or_left, or_right}
 use Rattle.std.specs.Prelude.{filter, slice_get, not, if◌then◌else◌}
@@ -11,7 +11,7 @@ use Rattle.yd_ids.specs.declared.id.Span.{Span}
 use Rattle.yd_ids.specs.Ids.{is_same}
 use Rattle.yd_ids.specs.Span.{InSpan}
 use Rattle.yd_ids.specs.Set.{HasId}
-use Rattle.yd_ids.proofs.IdLemmas.{same_is, same_itself, differs}
+use Rattle.yd_ids.proofs.IdLemmas.{same_is, differs}
 use Rattle.yd_ops.specs.declared.lists.List.{List as DocList}
 use Rattle.yd_ops.specs.Operation.{Operation}
 use Rattle.yd_origins.specs.Deleted.{last_of}
@@ -19,15 +19,10 @@ use Rattle.yd_ops.specs.Received.{has_operation, IsWritten}
 use Rattle.yd_meaning.specs.Names.{same_list, has_key, item_of_list}
 use Rattle.yd_meaning.specs.Held.{standing, is_in_span, is_named}
 use Rattle.yd_meaning.specs.ListNames.{same_list_decides}
-use Rattle.yd_meaning.specs.Deleted.{is_deleted}
-use Rattle.yd_meaning.specs.Order.{order_of}
-use Rattle.yd_meaning.specs.Grown.{IsGrown, HasAllOfList, StandsHonest}
 use Rattle.yd_meaning.specs.Staying.{StaysHeld}
-use Rattle.yd_meaning.specs.Deletions.{MustBeDeleted, for_name, for_loss, for_key, for_item, AreClosedDeletions, AreSoundDeletions}
-use Rattle.yd_meaning.specs.GrowingLaw.{SoundStays}
-use Rattle.yd_meaning.proofs.GrownHonestLemmas.{grown_is_order}
+use Rattle.yd_meaning.specs.Deletions.{MustBeDeleted, for_name, for_loss, for_key, for_item, AreClosedDeletions}
+use Rattle.yd_meaning.proofs.LeastLemmas.{last_kept, least_stays}
 use Rattle.yd_meaning.proofs.GrownStayingLemmas.{stands_held}
-use Rattle.yd_meaning.proofs.DeletionLemmas.{deleted_by_definition}
 use Rattle.yd_kept.specs.Kept.{KeptValue}
 use Rattle.yd_listing.specs.declared.came.Came.{Came}
 use Rattle.yd_listing.specs.Falling.{units_of_list, IsNamedIn, CameInto, IsUnder, IsKeyed, Falls, by_name, by_loss, by_key, by_deleted, by_item, IsGone, IsGoneBehind, Drops}
@@ -90,10 +85,6 @@ last_or_other xs x = go (last_of xs)
       | inr e ↦ inr (λ f. differs y x e (some_is y x f))
     ]
 
-cons_last : (y : Id) (xs : List Id) (x : Id) → last_of xs ≡ Some x → last_of (y ∷ xs) ≡ Some x
-cons_last y [] x e = absurd cc
-cons_last y (z ∷ zs) x e = e
-
 kept_first : (test : Id → Bool) (x : Id) (xs : List Id) → test x ≡ true → filter test (x ∷ xs) ≡ x ∷ filter test xs
 kept_first test x xs e = rw e refl
 
@@ -102,16 +93,6 @@ last_behind [] s [] x e = inl (sym (some_is s x e))
 last_behind [] s (b ∷ back) x e = inr (last_in b back x e)
 last_behind (f ∷ []) s back x e = last_behind [] s back x e
 last_behind (f ∷ g ∷ front) s back x e = last_behind (g ∷ front) s back x e
-
--- what stands last and passes stands last of what passes
-last_kept : (test : Id → Bool) (xs : List Id) (x : Id) → last_of xs ≡ Some x → test x ≡ true → last_of (filter test xs) ≡ Some x
-last_kept test [] x e t = absurd cc
-last_kept test (y ∷ []) x e t = let same = some_is y x e in subst (λ z. last_of (filter test (z ∷ [])) ≡ Some x) (sym same) (rw t refl)
-last_kept test (y ∷ z ∷ zs) x e t = go (test y) (last_kept test (z ∷ zs) x e t)
-  where
-    go : (b : Bool) → last_of (filter test (z ∷ zs)) ≡ Some x → last_of (if b then y ∷ filter test (z ∷ zs) else filter test (z ∷ zs)) ≡ Some x
-    go true h = cons_last y (filter test (z ∷ zs)) x h
-    go false h = h
 
 filter-append : (test : Id → Bool) (xs ys : List Id) → filter test (xs ++ ys) ≡ filter test xs ++ filter test ys
 filter-append test [] ys = refl
@@ -280,50 +261,12 @@ module _ (it : KeptValue) (old : List Span) (these : Id → Type 0) (came : List
     falls_in (by_deleted {x = x} {y = y} n u i h) = all.all x (for_item u.name (in_named n u.name x u.named i) u.own (has y (has_named old y h)))
     falls_in (by_item {x = x} {y = y} n u i f) = all.all x (for_item u.name (in_named n u.name x u.named i) u.own (falls_in f))
 
-    pub least : (x : Id) → now x ≡ true → other x ≡ true
-    least x e = elim (gone_has old besides x e) [ inl h ↦ has x (has_named old x h) | inr h ↦ falls_in (drops.only x h) ]
+    pub still_least : (x : Id) → now x ≡ true → other x ≡ true
+    still_least x e = elim (gone_has old besides x e) [ inl h ↦ has x (has_named old x h) | inr h ↦ falls_in (drops.only x h) ]
 
-  -- ---- it is sound
-
-  grown : (list : DocList) → IsGrown (standing held) list (lists list)
-  grown list = elim (find_name it.names list) [
-    | inl h ↦ subst (IsGrown (standing held) list) (sym (became.by_name.named h.0 list h.1)) (became.grown h.0 list h.1)
-    | inr none ↦ subst (IsGrown (standing held) list) (sym (became.by_name.others list none)) (record { news = []; arranged = tt; grown = refl })
-  ]
-
-  whole : (list : DocList) → HasAllOfList (standing held) list (lists list)
-  whole list x up of = elim (find_name it.names list) [
-    | inl h ↦ in_named h.0 list x h.1 ((became.filled.each h.0 list h.1 x).1 (up, of))
-    | inr none ↦ absurd (none (subst (λ l. IsIn l it.names) of (became.filled.others x up)))
-  ]
-
-  module _ (stayed : AreSoundDeletions held more (is_named old)) (honest : StandsHonest held) where
-    ordered : (list : DocList) → lists list ≡ order_of (standing held) list
-    ordered list = grown_is_order held w honest list (lists list) (grown list) (whole list)
-
-    -- what must be deleted beside nothing is deleted by the definitions
-    alone : (x : Id) → MustBeDeleted lists held more (λ y. false) x → is_deleted held more x ≡ true
-    alone x must = deleted_by_definition held w more lists ordered (λ y. false) (λ y e. absurd (true≢false (sym e))) x must
-
-    -- and so is what is under one that is
-    under : (n : ℕ) (x y : Id) → IsUnder it n y → IsIn x (units_of_list it n) → is_deleted held more y ≡ true → is_deleted held more x ≡ true
-    under n x y u i e = deleted_by_definition held w more lists ordered (is_same y)
-        (λ z s. subst (λ v. is_deleted held more v ≡ true) (same_is y z s) e) x (for_item u.name (in_named n u.name x u.named i) u.own (same_itself y))
-
-    falls_by_definition : {x : Id} → Falls it old these came x → is_deleted held more x ≡ true
-    falls_by_definition (by_name {x = x} t lt) = alone x (for_name (became.no_more x lt) (names.known x t))
-    falls_by_definition (by_loss {x = x} c) = alone x (for_loss (became.lost x c))
-    falls_by_definition (by_key {x = x} n k i no_last) = alone x (for_key k.name (in_named n k.name x k.named i) k.keyed (last_named n k.name x k.named no_last))
-    falls_by_definition (by_deleted {x = x} {y = y} n u i h) = under n x y u i (stayed honest y (has_named old y h))
-    falls_by_definition (by_item {x = x} {y = y} n u i f) = under n x y u i (falls_by_definition f)
-
-    pub now_sound : (x : Id) → now x ≡ true → is_deleted held more x ≡ true
-    now_sound x e = elim (gone_has old besides x e) [ inl h ↦ stayed honest x (has_named old x h) | inr h ↦ falls_by_definition (drops.only x h) ]
-
-pub deletions_go_on : SoundStays → DeletionsGoOn
-deletions_go_on sound_stays = λ it old waiting news came besides drops part held w stays old_lists lists became named more names closed sound.
-    let stayed : AreSoundDeletions held more (is_named old) = sound_stays part held w stays named more (is_named old) names.stays closed.only_held sound in record {
-      closed = still_closed it old (IsNamedIn waiting news) came besides drops part held w stays old_lists lists became named more names closed;
-      sound = λ honest x e. now_sound it old (IsNamedIn waiting news) came besides drops part held w stays old_lists lists became named more names closed stayed honest x e;
-      least = λ other all has x e. least it old (IsNamedIn waiting news) came besides drops part held w stays old_lists lists became named more names closed other all has x e;
-    }
+pub deletions_go_on : DeletionsGoOn
+deletions_go_on it old waiting news came besides drops part held w stays old_lists lists became named more names closed least = record {
+  closed = still_closed it old (IsNamedIn waiting news) came besides drops part held w stays old_lists lists became named more names closed;
+  least = λ other all. still_least it old (IsNamedIn waiting news) came besides drops part held w stays old_lists lists became named more names closed other all
+      (least_stays part held stays old_lists lists became.before named more names.stays (is_named old) least other all);
+}

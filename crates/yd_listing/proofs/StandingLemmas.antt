@@ -8,9 +8,9 @@ use Rattle.yd_words.specs.Member.{IsIn}
 use Rattle.yd_words.proofs.MemberLemmas.{in_left_part, in_parts}
 use Rattle.yd_ids.specs.declared.id.Id.{Id}
 use Rattle.yd_ops.specs.declared.lists.List.{List as DocList}
-use Rattle.yd_ops.specs.Operation.{UnitContent, Operation, units_of_content, operations_from, gone_from}
+use Rattle.yd_ops.specs.Operation.{UnitContent, Operation, later_id, units_of_content, operations_from, gone_operation, gone_from}
 use Rattle.yd_ops.specs.Value.{RunValue}
-use Rattle.yd_ops.proofs.OperationLemmas.{length-units_of_content}
+use Rattle.yd_ops.proofs.OperationLemmas.{length-units_of_content, later_none, later_later}
 use Rattle.yd_chains.specs.Chain.{last_of, behind, before}
 use Rattle.yd_chains.proofs.ChainLemmas.{same_place, around, last_in, distinct_out}
 use Rattle.yd_words.specs.Member.{AreDistinct}
@@ -81,6 +81,33 @@ told_some run None fits some = gone_some run.id run.len some
 told_some run (Some it) fits some = operations_some it.id it.left it.right it.list (units_of_content it.content)
     (omega (arith, some, fits.len_is, length-units_of_content it.content))
 
+next_later : (id : Id) (n : ℕ) → later_id (later_id id 1) n ≡ later_id id (suc n)
+next_later id n = later_later id 1 n ∙ ap (later_id id) (omega arith)
+
+-- a run has an operation for each of its units
+gone_unit_at : (id : Id) (count n : ℕ) → n < count → (o : Operation) × IsIn o (gone_from id count) × (o.id ≡ later_id id n)
+gone_unit_at id zero n lt = absurd (omega (arith, lt))
+gone_unit_at id (suc count) zero lt = (gone_operation id, inl refl, sym (later_none id))
+gone_unit_at id (suc count) (suc n) lt = let (o, i, e) = gone_unit_at (later_id id 1) count n (omega (arith, lt)) in (o, inr i, e ∙ next_later id n)
+
+unit_from : (id : Id) (left right : Option Id) (list : Option DocList) (us : List UnitContent) (n : ℕ) → n < length us →
+    (o : Operation) × IsIn o (operations_from id left right list us) × (o.id ≡ later_id id n)
+unit_from id left right list [] n lt = absurd (omega (arith, lt))
+unit_from id left right list (u ∷ us) zero lt = (record { id = id; left_origin = left; right_origin = right; list = list; content = u }, inl refl, sym (later_none id))
+unit_from id left right list (u ∷ us) (suc n) lt = let (o, i, e) = unit_from (later_id id 1) (Some id) right None us n (omega (arith, lt)) in (o, inr i, e ∙ next_later id n)
+
+told_unit : (run : Stretch) (told : Option RunValue) → IfSome told (IsRunOf run) → (n : ℕ) → n < run.len →
+    (o : Operation) × IsIn o (operations_told run told) × (o.id ≡ later_id run.id n)
+told_unit run None fits n lt = gone_unit_at run.id run.len n lt
+told_unit run (Some it) fits n lt =
+    let (o, i, e) = unit_from it.id it.left it.right it.list (units_of_content it.content) n (omega (arith, lt, fits.len_is, length-units_of_content it.content)) in
+    (o, i, e ∙ ap (λ x. later_id x n) fits.id_is)
+
+is_lent : (mark : Bool) (os : List Operation) (o : Operation) → IsIn o os → IsIn (lent mark o) (map (lent mark) os)
+is_lent mark [] o i = absurd i
+is_lent mark (p ∷ os) o (inl e) = inl (ap (lent mark) e)
+is_lent mark (p ∷ os) o (inr i) = inr (is_lent mark os o i)
+
 begins : (id : Id) (us rest : List Lent) → 0 < length us → ((u : Lent) → IsIn u us → u.id ≢ id) → BeginsApart id (us ++ rest)
 begins id [] rest some apart = absurd (omega (arith, some))
 begins id (u ∷ us) rest some apart = apart u (inl refl)
@@ -129,6 +156,16 @@ module _ (it : Stored) (arena : IsArena it.placed.lines (runs_of it.placed)) (li
         let one = units_stand_once it.placed.lines (runs_of it.placed) id at.0 at.2 place stands.before arena (subst (HasUnit (runs_of it.placed) at.0 at.2) e at.3) stands.has in
         distinct_out place front rest (subst AreDistinct (sym all_are) (lists.distinct list lt))
         (in_left_part place front rest (subst (λ p. IsIn p front) one.0 at.1))
+
+    -- and its run has it
+    run_with : (u : Lent) × IsIn u (lent_from_place it list place) × (u.id ≡ id)
+    run_with =
+        let (o, i, e) = told_unit (stretch_at (runs_of it.placed) place) (run_at (told_of it.contents) place) (told.fits place stands.has.within) stands.before stands.has.inside in
+        let mark = (mark_at it.marks.rows place).deleted in (
+          lent mark o,
+          in_left_part (lent mark o) (lent_at it place) (flat_map (lent_at it) rest) (is_lent mark (operations_at (runs_of it.placed) (told_of it.contents) place) o i),
+          e ∙ (λ k. record { client = stands.has.client k; clock = stands.has.clock k }),
+        )
 
   -- ---- from the place before on
 
@@ -200,7 +237,7 @@ append_none [] = refl
 append_none (u ∷ us) = ap (λ vs. u ∷ vs) (append_none us)
 
 pub none_from : (id : Id) (all : List Lent) → all ≡ [] → IsFrom id all []
-none_from id all e = record { front = []; parts = e; apart = λ u i. absurd i }
+none_from id all e = record { front = []; parts = e; apart = λ u i. absurd i; found = inl refl }
 
 module _ (it : KeptValue) (document : Document) (n : ℕ) (name : DocList) (id : Id) (arena : IsArena it.store.placed.lines (runs_of it.store.placed))
     (lists : AreLists it.store.placed.linked) (told : AreTold (runs_of it.store.placed) (told_of it.store.contents)) (lt : n < count_of it.store.placed)
@@ -214,6 +251,7 @@ module _ (it : KeptValue) (document : Document) (n : ℕ) (name : DocList) (id :
     front = lent_units document name;
     parts = sym (append_none (lent_units document name));
     apart = λ u i. none_with it.store arena lists told n lt id no_one u (subst (IsIn u) (sym lent_is) i);
+    found = inl refl;
   }
 
   -- the run at a place has it
@@ -223,6 +261,7 @@ module _ (it : KeptValue) (document : Document) (n : ℕ) (name : DocList) (id :
     parts = sym lent_is ∙ parts_lent it.store arena lists told n lt id place stands
         ∙ ap (λ us. flat_map (lent_at it.store) (before place (places_in it.store.placed n)) ++ us) (sym same);
     apart = before_with it.store arena lists told n lt id place stands;
+    found = inr (subst (λ us. (u : Lent) × IsIn u us × (u.id ≡ id)) (sym same) (run_with it.store arena lists told n lt id place stands));
   }
 
   -- the place before that of the run that has it

@@ -9,7 +9,7 @@ use Rattle.yd_arena.specs.Arena.{next_clock}
 use Rattle.yd_ops.specs.Received.{has_operation, IsWritten}
 use Rattle.yd_meaning.specs.Held.{is_lost, is_named}
 use Rattle.yd_meaning.specs.Staying.{StaysHeld}
-use Rattle.yd_meaning.specs.Deletions.{AreClosedDeletions, AreSoundDeletions}
+use Rattle.yd_meaning.specs.Deletions.{AreClosedDeletions, AreLeastDeletions}
 use Rattle.yd_kept.specs.Filling.{AreFilledLists}
 use Rattle.yd_kept.specs.Telling.{ListsAreGrown}
 use Rattle.yd_kept.specs.Kept.{KeptValue}
@@ -45,17 +45,14 @@ pub record BecameNamed (part held : List Operation) (named more : Id → Bool) (
 abbrev pub is_gone : List Span → List Span → Id → Bool
 is_gone old besides x = is_named old x || is_named besides x
 
--- what was deleted in a part, and what is deleted besides: it is closed; it is sound; and it is in each closed set that has
--- what was deleted
-pub record GoesOnDeleted (lists : DocList → List Id) (held : List Operation) (more was now : Id → Bool) : Type 0 where
+-- all is deleted that must be, and nothing else
+pub record GoesOnDeleted (lists : DocList → List Id) (held : List Operation) (more now : Id → Bool) : Type 0 where
   pub closed : AreClosedDeletions lists held more now
-  pub sound : AreSoundDeletions held more now
-  pub least : (other : Id → Bool) → AreClosedDeletions lists held more other → ((x : Id) → was x ≡ true → other x ≡ true) →
-      (x : Id) → now x ≡ true → other x ≡ true
+  pub least : AreLeastDeletions lists held more now
 
--- so it is with what is deleted besides, where what was deleted was closed and sound
+-- so it is with what is deleted besides, where it was so with what was deleted in a part
 abbrev pub DeletionsGoOn : Type 0
 DeletionsGoOn = (it : KeptValue) (old waiting news : List Span) (came : List Came) (besides : List Span) → Drops it old (IsNamedIn waiting news) came besides →
     (part held : List Operation) → IsWritten held → StaysHeld part held → (old_lists lists : DocList → List Id) → BecameHeld it came old_lists lists part held →
     (named more : Id → Bool) → BecameNamed part held named more (IsNamedIn waiting news) → AreClosedDeletions old_lists part named (is_named old) →
-    AreSoundDeletions part named (is_named old) → GoesOnDeleted lists held more (is_named old) (is_gone old besides)
+    AreLeastDeletions old_lists part named (is_named old) → GoesOnDeleted lists held more (is_gone old besides)

@@ -31,11 +31,12 @@ units_to_come (Some walk) = units_left walk
 abbrev pub EndIn : List Lent → List Lent → Type 0
 EndIn all units = (front : List Lent) × (all ≡ front ++ units)
 
--- some units stand behind others, none of which has the id
+-- some units stand behind others, none of which has the id; there are none, or one of them has it
 pub record IsFrom (id : Id) (all units : List Lent) : Type 0 where
   pub front : List Lent
   pub parts : all ≡ front ++ units
   pub apart : (unit : Lent) → IsIn unit front → unit.id ≢ id
+  pub found : (units ≡ []) ⊎ ((unit : Lent) × IsIn unit units × (unit.id ≡ id))
 
 -- the first of some units has another id
 abbrev pub BeginsApart : Id → List Lent → Type 0

@@ -14,7 +14,7 @@
 //!
 //! Which ids become deleted when more is held or named is answered by spans
 //! ([`deletions_besides`], `specs/Falling.antt`): the work is that of what came and of what falls, and
-//! not of what is known. With it the deletions of a replica are closed again, and sound ([`law`]).
+//! not of what is known. With it all is deleted that must be, and nothing else ([`law`]).
 #![tactic(auto)]
 
 mod arriving;

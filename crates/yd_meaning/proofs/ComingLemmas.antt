@@ -1,10 +1,9 @@
 -- What is held comes in rounds, so every list can grow, and the defined document is a replica's own where the edit rules are kept.
-use Rattle.std.proofs.Common.{◌≡◌, ℕ, zero, suc, ◌+◌, ◌<◌, Bool, true, false, not, ◌↔◌, List, [], Option, Some, None, inl, length, refl, sym, ap, ◌∙◌, subst, arith, true≢false}
+use Rattle.std.proofs.Common.{◌≡◌, ℕ, zero, suc, ◌+◌, ◌<◌, Bool, true, false, not, List, [], Option, Some, None, inl, length, refl, sym, ap, ◌∙◌, subst, arith, true≢false}
 use Rattle.std.specs.Prelude.{IfSome, if◌then◌else◌}
-use Rattle.yd_words.specs.Member.{IsIn, AreDistinct}
+use Rattle.yd_words.specs.Member.{IsIn}
 use Rattle.yd_words.specs.Test.{one_if}
 use Rattle.yd_words.proofs.OptionLemmas.{if_some_each}
-use Rattle.yd_words.proofs.TestLemmas.{both_hold, hold_both}
 use Rattle.yd_ids.specs.declared.id.Id.{Id}
 use Rattle.yd_ids.specs.Ids.{HasSmallerClock}
 use Rattle.yd_ids.proofs.IdLemmas.{same_numbers}
@@ -21,12 +20,9 @@ use Rattle.yd_ops.proofs.OneOfLemmas.{operation_with}
 use Rattle.yd_meaning.specs.Names.{same_list}
 use Rattle.yd_meaning.specs.ListNames.{list_names}
 use Rattle.yd_meaning.specs.Held.{needs, round, held_set, standing}
-use Rattle.yd_meaning.specs.Order.{rows_of, operation_set, list_of, order_of, AreHonest}
-use Rattle.yd_meaning.specs.Deleted.{is_deleted}
+use Rattle.yd_meaning.specs.Order.{rows_of, operation_set, list_of, AreHonest}
 use Rattle.yd_meaning.specs.Document.{document_with}
-use Rattle.yd_meaning.proofs.DocumentLemmas.{order_distinct, operations_held}
 use Rattle.yd_meaning.proofs.HeldLemmas.{held_in}
-use Rattle.yd_meaning.proofs.HeldListLemmas.{in_order_of}
 use Rattle.yd_meaning.proofs.HonestLemmas.{honest_set}
 use Rattle.yd_meaning.proofs.NeedLemmas.{left_source, right_source, before_needed, source_needed}
 use Rattle.yd_meaning.proofs.RoundLemmas.{needs_before, round_in}
@@ -35,9 +31,9 @@ use Rattle.yd_meaning.proofs.StandingLemmas.{standing_in}
 use Rattle.yd_meaning.proofs.StandingTableLemmas.{standing_table}
 use Rattle.yd_meaning.proofs.VectorLemmas.{held_written, held_smaller}
 use Rattle.yd_meaning.specs.Grown.{table_in, IsGrown, HasAllOfList}
-use Rattle.yd_meaning.specs.Own.{ids_in, IsOwnDocument}
+use Rattle.yd_meaning.specs.Own.{IsOwnDocument}
 use Rattle.yd_meaning.proofs.ArrangingLemmas.{is_lower, arranged}
-use Rattle.yd_meaning.proofs.DefinedLemmas.{ids_are, defined_each, defined_once, defined_as_held, defined_closed, deleted_both}
+use Rattle.yd_meaning.proofs.DefinedLemmas.{ids_are, defined_each, defined_once, defined_as_held, defined_closed, defined_least}
 use Rattle.yd_meaning.proofs.GrowthLemmas.{in_scans}
 use Rattle.yd_meaning.proofs.GrownHonestLemmas.{grown_is_order}
 use Rattle.yd_meaning.proofs.GrownStayingLemmas.{stands_held}
@@ -180,6 +176,6 @@ module _ (os : List Operation) (w : IsWritten os) where
             (grown_is_order held written (honest_set os w honest) list (grown_ids list) (is_grown list) (is_whole list) ∙ sym (ids_are held written named list)) (is_grown list);
       };
       closed = defined_closed held written named;
-      sound = λ h x e. (deleted_both held written named x e).1;
+      least = defined_least held written named;
       keys = λ parent. refl;
     }

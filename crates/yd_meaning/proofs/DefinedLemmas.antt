@@ -1,7 +1,7 @@
 -- The defined document, for every set: its lists are whole, and it deletes what must be deleted by their order.
 use Rattle.std.proofs.Common.{◌≡◌, Bool, true, ◌↔◌, List, sym, subst}
 use Rattle.yd_words.specs.Member.{IsIn, AreDistinct}
-use Rattle.yd_words.proofs.TestLemmas.{both_hold, hold_both}
+use Rattle.yd_words.proofs.TestLemmas.{both_hold}
 use Rattle.yd_ids.specs.declared.id.Id.{Id}
 use Rattle.yd_ops.specs.declared.lists.List.{List as DocList}
 use Rattle.yd_ops.specs.Operation.{Operation}
@@ -15,9 +15,8 @@ use Rattle.yd_meaning.proofs.DocumentLemmas.{order_distinct, operations_held}
 use Rattle.yd_meaning.proofs.HeldListLemmas.{in_order_of}
 use Rattle.yd_meaning.proofs.StandingTableLemmas.{standing_table}
 use Rattle.yd_meaning.specs.Own.{ids_in}
-use Rattle.yd_meaning.specs.Deletions.{MustBeDeleted, for_name, for_loss, for_key, for_item, AreClosedDeletions}
-use Rattle.yd_meaning.proofs.DeletionLemmas.{deleted_by_definition}
-use Rattle.yd_meaning.proofs.GrownStayingLemmas.{stands_held}
+use Rattle.yd_meaning.specs.Deletions.{AreClosedDeletions, AreLeastDeletions}
+use Rattle.yd_meaning.proofs.DeletionLemmas.{definition_closed, definition_least}
 
 module _ (held : List Operation) (written : IsWritten held) (named : Id → Bool) where
   table : IsTable (rows_of (standing held))
@@ -44,19 +43,9 @@ module _ (held : List Operation) (written : IsWritten held) (named : Id → Bool
   pub deleted_both : (x : Id) → (document_with held named).deleted x ≡ true → (has_operation held x ≡ true) × (is_deleted held named x ≡ true)
   deleted_both x e = both_hold (has_operation held x) (is_deleted held named x) e
 
-  stands_there : (list : DocList) (x : Id) → IsIn x (ids_in (document_with held named) list) → has_operation held x ≡ true
-  stands_there list x i = stands_held held written x ((defined_each list x).0 i).0
-
-  must_be_held : (x : Id) → MustBeDeleted (ids_in (document_with held named)) held named (document_with held named).deleted x → has_operation held x ≡ true
-  must_be_held x (for_name there by) = there
-  must_be_held x (for_loss lost) = (both_hold (has_operation held x) _ lost).0
-  must_be_held x (for_key list i key other) = stands_there list x i
-  must_be_held x (for_item list i item by) = stands_there list x i
-
-  -- all is deleted that must be
+  -- all is deleted that must be, and nothing else
   pub defined_closed : AreClosedDeletions (ids_in (document_with held named)) held named (document_with held named).deleted
-  defined_closed = record {
-    all = λ x must. hold_both (has_operation held x) (is_deleted held named x) (must_be_held x must)
-        (deleted_by_definition held written named (ids_in (document_with held named)) ids_are (document_with held named).deleted (λ y e. (deleted_both y e).1) x must);
-    only_held = λ x e. (deleted_both x e).0;
-  }
+  defined_closed = definition_closed held written named (ids_in (document_with held named)) ids_are
+
+  pub defined_least : AreLeastDeletions (ids_in (document_with held named)) held named (document_with held named).deleted
+  defined_least = definition_least held written named (ids_in (document_with held named)) ids_are

@@ -1,5 +1,5 @@
--- What must be deleted by the order of grown lists, and what the definitions delete where the edit rules are kept.
-use Rattle.std.proofs.Common.{◌≡◌, ◌≢◌, Bool, true, false, ◌||◌, ◌&&◌, List, Some, ◌⊎◌, inl, inr, refl, sym, ap, ◌∙◌, subst}
+-- What must be deleted by the order of lists, and what the definitions delete where this is the origin order.
+use Rattle.std.proofs.Common.{◌≡◌, ◌≢◌, Bool, true, false, ◌||◌, ◌&&◌, List, Some, inl, inr, refl, sym, ap, ◌∙◌, subst}
 use Rattle.std.proofs.lemmas.Bool.{cases_Bool, or_left, or_right}
 use Rattle.yd_words.specs.Member.{IsIn}
 use Rattle.yd_words.proofs.TestLemmas.{both_hold, hold_both}
@@ -17,7 +17,7 @@ use Rattle.yd_meaning.proofs.DeletedLemmas.{deleted_among_is, deleted_among-true
 use Rattle.yd_meaning.proofs.HeldListLemmas.{in_order_of}
 use Rattle.yd_meaning.proofs.NestingLemmas.{standing_item}
 use Rattle.yd_meaning.proofs.StandingTableLemmas.{standing_table}
-use Rattle.yd_meaning.specs.Deletions.{MustBeDeleted, for_name, for_loss, for_key, for_item, AreClosedDeletions}
+use Rattle.yd_meaning.specs.Deletions.{MustBeDeleted, for_name, for_loss, for_key, for_item, AreClosedDeletions, AreLeastDeletions}
 use Rattle.yd_meaning.proofs.GrownStayingLemmas.{stands_held, lost_is, stands_not_lost}
 
 -- two tests of which each holds where the other does give one answer
@@ -81,22 +81,33 @@ module _ (held : List Operation) (written : IsWritten held) (named : Id → Bool
         deleted_as_defined e (by_item {x = x} {y = y} item by) = closed.all x (for_item (list_of stands x) (list_has x e) item
             (deleted_as_defined (standing_item held written x y e item) by))
 
-        all_deleted : (x : Id) → has_operation held x ≡ true → is_deleted held named x ≡ true → deleted x ≡ true
+        pub all_deleted : (x : Id) → has_operation held x ≡ true → is_deleted held named x ≡ true → deleted x ≡ true
         all_deleted x there e = elim (cases_Bool (has_operation stands x)) [
           | inl up ↦ deleted_as_defined up (deleted_is x up e)
           | inr none ↦ closed.all x (for_loss (lost_is held x there none))
         ]
 
-        -- ---- lemmas for callers
+      must_be_held : (x : Id) → MustBeDeleted lists held named deleted x → has_operation held x ≡ true
+      must_be_held x (for_name there by) = there
+      must_be_held x (for_loss lost) = (both_hold (has_operation held x) _ lost).0
+      must_be_held x (for_key list i key other) = stands_held held written x (in_list list x i).0
+      must_be_held x (for_item list i item by) = stands_held held written x (in_list list x i).0
 
-        pub closed_is_deleted : ((y : Id) → deleted y ≡ true → is_deleted held named y ≡ true) → (x : Id) → deleted x ≡ (has_operation held x && is_deleted held named x)
-        closed_is_deleted sound x = both_ways (deleted x) (has_operation held x && is_deleted held named x)
-            (λ e. hold_both (has_operation held x) (is_deleted held named x) (closed.only_held x e) (sound x e))
-            (λ e. let b = both_hold (has_operation held x) (is_deleted held named x) e in all_deleted x b.0 b.1)
+    -- ---- lemmas for callers
 
-      pub adding_is_sound : ((y : Id) → deleted y ≡ true → is_deleted held named y ≡ true) → (more : Id → Bool) →
-          ((x : Id) → more x ≡ true → (deleted x ≡ true) ⊎ MustBeDeleted lists held named deleted x) → (x : Id) → more x ≡ true → is_deleted held named x ≡ true
-      adding_is_sound sound more why x e = elim (why x e) [
-        | inl there ↦ sound x there
-        | inr must ↦ deleted_by_definition sound x must
-      ]
+    -- by the definitions all is deleted that must be
+    pub definition_closed : AreClosedDeletions lists held named (λ x. has_operation held x && is_deleted held named x)
+    definition_closed = record {
+      all = λ x must. hold_both (has_operation held x) (is_deleted held named x) (must_be_held (λ y. has_operation held y && is_deleted held named y) x must)
+          (deleted_by_definition (λ y. has_operation held y && is_deleted held named y) (λ y e. (both_hold (has_operation held y) (is_deleted held named y) e).1) x must);
+      only_held = λ x e. (both_hold (has_operation held x) (is_deleted held named x) e).0;
+    }
+
+    -- and nothing else
+    pub definition_least : AreLeastDeletions lists held named (λ x. has_operation held x && is_deleted held named x)
+    definition_least other closed x e = let b = both_hold (has_operation held x) (is_deleted held named x) e in all_deleted other closed x b.0 b.1
+
+    pub least_is_deleted : (deleted : Id → Bool) → AreClosedDeletions lists held named deleted → AreLeastDeletions lists held named deleted →
+        (x : Id) → deleted x ≡ (has_operation held x && is_deleted held named x)
+    least_is_deleted deleted closed least x = both_ways (deleted x) (has_operation held x && is_deleted held named x)
+        (least (λ y. has_operation held y && is_deleted held named y) definition_closed x) (definition_least deleted closed x)

@@ -16,7 +16,7 @@ use Rattle.yd_meaning.proofs.StandingTableLemmas.{standing_table}
 use Rattle.yd_meaning.proofs.VectorLemmas.{held_written}
 use Rattle.yd_meaning.specs.Grown.{StandsHonest}
 use Rattle.yd_meaning.specs.Own.{ids_in, IsOwnDocument}
-use Rattle.yd_meaning.proofs.DeletionLemmas.{closed_is_deleted}
+use Rattle.yd_meaning.proofs.DeletionLemmas.{least_is_deleted}
 use Rattle.yd_meaning.proofs.GrownHonestLemmas.{grown_is_order}
 
 -- operations of a table are those at their ids
@@ -46,7 +46,7 @@ module _ (received : List Operation) (written : IsWritten received) (honest : Ar
       ∙ ap (operations_at (standing held)) (ordered list)
 
   deleted_are : (x : Id) → document.deleted x ≡ (has_operation held x && is_deleted held named x)
-  deleted_are = closed_is_deleted held is_written named (ids_in document) ordered document.deleted own.closed (own.sound stands_honest)
+  deleted_are = least_is_deleted held is_written named (ids_in document) ordered document.deleted own.closed own.least
 
   -- ---- lemmas for callers
 

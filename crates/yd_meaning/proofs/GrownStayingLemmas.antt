@@ -1,6 +1,6 @@
--- What stays held is a closed part of what stands, so its lists grew as before, and its deletions are sound.
-use Rattle.std.proofs.Common.{◌≡◌, Bool, true, false, ◌&&◌, ◌||◌, not, List, [], ◌∷◌, inl, inr, refl, sym, ap, ◌∙◌, subst, true≢false}
-use Rattle.std.proofs.lemmas.Bool.{cases_Bool, or_left, or_right}
+-- What stays held is a closed part of what stands, so its lists grew as before.
+use Rattle.std.proofs.Common.{◌≡◌, Bool, true, false, ◌&&◌, not, List, [], ◌∷◌, inl, inr, refl, sym, ap, ◌∙◌, subst, true≢false}
+use Rattle.std.proofs.lemmas.Bool.{cases_Bool}
 use Rattle.yd_words.specs.Member.{IsIn}
 use Rattle.yd_words.proofs.OptionLemmas.{if_some_map}
 use Rattle.yd_ids.specs.declared.id.Id.{Id}
@@ -10,22 +10,18 @@ use Rattle.yd_ops.specs.Operation.{Operation}
 use Rattle.yd_origins.specs.Table.{Row, ids_of, IsTable}
 use Rattle.yd_origins.specs.Growing.{GrowsByScan}
 use Rattle.yd_origins.specs.Operations.{IsClosedPart}
-use Rattle.yd_origins.proofs.DeletedLemmas.{deletes_no_more}
-use Rattle.yd_origins.proofs.PastLemmas.{closed_list, closed_honest}
+use Rattle.yd_origins.proofs.PastLemmas.{closed_list}
 use Rattle.yd_ops.specs.Received.{has_operation, IsWritten}
-use Rattle.yd_ops.proofs.OneOfLemmas.{operation_with, id_there, ids_stay}
+use Rattle.yd_ops.proofs.OneOfLemmas.{ids_stay}
 use Rattle.yd_meaning.specs.Names.{item_of_list}
 use Rattle.yd_meaning.specs.Held.{standing, is_lost}
 use Rattle.yd_meaning.specs.Order.{row_of, rows_of, list_or_root, list_carried, operation_set, list_of}
-use Rattle.yd_meaning.specs.Deleted.{is_deleted_among, is_deleted}
-use Rattle.yd_meaning.proofs.DeletedLemmas.{deleted_among_is, deleted_among-true}
 use Rattle.yd_meaning.proofs.NestingLemmas.{item_earlier}
 use Rattle.yd_meaning.proofs.RowLemmas.{row_one, has_row, row_has, list_carried-one}
 use Rattle.yd_meaning.proofs.StandingLemmas.{standing_in}
 use Rattle.yd_meaning.proofs.StandingTableLemmas.{IsEarlier, standing_table}
-use Rattle.yd_meaning.specs.Grown.{table_in, IsGrown, StandsHonest}
+use Rattle.yd_meaning.specs.Grown.{table_in, IsGrown}
 use Rattle.yd_meaning.specs.Staying.{AreSeenAlike, StaysHeld}
-use Rattle.yd_meaning.specs.Deletions.{AreSoundDeletions}
 use Rattle.yd_meaning.specs.GrowingLaw.{StaysGrown}
 use Rattle.yd_meaning.proofs.GrowthLemmas.{grows_on, grown_within, IsFrontOf}
 use Rattle.yd_meaning.proofs.GrownPartLemmas.{list_front}
@@ -121,26 +117,3 @@ module _ (part held : List Operation) (w : IsWritten held) (stays : StaysHeld pa
     same = λ list ids grown. grown_within (table_in (standing part) list) (table_in (standing held) list) (is_front list) ids grown;
     further = lists_grown;
   }
-
-  part_honest : StandsHonest held → StandsHonest part
-  part_honest honest = closed_honest (operation_set (standing part)) (operation_set (standing held)) table closed_part honest
-
-  module _ (named more : Id → Bool) (among : (x : Id) → named x ≡ true → more x ≡ true) (honest : StandsHonest held) where
-    among_stands : (x : Id) → has_operation (standing part) x ≡ true → is_deleted part named x ≡ true → is_deleted_among (standing held) more x ≡ true
-    among_stands x e by =
-        let deleted : is_deleted_among (standing part) named x ≡ true = sym (ap (λ t. t || is_deleted_among (standing part) named x) (stands_not_lost part x e)) ∙ by in
-        let up : has_operation (standing held) x ≡ true = (let (o, i, g) = operation_with (standing part) x e in let (q, j, a) = stays.stands o i in
-        id_there (standing held) q x j (a.id ∙ g)) in
-        deleted_among-true held w more up (deletes_no_more (operation_set (standing part)) (operation_set (standing held)) table honest closed_part named more among
-        (has_row (standing part) x e) (deleted_among_is part stays.written named x deleted))
-
-    -- what the part deletes the whole deletes
-    deletes : (x : Id) → has_operation part x ≡ true → is_deleted part named x ≡ true → is_deleted held more x ≡ true
-    deletes x there by = elim (cases_Bool (has_operation (standing part) x)) [
-      | inl e ↦ or_right (is_lost held x) (is_deleted_among (standing held) more x) (among_stands x e by)
-      | inr none ↦ or_left (is_lost held x) (is_deleted_among (standing held) more x) (stays.lost x (lost_is part x there none))
-    ]
-
-  pub sound_stays : (named more deleted : Id → Bool) → ((x : Id) → named x ≡ true → more x ≡ true) → ((x : Id) → deleted x ≡ true → has_operation part x ≡ true) →
-      AreSoundDeletions part named deleted → AreSoundDeletions held more deleted
-  sound_stays named more deleted among only_held sound honest x e = deletes named more among honest x (only_held x e) (sound (part_honest honest) x e)

@@ -20,6 +20,7 @@ pub mod HeldLemmas
 pub mod HeldListLemmas
 pub mod HonestLemmas
 pub mod HonestListLemmas
+pub mod LeastLemmas
 pub mod LostLemmas
 pub mod MadeLemmas
 pub mod NeedLemmas

@@ -9,7 +9,7 @@ use Rattle.yd_meaning.proofs.VectorLemmas.{held_written}
 use Rattle.yd_meaning.specs.Own.{IsOwnDocument}
 use Rattle.yd_meaning.specs.Deletions.{for_name}
 use Rattle.yd_meaning.specs.Replica.{IsReplicaDocument}
-use Rattle.yd_meaning.proofs.DefinedLemmas.{defined_each, defined_once, defined_as_held, defined_closed}
+use Rattle.yd_meaning.proofs.DefinedLemmas.{defined_each, defined_once, defined_as_held, defined_closed, defined_least}
 use Rattle.yd_meaning.proofs.GrownDocumentLemmas.{own_is_defined}
 
 -- ---- lemmas for callers
@@ -22,6 +22,7 @@ module _ (r : Received) (written : IsWritten r.operations) where
     once = defined_once (held_set r.operations) (held_written r.operations written) (is_named r.deletes);
     as_held = defined_as_held (held_set r.operations) (held_written r.operations written) (is_named r.deletes);
     closed = defined_closed (held_set r.operations) (held_written r.operations written) (is_named r.deletes);
+    least = defined_least (held_set r.operations) (held_written r.operations written) (is_named r.deletes);
     keys = λ parent. refl;
     defined = λ honest. refl;
   }
@@ -33,6 +34,7 @@ module _ (r : Received) (written : IsWritten r.operations) where
     once = own.lists.once;
     as_held = own.lists.as_held;
     closed = own.closed;
+    least = own.least;
     keys = own.keys;
     defined = λ honest. own_is_defined r.operations written honest document (is_named r.deletes) own;
   }

@@ -8,8 +8,6 @@ use Rattle.yd_origins.specs.Deleted.{last_of}
 use Rattle.yd_ops.specs.Received.{has_operation}
 use Rattle.yd_meaning.specs.Names.{has_key, item_of_list}
 use Rattle.yd_meaning.specs.Held.{is_lost}
-use Rattle.yd_meaning.specs.Deleted.{is_deleted}
-use Rattle.yd_meaning.specs.Grown.{StandsHonest}
 
 -- an id must be deleted: it is held and named; it is lost; it stands in a list with a key, and not last; or the item of its
 -- list is deleted
@@ -24,9 +22,9 @@ pub record AreClosedDeletions (lists : DocList → List Id) (held : List Operati
   pub all : (x : Id) → MustBeDeleted lists held named deleted x → deleted x ≡ true
   pub only_held : (x : Id) → deleted x ≡ true → has_operation held x ≡ true
 
--- where what stands keeps the edit rules, the definitions delete what is deleted
-abbrev pub AreSoundDeletions : List Operation → (Id → Bool) → (Id → Bool) → Type 0
-AreSoundDeletions held named deleted = StandsHonest held → (x : Id) → deleted x ≡ true → is_deleted held named x ≡ true
+-- nothing is deleted that need not be: it is so in each set of deletions that is closed
+abbrev pub AreLeastDeletions : (DocList → List Id) → List Operation → (Id → Bool) → (Id → Bool) → Type 0
+AreLeastDeletions lists held named deleted = (other : Id → Bool) → AreClosedDeletions lists held named other → (x : Id) → deleted x ≡ true → other x ≡ true
 
 -- what is deleted now besides what was: what is named or lost, and was not so in the part; of lists with a key that are not as
 -- they were all but the last; and under a deleted item what came, or what was there and the item was not deleted

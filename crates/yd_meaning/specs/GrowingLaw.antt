@@ -1,5 +1,5 @@
 -- The laws of grown documents, as statements.
-use Rattle.std.specs.Prelude.{◌≡◌, ◌⊎◌, ◌&&◌, Bool, true, List, []}
+use Rattle.std.specs.Prelude.{◌≡◌, ◌&&◌, Bool, true, List, [], filter}
 use Rattle.yd_words.specs.Member.{AreDistinct}
 use Rattle.yd_ids.specs.declared.id.Id.{Id}
 use Rattle.yd_ops.specs.declared.lists.List.{List as DocList}
@@ -17,7 +17,7 @@ use Rattle.yd_meaning.specs.Document.{Document, document_with, document_of}
 use Rattle.yd_meaning.specs.Law.{IsPartOf}
 use Rattle.yd_meaning.specs.Grown.{table_in, IsGrown, HasAllOfList, StandsHonest}
 use Rattle.yd_meaning.specs.Staying.{StaysHeld}
-use Rattle.yd_meaning.specs.Deletions.{MustBeDeleted, AreClosedDeletions, AreSoundDeletions, DeletesBesides}
+use Rattle.yd_meaning.specs.Deletions.{AreClosedDeletions, AreLeastDeletions, DeletesBesides}
 use Rattle.yd_meaning.specs.Own.{IsOwnDocument}
 use Rattle.yd_meaning.specs.Replica.{IsReplicaDocument}
 
@@ -64,11 +64,10 @@ pub record HeldStays : Type 0 where
 
 -- ---- deletions
 
--- where what stands keeps the edit rules, and the lists are in the origin order, deletions that are closed and sound are
--- those of the definitions
-abbrev pub ClosedIsDeleted : Type 0
-ClosedIsDeleted = (held : List Operation) → IsWritten held → StandsHonest held → (lists : DocList → List Id) (named deleted : Id → Bool) →
-    ((list : DocList) → lists list ≡ order_of (standing held) list) → AreClosedDeletions lists held named deleted → AreSoundDeletions held named deleted →
+-- where the lists are in the origin order, what must be deleted and nothing else is what the definitions delete
+abbrev pub LeastIsDeleted : Type 0
+LeastIsDeleted = (held : List Operation) → IsWritten held → (lists : DocList → List Id) (named deleted : Id → Bool) →
+    ((list : DocList) → lists list ≡ order_of (standing held) list) → AreClosedDeletions lists held named deleted → AreLeastDeletions lists held named deleted →
     (x : Id) → deleted x ≡ (has_operation held x && is_deleted held named x)
 
 -- what was closed in a part is closed in the whole, once what must be deleted besides is so
@@ -76,18 +75,13 @@ abbrev pub ClosedGoesOn : Type 0
 ClosedGoesOn = (old_lists lists : DocList → List Id) (part held : List Operation) (named more deleted now : Id → Bool) →
     AreClosedDeletions old_lists part named deleted → DeletesBesides old_lists lists part held named more deleted now → AreClosedDeletions lists held more now
 
--- what was deleted soundly in a part that stays held is sound in the whole, where no fewer ids are named
-abbrev pub SoundStays : Type 0
-SoundStays = (part held : List Operation) → IsWritten held → StaysHeld part held → (named more deleted : Id → Bool) →
-    ((x : Id) → named x ≡ true → more x ≡ true) → ((x : Id) → deleted x ≡ true → has_operation part x ≡ true) →
-    AreSoundDeletions part named deleted → AreSoundDeletions held more deleted
-
--- where the lists grew by scans and are whole, to delete what must be deleted stays sound
-abbrev pub AddingIsSound : Type 0
-AddingIsSound = (held : List Operation) → IsWritten held → (lists : DocList → List Id) (named deleted : Id → Bool) →
-    ((list : DocList) → IsGrown (standing held) list (lists list)) → ((list : DocList) → HasAllOfList (standing held) list (lists list)) →
-    AreSoundDeletions held named deleted → (more : Id → Bool) → ((x : Id) → more x ≡ true → (deleted x ≡ true) ⊎ MustBeDeleted lists held named deleted x) →
-    AreSoundDeletions held named more
+-- what need be deleted in a part that stays held need be so in the whole, where each list has what it had in its order, and no
+-- fewer ids are named
+abbrev pub LeastStays : Type 0
+LeastStays = (part held : List Operation) → StaysHeld part held → (old_lists lists : DocList → List Id) →
+    ((list : DocList) → old_lists list ≡ filter (has_operation part) (lists list)) → (named more deleted : Id → Bool) →
+    ((x : Id) → named x ≡ true → more x ≡ true) → AreLeastDeletions old_lists part named deleted →
+    (other : Id → Bool) → AreClosedDeletions lists held more other → (x : Id) → deleted x ≡ true → other x ≡ true
 
 -- ---- documents
 

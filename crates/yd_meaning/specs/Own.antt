@@ -10,7 +10,7 @@ use Rattle.yd_meaning.specs.Held.{standing}
 use Rattle.yd_meaning.specs.Order.{list_of}
 use Rattle.yd_meaning.specs.Document.{Document, keys_among}
 use Rattle.yd_meaning.specs.Grown.{IsGrown}
-use Rattle.yd_meaning.specs.Deletions.{AreClosedDeletions, AreSoundDeletions}
+use Rattle.yd_meaning.specs.Deletions.{AreClosedDeletions, AreLeastDeletions}
 
 -- the ids of a document's list, in its order
 abbrev pub ids_in : Document → DocList → List Id
@@ -25,9 +25,9 @@ pub record HasGrownLists (document : Document) (held : List Operation) : Type 0 
   pub grown : (list : DocList) → IsGrown (standing held) list (ids_in document list)
 
 -- a document is a replica's own of held operations, where deletions name some ids: its lists grew by scans; it deletes what
--- must be deleted by their order, and, where the edit rules are kept, nothing else; and it has the keys of what stands
+-- must be deleted by their order, and nothing else; and it has the keys of what stands
 pub record IsOwnDocument (document : Document) (held : List Operation) (named : Id → Bool) : Type 0 where
   pub lists : HasGrownLists document held
   pub closed : AreClosedDeletions (ids_in document) held named document.deleted
-  pub sound : AreSoundDeletions held named document.deleted
+  pub least : AreLeastDeletions (ids_in document) held named document.deleted
   pub keys : (parent : Parent) → document.keys parent ≡ keys_among (standing held) parent

@@ -1,7 +1,7 @@
 //! The laws of what updates mean, each the contract of an empty function.
 
 ghost use Rattle.yd_meaning.specs.Law.{HeldIsLeast, HeldGrows, VectorCounts, RepliesComplete, LostFollowsSources, HeldIsTable, ListsFollowOrigins, ListsAreWhole, HonestListsFit, HonestOrderIsStrict, HonestListsGrowInOrder, ClosedPartsStay, MadeStaysHonest, DeletedFollowsItems, DocumentsConverge};
-ghost use Rattle.yd_meaning.specs.GrowingLaw.{GrownIsOrder, GrowthGoesOn, ListsCanGrow, GrownStays, HeldStays, ClosedIsDeleted, ClosedGoesOn, SoundStays, AddingIsSound, OwnIsDefined, ReplicasAreDefined};
+ghost use Rattle.yd_meaning.specs.GrowingLaw.{GrownIsOrder, GrowthGoesOn, ListsCanGrow, GrownStays, HeldStays, LeastIsDeleted, ClosedGoesOn, LeastStays, OwnIsDefined, ReplicasAreDefined};
 
 /// What is held is the least set that has each received operation whose needs it has.
 pub fn held_is_least()
@@ -103,24 +103,20 @@ pub fn held_stays()
     ensures { HeldStays }
 {}
 
-/// Where lists are in the origin order, what is closed and sound is what the definitions delete.
-pub fn closed_is_deleted()
-    ensures { ClosedIsDeleted }
+/// Where lists are in the origin order, what must be deleted and nothing else is what the definitions
+/// delete.
+pub fn least_is_deleted()
+    ensures { LeastIsDeleted }
 {}
 
-/// What was closed is closed once more is held, where what must be deleted besides is deleted.
+/// What was closed is closed as more is held, where what must be deleted besides is deleted.
 pub fn closed_goes_on()
     ensures { ClosedGoesOn }
 {}
 
-/// What was deleted soundly is sound once more is held and more is named.
-pub fn sound_stays()
-    ensures { SoundStays }
-{}
-
-/// Where lists grew by scans, deleting what must be by their order is sound.
-pub fn adding_is_sound()
-    ensures { AddingIsSound }
+/// What need be deleted need be so as more is held and more is named.
+pub fn least_stays()
+    ensures { LeastStays }
 {}
 
 /// Where what is held keeps the edit rules, the own document is just the one that this defines.

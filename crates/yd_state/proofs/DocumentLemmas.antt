@@ -81,7 +81,7 @@ module _ (s : GrownValue) (whole : IsWhole s) where
   own_by = record {
     lists = grown_by;
     closed = whole.own.closed;
-    sound = whole.own.sound;
+    least = whole.own.least;
     keys = λ parent. refl;
   }
 

@@ -25,7 +25,7 @@ use Rattle.yd_held.specs.Turn.{LosesOne, TellsOrder}
 use Rattle.yd_held.proofs.TryingLemmas.{got_in}
 use Rattle.yd_listing.proofs.LawLemmas.{find_name}
 use Rattle.yd_state.specs.State.{document_in}
-use Rattle.yd_state.specs.Grown.{GrownValue, held_by, units_of, ids_of, seen_of, IsWhole}
+use Rattle.yd_state.specs.Grown.{GrownValue, held_by, ids_of, seen_of, IsWhole}
 use Rattle.yd_state.specs.Growing.{LosesNone, Grows}
 use Rattle.yd_state.specs.Settling.{ListsGrow, GrowsThen}
 use Rattle.yd_state.proofs.DocumentLemmas.{units_same, seen_sound}

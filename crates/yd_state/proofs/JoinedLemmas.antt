@@ -1,6 +1,5 @@
 -- Where what is held and a store keep what they tell, so does a state.
 use Rattle.std.proofs.Common.{◌≡◌, true, List, map, sym, subst}
-use Rattle.yd_ids.specs.declared.id.Id.{Id}
 use Rattle.yd_ops.specs.declared.lists.List.{List as DocList}
 use Rattle.yd_ops.specs.Operation.{Operation}
 use Rattle.yd_ops.specs.ReceivedLaw.{IsReceived}

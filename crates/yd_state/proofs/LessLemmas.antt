@@ -10,7 +10,6 @@ use Rattle.yd_meaning.specs.Held.{is_gone}
 use Rattle.yd_meaning.specs.Staying.{AreSeenAlike}
 use Rattle.yd_store.specs.Lowering.{lowered_to}
 use Rattle.yd_store.specs.Halves.{torn}
-use Rattle.yd_store.specs.Units.{HasOperation}
 use Rattle.yd_kept.specs.Kept.{KeptValue}
 use Rattle.yd_entries.specs.declared.entry.Entry.{Entry}
 use Rattle.yd_entries.specs.Entries.{operations_of_taken, operations_told, covers, is_held}

@@ -11,17 +11,14 @@ use Rattle.yd_ops.specs.Operation.{Operation}
 use Rattle.yd_origins.specs.Table.{ids_of}
 use Rattle.yd_arena.specs.Arena.{next_clock}
 use Rattle.yd_ops.specs.Received.{IsWritten}
-use Rattle.yd_meaning.specs.Held.{held_set, standing}
-use Rattle.yd_meaning.specs.Law.{IsPartOf}
+use Rattle.yd_meaning.specs.Held.{standing}
 use Rattle.yd_meaning.specs.Order.{rows_of, order_of}
 use Rattle.yd_meaning.specs.Document.{Document, operations_at}
 use Rattle.yd_meaning.proofs.DocumentLemmas.{found_before}
 use Rattle.yd_meaning.proofs.StandingTableLemmas.{standing_table}
 use Rattle.yd_meaning.specs.Grown.{table_in, StandsHonest}
 use Rattle.yd_meaning.specs.Own.{ids_in, HasGrownLists}
-use Rattle.yd_meaning.specs.Staying.{StaysHeld}
 use Rattle.yd_meaning.proofs.GrowthLemmas.{grows_on}
-use Rattle.yd_meaning.proofs.GrownHeldLemmas.{part_stays_held}
 use Rattle.yd_meaning.proofs.GrownHonestLemmas.{grown_is_order}
 use Rattle.yd_meaning.proofs.GrownStayingLemmas.{stays_grown}
 use Rattle.yd_kept.specs.Filling.{FillsLists}
@@ -29,11 +26,10 @@ use Rattle.yd_kept.specs.Telling.{IsSoundStore, TellsLists}
 use Rattle.yd_kept.proofs.FillingLemmas.{slice_below, filling_starts, filling_stays}
 use Rattle.yd_kept.proofs.TellingLemmas.{filled_lists_are_grown}
 use Rattle.yd_kept.specs.Kept.{KeptValue, KeepsHeld}
-use Rattle.yd_received.specs.Received.{taken_of, held_of}
-use Rattle.yd_entries.proofs.WrittenLemmas.{taken_written}
+use Rattle.yd_received.specs.Received.{held_of}
 use Rattle.yd_held.specs.Held.{HeldValue, HoldsAll}
 use Rattle.yd_held.specs.Turn.{AreHeldInTurn, HoldsOn}
-use Rattle.yd_held.proofs.HoldingLemmas.{is_written, has_needs}
+use Rattle.yd_held.proofs.HoldingLemmas.{is_written}
 use Rattle.yd_held.proofs.KeptLemmas.{holds_holding}
 use Rattle.yd_state.specs.Placing.{KeepsIds, KeepsAll, CanBePlaced}
 use Rattle.yd_state.specs.PlacingLaw.{IsEmptyStore, EntriesCanBePlaced, KeepsLists, KeepingKeepsAll, StoreTellsLists}

@@ -2,7 +2,6 @@
 use Rattle.std.proofs.Common.{◌≡◌, ℕ, ◌<◌, ◌≤◌, ◌+◌, ◌-◌, true, List, [], ◌∷◌, ◌++◌, ◌⊎◌, inl, inr, Option, Some, None, tests, length, take, get_or, refl, sym, ap, ◌∙◌, subst, arith}
 use Rattle.std.specs.Prelude.{nat_eq, slice_get}
 use Rattle.std.proofs.lemmas.List.{append-nil, append_assoc, take_more, take_all}
-use Rattle.yd_words.specs.Each.{Each}
 use Rattle.std.proofs.lemmas.Option.{slice_get_within}
 use Rattle.yd_words.proofs.EachLemmas.{each_at}
 use Rattle.yd_words.specs.Member.{IsIn}
@@ -17,7 +16,7 @@ use Rattle.yd_ops.specs.Value.{RunValue}
 use Rattle.yd_ops.specs.Received.{has_operation}
 use Rattle.yd_ops.proofs.OneOfLemmas.{id_is_there}
 use Rattle.yd_meaning.specs.Held.{is_gone}
-use Rattle.yd_arena.specs.Arena.{HasUnit, runs_of, count_of, next_clock}
+use Rattle.yd_arena.specs.Arena.{HasUnit, runs_of, next_clock}
 use Rattle.yd_arena.proofs.MarkLemmas.{unit_stands}
 use Rattle.yd_store.specs.declared.halves.Torn.{Torn}
 use Rattle.yd_store.specs.declared.level.Level.{Level}
@@ -49,7 +48,7 @@ use Rattle.yd_state.specs.declared.less.Less.{Less}
 use Rattle.yd_state.specs.declared.less.Less.TheVariants.{Down, Half}
 use Rattle.yd_state.specs.Back.{IsSound}
 use Rattle.yd_state.specs.Placing.{KeepsIds}
-use Rattle.yd_state.specs.Telling.{IsHeldAs, EachIsHeld, IsLessEntry, CanBeLess, IsLessIn, IsToTell, TellsHeld, IsReady, AreReady, LeavesLess, ReadiesMore, CutsRuns}
+use Rattle.yd_state.specs.Telling.{EachIsHeld, IsLessEntry, CanBeLess, IsLessIn, IsToTell, TellsHeld, IsReady, AreReady, LeavesLess, ReadiesMore, CutsRuns}
 use Rattle.yd_state.proofs.EntryLemmas.{read_at}
 use Rattle.yd_state.proofs.LessLemmas.{of_its_entry, one_held}
 use Rattle.yd_state.proofs.PlacingLawLemmas.{held_lists, keeping_keeps_ids}

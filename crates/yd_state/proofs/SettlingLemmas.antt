@@ -11,8 +11,7 @@ use Rattle.yd_ops.specs.declared.lists.List.{List as DocList}
 use Rattle.yd_ops.specs.Operation.{Operation}
 use Rattle.yd_meaning.specs.Held.{is_named}
 use Rattle.yd_meaning.specs.Staying.{StaysHeld}
-use Rattle.yd_meaning.specs.Deletions.{MustBeDeleted, for_name, for_loss, for_key, for_item, AreClosedDeletions, AreSoundDeletions}
-use Rattle.yd_meaning.proofs.GrownStayingLemmas.{sound_stays}
+use Rattle.yd_meaning.specs.Deletions.{MustBeDeleted, for_name, for_loss, for_key, for_item, AreClosedDeletions, AreLeastDeletions}
 use Rattle.yd_kept.specs.Filling.{FillsLists}
 use Rattle.yd_kept.specs.Telling.{IsSoundStore}
 use Rattle.yd_kept.proofs.FillingLemmas.{filling_starts}
@@ -23,7 +22,7 @@ use Rattle.yd_listing.specs.Law.{is_gone}
 use Rattle.yd_listing.proofs.LawLemmas.{has_named, named_has, gone_has, has_gone, deletions_go_on}
 use Rattle.yd_state.specs.PlacingLaw.{IsEmptyStore}
 use Rattle.yd_state.specs.Placing.{KeepsIds, KeepsAll, CanBePlaced, PlacesAll}
-use Rattle.yd_state.specs.Grown.{units_named, units_of, ids_of, AreOwnDeletions}
+use Rattle.yd_state.specs.Grown.{units_named, ids_of, AreOwnDeletions}
 use Rattle.yd_state.specs.Settling.{DeletesBy, DeletesOn, DeletesAnew}
 use Rattle.yd_state.proofs.CameLemmas.{written}
 use Rattle.yd_state.proofs.BecameLemmas.{became_held}
@@ -47,11 +46,11 @@ module _ (k : HeldValue) (holds : HoldsAll k) (was it : KeptValue) (order : List
   pub deletes_on : (deleted waiting more besides now : List Span) → DeletesBy k order it deleted waiting more besides now → DeletesOn k deleted waiting more was it now
   deletes_on deleted waiting more besides now by part named news from =
       let same = is_gone-named deleted besides now by.grown in
-      let on = deletions_go_on sound_stays it deleted waiting more by.came besides by.drops part (held_of k.received) (written k holds it keeps) from.stays (ids_of was) (ids_of it)
+      let on = deletions_go_on it deleted waiting more by.came besides by.drops part (held_of k.received) (written k holds it keeps) from.stays (ids_of was) (ids_of it)
       (became_held k holds part from.stays was it from.keeps from.store order can placed keeps sound by.came by.came_are)
-      (is_named named) (is_named news) from.became from.own.closed from.own.sound in record {
+      (is_named named) (is_named news) from.became from.own.closed from.own.least in record {
         closed = subst (AreClosedDeletions (ids_of it) (held_of k.received) (is_named news)) same on.closed;
-        sound = subst (AreSoundDeletions (held_of k.received) (is_named news)) same on.sound;
+        least = subst (AreLeastDeletions (ids_of it) (held_of k.received) (is_named news)) same on.least;
       }
 
 -- so it is with another store that has the same lists
@@ -60,7 +59,7 @@ pub own_still : (k : HeldValue) (was it new : KeptValue) → ((list : DocList) �
 own_still k was it new same deleted waiting more now on part named news from =
     let own = on part named news from in record {
       closed = subst (λ lists. AreClosedDeletions lists (held_of k.received) (is_named news) (is_named now)) (λ i list. sym (same list) i) own.closed;
-      sound = own.sound;
+      least = subst (λ lists. AreLeastDeletions lists (held_of k.received) (is_named news) (is_named now)) (λ i list. sym (same list) i) own.least;
     }
 
 -- ---- from nothing
@@ -91,7 +90,7 @@ nothing_kept it empty = record {
 pub nothing_deleted : (it : KeptValue) → it.names ≡ [] → AreOwnDeletions it [] [] []
 nothing_deleted it names = record {
   closed = record { all = must; only_held = λ x e. absurd (true≢false (sym e)) };
-  sound = λ honest x e. absurd (true≢false (sym e));
+  least = λ other closed x e. absurd (true≢false (sym e));
 }
   where
     no_unit : (list : DocList) (x : Id) → IsIn x (ids_of it list) → ⊥

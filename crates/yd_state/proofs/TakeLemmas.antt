@@ -18,7 +18,7 @@ use Rattle.yd_ops.specs.Deletes.{deletes_of}
 use Rattle.yd_ops.specs.Received.{has_operation, with_groups, groups_of}
 use Rattle.yd_ops.proofs.ReceivedLemmas.{nothing_is_received}
 use Rattle.yd_meaning.specs.Held.{is_named}
-use Rattle.yd_meaning.specs.Deletions.{for_loss, AreClosedDeletions}
+use Rattle.yd_meaning.specs.Deletions.{for_loss, AreClosedDeletions, AreLeastDeletions}
 use Rattle.yd_kept.specs.Telling.{IsSoundStore}
 use Rattle.yd_kept.proofs.FillingLemmas.{slice_below, within_names}
 use Rattle.yd_kept.specs.Kept.{KeptValue, JoinsHeld}
@@ -50,7 +50,7 @@ pub can_settle : (anew : Bool) (old k : HeldValue) → HoldsAll old → HoldsAll
     KeepsAll (held_of old.received) it → CanSettle anew k told order it
 can_settle false old k holds now told order tells it keeps =
     (entries_can_be_placed.on old k holds now told order tells it keeps, can_be_less old k holds now told order tells it keeps)
-can_settle true old k holds now told order tells it keeps = tells
+can_settle true old k holds now told order tells it keeps = tells.1
 
 -- ---- where it was taken
 
@@ -146,6 +146,19 @@ sound_then old sound update valid k holds taken more named of is anew told order
       (own_then old sound more named is k holds told order sets e f g it now anew tells settles.deletes) settles.marks;
 }
 
+-- what is told of its parts: what was received and is held, the store, and the sets
+abbrev pub grown_of : HeldValue → KeptValue → Sets → GrownValue
+grown_of held kept sets = record { held = held; named = sets.named; waiting = sets.waiting; kept = kept; deletes = sets.deletes }
+
+-- and so it is where the deleted ids are those that the store settled
+pub settled_whole : (held : HeldValue) (kept : KeptValue) (sets : Sets) → IsWhole (grown_of held kept sets) → (update : UpdateValue) → IsValidUpdate update → (k : HeldValue) → HoldsAll k →
+    taken_of k.received ≡ with_groups (groups_of update) (taken_of held.received) → (more named : List Span) → more ≡ deletes_of update → named ≡ union_of sets.named more →
+    (anew : Bool) (told order : List ℕ) → TellsOrder anew told order held k → (it : KeptValue) (left grown now : List Span) → Settles anew k sets more kept it left grown → now ≡ grown →
+    IsWhole (record { held = k; named = named; waiting = left; kept = it; deletes = now })
+settled_whole held kept sets sound update valid k holds taken more named of is anew told order tells it left grown now settles same =
+    sound_then (grown_of held kept sets) sound update valid k holds taken more named of is anew told order tells sets refl refl refl it left now
+    (subst (Settles anew k sets more kept it left) (sym same) settles)
+
 -- ---- where no unit changed
 
 -- so it is where runs are joined
@@ -203,7 +216,7 @@ module _ (old : GrownValue) (sound : IsWhole old) (it : KeptValue) (keeps : Keep
     store = store;
     own = record {
       closed = subst (λ lists. AreClosedDeletions lists (held_by old) (is_named old.named) (is_named old.deletes)) (λ i list. map (λ (o : Operation). o.id) (sym (same_units list) i)) sound.own.closed;
-      sound = sound.own.sound;
+      least = subst (λ lists. AreLeastDeletions lists (held_by old) (is_named old.named) (is_named old.deletes)) (λ i list. map (λ (o : Operation). o.id) (sym (same_units list) i)) sound.own.least;
     };
     marks = λ x. ((λ m. (sound.marks x).0 ((keeps.marks x).0 m)), (λ h. (keeps.marks x).1 ((sound.marks x).1 h)));
   }

@@ -1,8 +1,7 @@
 -- Units are told less, one change after another: what is left to do, and that nothing is at the end.
-use Rattle.std.proofs.Common.{◌≡◌, ℕ, ◌<◌, ◌≤◌, ◌+◌, Bool, true, false, List, [], ◌∷◌, ◌++◌, ◌⊎◌, inl, inr, Option, Some, length, refl, sym, ap, ◌∙◌, subst, arith, tests, nat_eq, true≢false}
+use Rattle.std.proofs.Common.{◌≡◌, ℕ, ◌<◌, ◌≤◌, ◌+◌, Bool, true, false, List, [], ◌∷◌, ◌++◌, ◌⊎◌, inl, inr, Some, length, refl, sym, ap, ◌∙◌, subst, arith, tests, nat_eq, true≢false}
 use Rattle.std.proofs.lemmas.Bool.{cases_Bool}
-use Rattle.std.specs.Prelude.{◌↔◌, if◌then◌else◌, slice_get}
-use Rattle.yd_words.specs.Each.{Each}
+use Rattle.std.specs.Prelude.{if◌then◌else◌, slice_get}
 use Rattle.yd_words.specs.Member.{IsIn}
 use Rattle.yd_words.proofs.MemberLemmas.{in_left_part, in_right_part, in_with_last, in_each, each_in}
 use Rattle.yd_words.proofs.TestLemmas.{test_fails}
@@ -17,14 +16,13 @@ use Rattle.yd_meaning.specs.Held.{standing}
 use Rattle.yd_meaning.specs.Grown.{IsGrown}
 use Rattle.yd_arena.specs.Arena.{Placed, runs_of, units_in, next_clock}
 use Rattle.yd_arena.specs.Marks.{IsBorder}
-use Rattle.yd_store.specs.declared.halves.Torn.{Torn}
 use Rattle.yd_store.specs.declared.level.Level.{Level}
 use Rattle.yd_store.specs.declared.level.Level.TheVariants.{Gone, Deleted}
 use Rattle.yd_store.specs.Store.{Stored}
 use Rattle.yd_store.specs.Contents.{Contented, told_of}
 use Rattle.yd_store.specs.Units.{HasOperation, operations_at}
-use Rattle.yd_store.specs.Lowering.{number_of, is_in_span, lowered_to, lowered_in, MapsUnits}
-use Rattle.yd_store.specs.Halves.{torn, torn_at}
+use Rattle.yd_store.specs.Lowering.{number_of, is_in_span, lowered_to, MapsUnits}
+use Rattle.yd_store.specs.Halves.{torn}
 use Rattle.yd_store.proofs.FreedLemmas.{freed_torn, freed_lowered}
 use Rattle.yd_kept.specs.Filling.{FillsLists}
 use Rattle.yd_kept.specs.Telling.{IsSoundStore}
@@ -38,7 +36,7 @@ use Rattle.yd_state.specs.declared.less.Less.TheVariants.{Down, Half}
 use Rattle.yd_state.specs.Grown.{ids_of}
 use Rattle.yd_state.specs.Placing.{KeepsIds, KeepsAll, PlacesAll}
 use Rattle.yd_state.proofs.NamesLemmas.{has_lists}
-use Rattle.yd_state.specs.Telling.{IsHeldAs, EachIsHeld, CanBeLess, IsFor, IsToTell, told_by, TellsHeld, IsReady, AreReady, LeavesLess, KeepsStanding}
+use Rattle.yd_state.specs.Telling.{IsHeldAs, EachIsHeld, CanBeLess, IsFor, IsToTell, told_by, TellsHeld, IsReady, LeavesLess, KeepsStanding}
 use Rattle.yd_state.proofs.LessLemmas.{gone_alone, told_itself, torn_is, deleted_is, gone_is}
 
 -- what stays true while less is told

@@ -14,7 +14,7 @@ use Rattle.yd_ops.specs.ReceivedLaw.{IsReceived}
 use Rattle.yd_meaning.specs.Names.{same_list}
 use Rattle.yd_meaning.specs.Held.{standing, is_named}
 use Rattle.yd_meaning.specs.Document.{Document, keys_among}
-use Rattle.yd_meaning.specs.Deletions.{AreClosedDeletions, AreSoundDeletions}
+use Rattle.yd_meaning.specs.Deletions.{AreClosedDeletions, AreLeastDeletions}
 use Rattle.yd_kept.specs.Telling.{IsSoundStore}
 use Rattle.yd_kept.specs.Kept.{KeptValue}
 use Rattle.yd_received.specs.Received.{taken_of, held_of}
@@ -73,10 +73,10 @@ seen_of s = record { held = s.held; named = s.named; orders = map (ids_of s.kept
 abbrev pub AreWaiting : List (Client × ℕ) → List Span → List Span → Type 0
 AreWaiting vector named waiting = (x : Id) → HasId waiting x ↔ (HasId named x × (clock_of vector x.client.0 ≤ x.clock))
 
--- by the order of a store's lists all is deleted that must be, and, where what stands keeps the edit rules, nothing else
+-- by the order of a store's lists all is deleted that must be, and nothing else
 pub record AreOwnDeletions (it : KeptValue) (held : List Operation) (named deletes : List Span) : Type 0 where
   pub closed : AreClosedDeletions (ids_of it) held (is_named named) (is_named deletes)
-  pub sound : AreSoundDeletions held (is_named named) (is_named deletes)
+  pub least : AreLeastDeletions (ids_of it) held (is_named named) (is_named deletes)
 
 -- the units of a store that are marked are those with these ids
 abbrev pub AreMarked : Stored → List Span → Type 0

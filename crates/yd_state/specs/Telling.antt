@@ -1,9 +1,8 @@
 -- What is told less of held units while an update is taken: what is left to do, and what it does (own).
-use Rattle.std.specs.Prelude.{◌≡◌, ◌↔◌, ◌⊎◌, ◌<◌, ◌≤◌, ◌+◌, ◌++◌, ℕ, true, List, Some, slice_get}
+use Rattle.std.specs.Prelude.{◌≡◌, ◌↔◌, ◌⊎◌, ◌≤◌, ◌+◌, ◌++◌, ℕ, true, List, Some, slice_get}
 use Rattle.yd_words.specs.Member.{IsIn}
 use Rattle.yd_words.specs.Each.{Each}
 use Rattle.yd_ids.specs.declared.id.Id.{Id}
-use Rattle.yd_ids.specs.declared.id.Span.{Span}
 use Rattle.yd_ids.specs.Span.{InSpan}
 use Rattle.yd_ops.specs.Operation.{Operation, gone_operation, level_of, text_unit}
 use Rattle.yd_arena.specs.Arena.{count_of, next_clock}

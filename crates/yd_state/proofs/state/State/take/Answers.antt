@@ -1,4 +1,4 @@
-use Rattle.std.proofs.Common.{◌≡◌, ◌||◌, inl, inr, ap, sym, refl, ◌∙◌, subst}
+use Rattle.std.proofs.Common.{◌≡◌, ◌||◌, inl, inr, ap, sym, ◌∙◌, subst}
 use Rattle.std.specs.Prelude.{◌↔◌, ◌⊎◌, IsTrue}
 use Rattle.yd_ids.specs.declared.id.Id.{Id}
 use Rattle.yd_ids.specs.Set.{HasId}
@@ -10,13 +10,13 @@ use Rattle.yd_received.specs.Received.{taken_of, LowersOne}
 use Rattle.yd_ops.specs.Operation.{operations_of}
 use Rattle.yd_state.specs.Growing.{LosesNone, Grows}
 use Rattle.yd_state.specs.State.{received_in, IsSound}
-use Rattle.yd_state.specs.Settling.{CanSettle, Settles}
+use Rattle.yd_state.specs.Settling.{CanSettle}
 use Rattle.yd_state.proofs.BringsLemmas.{either_tells}
 use Rattle.yd_state.proofs.DocumentLemmas.{seen_sound}
 use Rattle.yd_state.proofs.GrowingLemmas.{grows_then, loses_then}
 use Rattle.yd_state.proofs.JoinedLemmas.{joined_whole, joined_grows, joined_loses}
 use Rattle.yd_state.proofs.PlacingLawLemmas.{held_lists}
-use Rattle.yd_state.proofs.TakeLemmas.{can_settle, sound_then, still_sound, still_seen}
+use Rattle.yd_state.proofs.TakeLemmas.{grown_of, can_settle, settled_whole, still_sound, still_seen}
 use Rattle.yd_state.proofs.state.State.take.Goals.{then-taken, else-taken}
 use Rattle.yd_state.proofs.state.State.take.Goals as goal
 
@@ -32,14 +32,10 @@ settle-requires c =
 pub invariant_of-self-in-Ok : goal.invariant_of-self-in-Ok
 invariant_of-self-in-Ok c =
     let new : GrownValue = record { held = c.take.new.self; named = c.put.new.set; waiting = c.in-Ok.field-0.waiting; kept = c.settle.new.kept; deletes = c.put-in-Ok.new.set } in
-    joined_whole new (sound_then
-    (record { held = c.self.inside.held; named = c.self.inside.sets.named; waiting = c.self.inside.sets.waiting; kept = c.self.inside.kept; deletes = c.self.inside.sets.deletes })
-    c.self.invariant (update_value c.args.update.now) c.requires c.take.new.self c.in_ok-taken.ensures.holds c.in_ok-taken.ensures.received
-    c.in_ok-more.more c.put.new.set c.in_ok-more.ensures (c.put.ensures ∙ c.in_ok-named.ensures)
-    c.in_ok-taken.taken.anew c.in_ok-taken.taken.told.items c.in_ok-taken.taken.order.items c.in_ok-taken.ensures.order c.self.inside.sets refl refl refl
-    c.settle.new.kept c.in-Ok.field-0.waiting c.put-in-Ok.new.set
-    (subst (Settles c.in_ok-taken.taken.anew c.take.new.self c.self.inside.sets c.in_ok-more.more c.self.inside.kept c.settle.new.kept c.in-Ok.field-0.waiting) (sym c.put-in-Ok.ensures)
-    c.in-Ok.ensures.settled))
+    joined_whole new (settled_whole c.self.inside.held c.self.inside.kept c.self.inside.sets c.self.invariant (update_value c.args.update.now) c.requires
+    c.take.new.self c.in_ok-taken.ensures.holds c.in_ok-taken.ensures.received c.in_ok-more.more c.put.new.set c.in_ok-more.ensures (c.put.ensures ∙ c.in_ok-named.ensures)
+    c.in_ok-taken.taken.anew c.in_ok-taken.taken.told.items c.in_ok-taken.taken.order.items c.in_ok-taken.ensures.order
+    c.settle.new.kept c.in-Ok.field-0.waiting _ c.put-in-Ok.new.set c.in-Ok.ensures.settled c.put-in-Ok.ensures)
     c.join.new.held c.join.ensures.held c.join.new.kept c.join.ensures.kept c.received-in-Ok.ensures.holds
     (record { lists = c.store.ensures.lists; told = c.store.ensures.told })
 
@@ -47,14 +43,10 @@ pub returns-in-Ok-clause-sound : goal.returns-in-Ok-clause-sound
 returns-in-Ok-clause-sound c =
     let new : GrownValue = record { held = c.take.new.self; named = c.put.new.set; waiting = c.in-Ok.field-0.waiting; kept = c.settle.new.kept; deletes = c.put-in-Ok.new.set } in
     seen_sound (record { held = c.join.new.held; named = c.put.new.set; waiting = c.in-Ok.field-0.waiting; kept = c.join.new.kept; deletes = c.put-in-Ok.new.set })
-    (joined_whole new (sound_then
-    (record { held = c.self.inside.held; named = c.self.inside.sets.named; waiting = c.self.inside.sets.waiting; kept = c.self.inside.kept; deletes = c.self.inside.sets.deletes })
-    c.self.invariant (update_value c.args.update.now) c.requires c.take.new.self c.in_ok-taken.ensures.holds c.in_ok-taken.ensures.received
-    c.in_ok-more.more c.put.new.set c.in_ok-more.ensures (c.put.ensures ∙ c.in_ok-named.ensures)
-    c.in_ok-taken.taken.anew c.in_ok-taken.taken.told.items c.in_ok-taken.taken.order.items c.in_ok-taken.ensures.order c.self.inside.sets refl refl refl
-    c.settle.new.kept c.in-Ok.field-0.waiting c.put-in-Ok.new.set
-    (subst (Settles c.in_ok-taken.taken.anew c.take.new.self c.self.inside.sets c.in_ok-more.more c.self.inside.kept c.settle.new.kept c.in-Ok.field-0.waiting) (sym c.put-in-Ok.ensures)
-    c.in-Ok.ensures.settled))
+    (joined_whole new (settled_whole c.self.inside.held c.self.inside.kept c.self.inside.sets c.self.invariant (update_value c.args.update.now) c.requires
+    c.take.new.self c.in_ok-taken.ensures.holds c.in_ok-taken.ensures.received c.in_ok-more.more c.put.new.set c.in_ok-more.ensures (c.put.ensures ∙ c.in_ok-named.ensures)
+    c.in_ok-taken.taken.anew c.in_ok-taken.taken.told.items c.in_ok-taken.taken.order.items c.in_ok-taken.ensures.order
+    c.settle.new.kept c.in-Ok.field-0.waiting _ c.put-in-Ok.new.set c.in-Ok.ensures.settled c.put-in-Ok.ensures)
     c.join.new.held c.join.ensures.held c.join.new.kept c.join.ensures.kept c.received-in-Ok.ensures.holds
     (record { lists = c.store.ensures.lists; told = c.store.ensures.told }))
 
@@ -74,42 +66,18 @@ returns-in-Ok-clause-brings c =
     c.brings_deletion-deletes.ensures)))
 
 pub invariant_of-self-in-Err : goal.invariant_of-self-in-Err
-invariant_of-self-in-Err c = subst (λ (h : HeldValue). IsWhole (record {
-  held = h;
-  named = c.self.inside.sets.named;
-  waiting = c.self.inside.sets.waiting;
-  kept = c.settle.new.kept;
-  deletes = c.self.inside.sets.deletes;
-})) (sym (c.put_back.ensures ∙ c.in_ok-taken.ensures.back))
-    (still_sound (record { held = c.self.inside.held; named = c.self.inside.sets.named; waiting = c.self.inside.sets.waiting; kept = c.self.inside.kept; deletes = c.self.inside.sets.deletes })
+invariant_of-self-in-Err c = subst (λ (h : HeldValue). IsWhole (grown_of h c.settle.new.kept c.self.inside.sets)) (sym (c.put_back.ensures ∙ c.in_ok-taken.ensures.back))
+    (still_sound (grown_of c.self.inside.held c.self.inside.kept c.self.inside.sets)
     c.self.invariant c.settle.new.kept (held_lists c.self.inside.kept c.settle.new.kept c.in-Err.ensures.unchanged) (record { lists = c.store-in-Err.ensures.lists; told = c.store-in-Err.ensures.told }))
 
 pub returns-clause-sound : goal.returns-clause-sound
-returns-clause-sound c = seen_sound (record {
-  held = c.put_back.new.self;
-  named = c.self.inside.sets.named;
-  waiting = c.self.inside.sets.waiting;
-  kept = c.settle.new.kept;
-  deletes = c.self.inside.sets.deletes;
-}) (subst (λ (h : HeldValue). IsWhole (record {
-  held = h;
-  named = c.self.inside.sets.named;
-  waiting = c.self.inside.sets.waiting;
-  kept = c.settle.new.kept;
-  deletes = c.self.inside.sets.deletes;
-})) (sym (c.put_back.ensures ∙ c.in_ok-taken.ensures.back))
-    (still_sound (record { held = c.self.inside.held; named = c.self.inside.sets.named; waiting = c.self.inside.sets.waiting; kept = c.self.inside.kept; deletes = c.self.inside.sets.deletes })
+returns-clause-sound c = seen_sound (grown_of c.put_back.new.self c.settle.new.kept c.self.inside.sets) (subst (λ (h : HeldValue). IsWhole (grown_of h c.settle.new.kept c.self.inside.sets)) (sym (c.put_back.ensures ∙ c.in_ok-taken.ensures.back))
+    (still_sound (grown_of c.self.inside.held c.self.inside.kept c.self.inside.sets)
     c.self.invariant c.settle.new.kept (held_lists c.self.inside.kept c.settle.new.kept c.in-Err.ensures.unchanged) (record { lists = c.store-in-Err.ensures.lists; told = c.store-in-Err.ensures.told })))
 
 pub returns-clause-unchanged : goal.returns-clause-unchanged
-returns-clause-unchanged c = ap (λ (h : HeldValue). seen_of (record {
-  held = h;
-  named = c.self.inside.sets.named;
-  waiting = c.self.inside.sets.waiting;
-  kept = c.settle.new.kept;
-  deletes = c.self.inside.sets.deletes;
-})) (c.put_back.ensures ∙ c.in_ok-taken.ensures.back)
-    ∙ still_seen (record { held = c.self.inside.held; named = c.self.inside.sets.named; waiting = c.self.inside.sets.waiting; kept = c.self.inside.kept; deletes = c.self.inside.sets.deletes })
+returns-clause-unchanged c = ap (λ (h : HeldValue). seen_of (grown_of h c.settle.new.kept c.self.inside.sets)) (c.put_back.ensures ∙ c.in_ok-taken.ensures.back)
+    ∙ still_seen (grown_of c.self.inside.held c.self.inside.kept c.self.inside.sets)
     c.self.invariant c.settle.new.kept (held_lists c.self.inside.kept c.settle.new.kept c.in-Err.ensures.unchanged)
     ∙ c.self.view_is
 
@@ -120,48 +88,28 @@ pub returns-in_err-named-clause-sound : goal.returns-in_err-named-clause-sound
 returns-in_err-named-clause-sound c = subst IsSound c.self.view_is (seen_sound _ c.self.invariant)
 
 pub returns-in_err-taken-clause-sound : goal.returns-in_err-taken-clause-sound
-returns-in_err-taken-clause-sound c = seen_sound (record {
-  held = c.take.new.self;
-  named = c.self.inside.sets.named;
-  waiting = c.self.inside.sets.waiting;
-  kept = c.self.inside.kept;
-  deletes = c.self.inside.sets.deletes;
-}) (subst (λ (h : HeldValue). IsWhole (record {
-  held = h;
-  named = c.self.inside.sets.named;
-  waiting = c.self.inside.sets.waiting;
-  kept = c.self.inside.kept;
-  deletes = c.self.inside.sets.deletes;
-})) (sym c.in_err-taken.ensures.unchanged) c.self.invariant)
+returns-in_err-taken-clause-sound c = seen_sound (grown_of c.take.new.self c.self.inside.kept c.self.inside.sets) (subst (λ (h : HeldValue). IsWhole (grown_of h c.self.inside.kept c.self.inside.sets)) (sym c.in_err-taken.ensures.unchanged) c.self.invariant)
 
 pub returns-in-Ok-clause-grows : goal.returns-in-Ok-clause-grows
 returns-in-Ok-clause-grows c =
-    let old : GrownValue = record { held = c.self.inside.held; named = c.self.inside.sets.named; waiting = c.self.inside.sets.waiting; kept = c.self.inside.kept; deletes = c.self.inside.sets.deletes } in
+    let old : GrownValue = grown_of c.self.inside.held c.self.inside.kept c.self.inside.sets in
     let new : GrownValue = record { held = c.take.new.self; named = c.put.new.set; waiting = c.in-Ok.field-0.waiting; kept = c.settle.new.kept; deletes = c.put-in-Ok.new.set } in
-    let whole : IsWhole new = sound_then
-    (record { held = c.self.inside.held; named = c.self.inside.sets.named; waiting = c.self.inside.sets.waiting; kept = c.self.inside.kept; deletes = c.self.inside.sets.deletes })
-    c.self.invariant (update_value c.args.update.now) c.requires c.take.new.self c.in_ok-taken.ensures.holds c.in_ok-taken.ensures.received
-    c.in_ok-more.more c.put.new.set c.in_ok-more.ensures (c.put.ensures ∙ c.in_ok-named.ensures)
-    c.in_ok-taken.taken.anew c.in_ok-taken.taken.told.items c.in_ok-taken.taken.order.items c.in_ok-taken.ensures.order c.self.inside.sets refl refl refl
-    c.settle.new.kept c.in-Ok.field-0.waiting c.put-in-Ok.new.set
-    (subst (Settles c.in_ok-taken.taken.anew c.take.new.self c.self.inside.sets c.in_ok-more.more c.self.inside.kept c.settle.new.kept c.in-Ok.field-0.waiting) (sym c.put-in-Ok.ensures)
-    c.in-Ok.ensures.settled) in
+    let whole : IsWhole new = settled_whole c.self.inside.held c.self.inside.kept c.self.inside.sets c.self.invariant (update_value c.args.update.now) c.requires
+    c.take.new.self c.in_ok-taken.ensures.holds c.in_ok-taken.ensures.received c.in_ok-more.more c.put.new.set c.in_ok-more.ensures (c.put.ensures ∙ c.in_ok-named.ensures)
+    c.in_ok-taken.taken.anew c.in_ok-taken.taken.told.items c.in_ok-taken.taken.order.items c.in_ok-taken.ensures.order
+    c.settle.new.kept c.in-Ok.field-0.waiting _ c.put-in-Ok.new.set c.in-Ok.ensures.settled c.put-in-Ok.ensures in
     subst (λ s. Grows s (seen_of (record { held = c.join.new.held; named = c.put.new.set; waiting = c.in-Ok.field-0.waiting; kept = c.join.new.kept; deletes = c.put-in-Ok.new.set }))) c.self.view_is
     (joined_grows new whole c.join.new.held c.join.ensures.held c.join.new.kept c.join.ensures.kept (seen_of old)
     (grows_then old new c.self.invariant whole c.in_ok-taken.taken.anew (λ anew. (c.in_ok-taken.ensures.anew anew).1) c.in-Ok.ensures.settled.grows))
 
 pub returns-in-Ok-clause-loses : goal.returns-in-Ok-clause-loses
 returns-in-Ok-clause-loses c =
-    let old : GrownValue = record { held = c.self.inside.held; named = c.self.inside.sets.named; waiting = c.self.inside.sets.waiting; kept = c.self.inside.kept; deletes = c.self.inside.sets.deletes } in
+    let old : GrownValue = grown_of c.self.inside.held c.self.inside.kept c.self.inside.sets in
     let new : GrownValue = record { held = c.take.new.self; named = c.put.new.set; waiting = c.in-Ok.field-0.waiting; kept = c.settle.new.kept; deletes = c.put-in-Ok.new.set } in
-    let whole : IsWhole new = sound_then
-    (record { held = c.self.inside.held; named = c.self.inside.sets.named; waiting = c.self.inside.sets.waiting; kept = c.self.inside.kept; deletes = c.self.inside.sets.deletes })
-    c.self.invariant (update_value c.args.update.now) c.requires c.take.new.self c.in_ok-taken.ensures.holds c.in_ok-taken.ensures.received
-    c.in_ok-more.more c.put.new.set c.in_ok-more.ensures (c.put.ensures ∙ c.in_ok-named.ensures)
-    c.in_ok-taken.taken.anew c.in_ok-taken.taken.told.items c.in_ok-taken.taken.order.items c.in_ok-taken.ensures.order c.self.inside.sets refl refl refl
-    c.settle.new.kept c.in-Ok.field-0.waiting c.put-in-Ok.new.set
-    (subst (Settles c.in_ok-taken.taken.anew c.take.new.self c.self.inside.sets c.in_ok-more.more c.self.inside.kept c.settle.new.kept c.in-Ok.field-0.waiting) (sym c.put-in-Ok.ensures)
-    c.in-Ok.ensures.settled) in
+    let whole : IsWhole new = settled_whole c.self.inside.held c.self.inside.kept c.self.inside.sets c.self.invariant (update_value c.args.update.now) c.requires
+    c.take.new.self c.in_ok-taken.ensures.holds c.in_ok-taken.ensures.received c.in_ok-more.more c.put.new.set c.in_ok-more.ensures (c.put.ensures ∙ c.in_ok-named.ensures)
+    c.in_ok-taken.taken.anew c.in_ok-taken.taken.told.items c.in_ok-taken.taken.order.items c.in_ok-taken.ensures.order
+    c.settle.new.kept c.in-Ok.field-0.waiting _ c.put-in-Ok.new.set c.in-Ok.ensures.settled c.put-in-Ok.ensures in
     let less : Type 0 = LowersOne (operations_of (update_value c.args.update.now)) (taken_of c.self.inside.held.received) in
     subst (λ s. LosesNone s (seen_of (record { held = c.join.new.held; named = c.put.new.set; waiting = c.in-Ok.field-0.waiting; kept = c.join.new.kept; deletes = c.put-in-Ok.new.set }))
     ⊎ LowersOne (operations_of (update_value c.args.update.now)) (received_in s).operations) c.self.view_is
