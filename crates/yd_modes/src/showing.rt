@@ -23,9 +23,10 @@ use yd_value::Shown;
 
 /// What a parent shows in a mode, with the types that lie in it (Yjs 13, toString, toDelta and
 /// toJSON). A type inside 100 others is not shown: an object with the key `$deep` stands for it.
-/// Calls nest no deeper than these types. It goes once along the units of the lists that it shows.
-/// For each list it looks for the name among all names, and for each map among the names of all
-/// lists once more. It changes nothing, and where it finds no memory there is no value.
+/// Calls nest no deeper than these types. It goes once along the units of each list that it shows,
+/// and under a key it looks at the last unit alone. A list is found by a hash of its name, and the
+/// keys of a map by one of the parent; those that share a code are looked at one by one. It changes
+/// nothing, and where it finds no memory there is no value.
 pub fn show(
     alloc: Global,
     replica: &Replica,
