@@ -1,14 +1,13 @@
 'use strict';
 
-// Lines of a script on lists, maps and types: what each is in Yjs, and lines by chance.
+// Lines of a script on roots and the types in them: what each is in Yjs, and lines by chance.
 
 const Y = require('yjs');
+const texts = require('./edit_texts.js');
 
 const KEYS = ['at', 'class', 'жук'];
 // The keys of an object come in the order of their bytes, in which ydoc writes them.
 const VALUES = [0, -7, 'x', 'жук', null, true, [], { at: [1, null], to: 'x' }];
-const WORDS = ['a', 'bc '];
-const MARKS = [['bold', true], ['bold', null], ['size', 7]];
 const KINDS = ['array', 'map', 'text', 'fragment', 'elementtext', ['element', 'p']];
 const XML_KINDS = ['elementtext', ['element', 'p'], ['element', 'br']];
 
@@ -26,15 +25,18 @@ function madeOf(kind) {
   return Array.isArray(kind) ? new Y.XmlElement(kind[1]) : MADE[kind]();
 }
 
-/** What each line is in Yjs. Attributes of an element are its map. */
+/** Puts a value or a type under a key. Attributes of an element are its map. */
+function put(type, key, value) {
+  return type instanceof Y.Map ? type.set(key, value) : type.setAttribute(key, value);
+}
+
+/** What each line is in Yjs. */
 const PLAYED = {
-  insert: (type, index, words) => type.insert(index, words),
-  delete: (type, index, length) => type.delete(index, length),
-  format: (type, index, length, key, value) => type.format(index, length, { [key]: value }),
+  ...texts.PLAYED,
   push: (type, index, values) => type.insert(index, values),
   child: (type, index, kind) => type.insert(index, [madeOf(kind)]),
-  set: (type, key, value) => (type instanceof Y.Map ? type.set(key, value) : type.setAttribute(key, value)),
-  settype: (type, key, kind) => type.set(key, madeOf(kind)),
+  set: (type, key, value) => put(type, key, value),
+  settype: (type, key, kind) => put(type, key, madeOf(kind)),
   unset: (type, key) => (type instanceof Y.Map ? type.delete(key) : type.removeAttribute(key)),
 };
 
@@ -62,44 +64,59 @@ function typesIn(type, target) {
   return [[target, type], ...inside.flatMap(([step, { content }]) => typesIn(content.type, [...target, step]))];
 }
 
-/** The lines that a text can have, without its target: no text in these sessions' types has a pair. */
-function changesOfText(chance, text) {
-  const insert = ['insert', chance.below(text.length + 1), chance.pick(WORDS)];
-  if (text.length === 0) {
-    return [insert];
-  }
-  const index = chance.below(text.length);
-  const length = 1 + chance.below(text.length - index);
-  return [insert, ['delete', index, 1], ['format', index, length, ...chance.pick(MARKS)]];
+/** One of these types by chance, each with its target: mostly a text, where there is one. */
+function anyOf(chance, types) {
+  const inTexts = types.filter(([, type]) => type instanceof Y.Text);
+  return chance.pick(inTexts.length > 0 && chance.below(3) > 0 ? inTexts : types);
 }
 
-/** The lines that a type can have, without its target. */
-function changesOf(chance, type) {
+/** Edits by chance that are right for a type as it is. */
+function editsOf(chance, type, target) {
   const index = chance.below(type.length + 1);
-  const children = (kinds) => ['child', index, chance.pick(kinds)];
-  const fewer = type.length > 0 ? [['delete', chance.below(type.length), 1]] : [];
-  const set = ['set', chance.pick(KEYS), chance.pick(VALUES)];
-  const unset = keysOf(type).map(([key]) => ['unset', key]);
+  const child = (kinds) => ['child', target, index, chance.pick(kinds)];
+  const fewer = type.length > 0 ? [['delete', target, chance.below(type.length), 1]] : [];
+  const keyed = [
+    ['set', target, chance.pick(KEYS), chance.pick(VALUES)],
+    ['settype', target, chance.pick(KEYS), chance.pick(KINDS)],
+    ...keysOf(type).map(([key]) => ['unset', target, key]),
+  ];
   switch (type.constructor) {
     case Y.Array:
-      return [['push', index, [chance.pick(VALUES), chance.pick(VALUES)]], children(KINDS), ...fewer];
+      return [['push', target, index, [chance.pick(VALUES), chance.pick(VALUES)]], child(KINDS), ...fewer];
     case Y.Map:
-      return [set, ['settype', chance.pick(KEYS), chance.pick(KINDS)], ...unset];
+      return keyed;
     case Y.XmlFragment:
-      return [children(XML_KINDS), ...fewer];
+      return [child(XML_KINDS), ...fewer];
     case Y.XmlElement:
-      return [children(XML_KINDS), set, ...fewer, ...unset];
+      return [child(XML_KINDS), ...fewer, ...keyed];
     default:
-      return changesOfText(chance, type);
+      return texts.linesOfText(chance, type, target);
   }
 }
 
-/** Carries out a line by chance on a root or a type in it, and gives the line. */
-function playedLine(chance, doc, root) {
-  const [target, type] = chance.pick(typesIn(doc.get(root), [root]));
-  const [word, ...rest] = chance.pick(changesOf(chance, type));
-  PLAYED[word](type, ...rest);
-  return [word, target.length === 1 && chance.below(2) === 0 ? root : target, ...rest];
+/** Whether a line makes a type, or deletes half of a character; such a line is not undone here. */
+function isLasting([word, , ...rest], type) {
+  const isDeletion = word === 'delete' && type instanceof Y.Text;
+  return word === 'child' || word === 'settype' || (isDeletion && texts.hasLoneHalf(type, ...rest));
+}
+
+/**
+ * Carries out a line by chance on a root or a type in it, and gives the line, and whether it can be
+ * undone: a type is not made again. Without a desk it is an edit.
+ */
+function playedLine(chance, doc, root, desk) {
+  const types = typesIn(doc.get(root), [root]);
+  const [steps, type] = anyOf(chance, types);
+  const target = steps.length === 1 && chance.below(2) === 0 ? root : steps;
+  const line = chance.pick([...editsOf(chance, type, target), ...(desk?.lines(chance, type, target) ?? [])]);
+  const isLastingLine = isLasting(line, type);
+  if (!desk?.play(line, type)) {
+    const [word, , ...rest] = line;
+    PLAYED[word](type, ...rest);
+  }
+  const isUndone = !isLastingLine && typesIn(doc.get(root), [root]).length === types.length;
+  desk?.note(line, isUndone);
+  return { line, isUndone };
 }
 
 module.exports = { playedLine, typesIn };

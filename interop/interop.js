@@ -3,6 +3,7 @@
 // Compares ydoc with the real Yjs: `YDOC=PATH node interop.js [WORD]`, where PATH is a program that is
 // built. A WORD leaves only the cases whose names have it.
 
+const assert = require('node:assert');
 const fs = require('node:fs');
 const os = require('node:os');
 const path = require('node:path');
@@ -19,6 +20,7 @@ const { undoCases } = require('./undo.js');
 function casesWith(word) {
   const made = [convertCases, showCases, mergeCases, editCases, undoCases, checkCases];
   const all = sessions().flatMap((session) => made.flatMap((cases) => cases(session)));
+  assert.equal(new Set(all.map(({ name }) => name)).size, all.length, 'two cases have one name');
   const cases = all.filter(({ name }) => name.includes(word));
   if (cases.length === 0) {
     throw new Error(`no name of a case has ${word}`);

@@ -77,7 +77,7 @@ function viewsOf({ roots }) {
   return views.sort(([one], [other]) => (other === '--text') - (one === '--text'));
 }
 
-/** The cases of a session: each way of handing in updates is tried on one view in turn. */
+/** The cases of a session: ways of handing in updates and views take turns, until each has come. */
 function showCases(session) {
   const views = viewsOf(session);
   const ways = wholes(session);
@@ -92,9 +92,13 @@ function showCases(session) {
     ways['waiting-1'] = waitingPart(session);
     ways['waiting-2'] = waitingPart(session);
   }
-  return Object.entries(ways).map(([name, files], at) =>
-    showCase(session, name, views[at % views.length], files),
-  );
+  const named = Object.entries(ways);
+  const turns = Array.from({ length: Math.max(named.length, views.length) }, (_, at) => at);
+  return turns.map((at) => {
+    const [name, files] = named[at % named.length];
+    const once = at < named.length ? name : `${name}-again`;
+    return showCase(session, once, views[at % views.length], files);
+  });
 }
 
 module.exports = { showCase, showCases };

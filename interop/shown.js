@@ -125,7 +125,7 @@ function listOf(type, most) {
 }
 
 /** The delta of a text. Yjs parts text at each mark; here neighbours with equal attributes are one. */
-function deltaOf(type, most) {
+function deltaOf(type, most = MOST_TYPES) {
   const pieces = [];
   for (const { insert, attributes = {} } of Y.Text.prototype.toDelta.call(type)) {
     const under = byKey(Object.entries(attributes).map(([key, value]) => [key, jsonOf(value)]));
@@ -152,10 +152,10 @@ function treeOf(type, most) {
 /** The modes, by their words. */
 const MODES = {
   '--text': (doc, root) => doc.getText(root).toString(),
-  '--delta': (doc, root) => JSON.stringify(deltaOf(doc.getText(root), MOST_TYPES)),
+  '--delta': (doc, root) => JSON.stringify(deltaOf(doc.getText(root))),
   '--array': (doc, root) => JSON.stringify(listOf(doc.get(root), MOST_TYPES)),
   '--map': (doc, root) => JSON.stringify(mapOf(doc.get(root), MOST_TYPES)),
   '--tree': (doc, root) => JSON.stringify(treeOf(doc.get(root), MOST_TYPES)),
 };
 
-module.exports = { MODES };
+module.exports = { MODES, deltaOf };

@@ -3,14 +3,15 @@
 // The cases of undo and redo by script: after an undo Yjs and ydoc show what was shown before the line
 // that is undone, and after a redo what was shown behind it. So does the UndoManager of Yjs.
 
+const { isDeepStrictEqual } = require('node:util');
 const Y = require('yjs');
-const { NEW_CLIENT, playedAny, scriptCase, scriptOf, shownOf } = require('./edit.js');
-const { typesIn } = require('./edit_trees.js');
+const { NEW_CLIENT, chanceOf, scriptCase, scriptOf, shownOf } = require('./edit.js');
+const { playedLine } = require('./edit_trees.js');
 const { mixedFiles } = require('./files.js');
 const { documentOf } = require('./reading.js');
 
 /** How many lines a script has at least, before its undos. */
-const LINES = 3;
+const LINES = 8;
 
 /** The undos and redos of a script that has more than one. */
 const IN_TURN = [
@@ -19,24 +20,17 @@ const IN_TURN = [
   ['undo', 'redo', 'undo', 'redo'],
 ];
 
-/** Whether a line makes a type; such a line is not undone here, since a type is not made again. */
-function makesType([kind]) {
-  return kind === 'child' || kind === 'settype';
-}
-
 /**
- * Lines by chance of which the last neither makes nor deletes a type, and what is shown before it and
- * behind it. Each line is an entry of the manager.
+ * Lines by chance of which the last neither makes nor deletes a type, since a type is not made again,
+ * and what is shown before it and behind it. Each line is an entry of the manager.
  */
-function playedLines(session, doc, root) {
+function playedLines(session, chance, doc, root) {
   const lines = [];
   for (;;) {
     const before = shownOf(session, doc, root);
-    const types = typesIn(doc.get(root), [root]).length;
-    const line = playedAny(session, doc, root);
+    const { line, isUndone } = playedLine(chance, doc, root);
     lines.push(line);
-    const same = typesIn(doc.get(root), [root]).length === types;
-    if (lines.length >= LINES && same && !makesType(line)) {
+    if (lines.length >= LINES && isUndone) {
       return { lines, before, behind: shownOf(session, doc, root) };
     }
   }
@@ -48,11 +42,11 @@ function undoCase(session, name, root, turns) {
   const doc = documentOf(session.roots, files);
   doc.clientID = NEW_CLIENT;
   const manager = new Y.UndoManager(doc.get(root), { captureTimeout: 0 });
-  const { lines, before, behind } = playedLines(session, doc, root);
+  const { lines, before, behind } = playedLines(session, chanceOf(session, `undo.${name}`), doc, root);
   turns.forEach((turn) => manager[turn]());
   const shown = turns.length % 2 === 0 ? behind : before;
   // Yjs notes no entry of a line that changes nothing, and its manager takes back the line before.
-  const as = shownOf(session, doc, root) === shown ? 'as-yjs' : 'own';
+  const as = isDeepStrictEqual(shownOf(session, doc, root), shown) ? 'as-yjs' : 'own';
   const script = scriptOf([...lines, ...turns.map((turn) => [turn])]);
   return scriptCase(session, `undo.${as}-${name}`, root, files, NEW_CLIENT, { script, shown });
 }
