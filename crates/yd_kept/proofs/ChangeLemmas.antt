@@ -1,6 +1,6 @@
 -- What becomes of the lists of a store with names where it changes and no run goes into a list.
 use Rattle.std.proofs.Common.{◌≡◌, ℕ, zero, suc, ◌+◌, ◌<◌, inl, inr, List, [], ◌∷◌, ◌++◌, Option, Some, Result, Ok, Err, length, get_or, refl, ap, ap₂, ◌∙◌, subst, sym, arith}
-use Rattle.std.specs.Prelude.{OnOk, OnErr, flat_map, slice_get, take}
+use Rattle.std.specs.Prelude.{OnErr, flat_map, slice_get, take}
 use Rattle.std.proofs.lemmas.List.{get_or_append_left, get_or_at, length-append}
 use Rattle.yd_words.specs.Member.{IsIn}
 use Rattle.yd_words.proofs.TestLemmas.{split}
@@ -19,11 +19,6 @@ use Rattle.yd_store.proofs.IntegratingLemmas.{keeps_itself}
 use Rattle.yd_kept.specs.Filling.{FillsOn}
 use Rattle.yd_kept.proofs.FillingLemmas.{still_named, filling_is_kept, filling_adds_list, filling_adds_lost, filling_goes_on}
 use Rattle.yd_kept.specs.Kept.{KeptValue, FillsFurther, StaysFilled, FillsByLost, KeepsHeld, JoinsHeld}
-
--- what follows from both outcomes holds
-pub either_way : {T E : Type 0} (z : Result T E) (P Q R : Type 0) → (P → R) → (Q → R) → OnOk z P → OnErr z Q → R
-either_way (Ok x) P Q R f g p q = f p
-either_way (Err e) P Q R f g p q = g q
 
 -- what holds whatever was answered holds of an error
 pub on_err : {T E : Type 0} {P : Type 0} (z : Result T E) → P → OnErr z P

@@ -71,7 +71,7 @@ IsListFor it run list = (held : List Operation) → IsWritten held → IsFilled 
 
 -- ---- changes
 
--- each list has the operations that it had, in their order, with the rights that the order sees, its name and its marks; there may be a list more, which
+-- each list has the operations that it had, in their order, with the rights that the order sees, its name and its marks; there may be one more list, which
 -- is empty; no clock is added; and where no run was parted, none is
 pub record KeepsHeld (old new : KeptValue) : Type 0 where
   pub count : count_of old.store.placed ≤ count_of new.store.placed

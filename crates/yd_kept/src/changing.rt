@@ -1,30 +1,15 @@
-//! What is deleted, taken back, and joined.
+//! What is taken back, and joined.
 
-ghost use Rattle.std.specs.Prelude.{◌≡◌, ◌≤◌, ◌+◌, OnOk, OnErr};
+ghost use Rattle.std.specs.Prelude.{◌≡◌, ◌≤◌};
 ghost use Rattle.yd_arena.specs.Arena.{runs_of, next_clock};
 ghost use Rattle.yd_arena.specs.Marks.{IsBorder};
-ghost use Rattle.yd_store.specs.Units.{KeepsUnits};
-ghost use Rattle.yd_store.specs.Deleting.{DeletesUnits};
 ghost use Rattle.yd_store.specs.Taking.{TakesBack};
-ghost use Rattle.yd_kept.specs.Kept.{StaysFilled, JoinsHeld};
+ghost use Rattle.yd_kept.specs.Kept.{JoinsHeld};
 
 use crate::kept::Kept;
-use yd_ids::{Client, Span};
-use yd_ops::NoMemory;
+use yd_ids::Client;
 
 impl Kept {
-    /// Deletes just the units of a span, all of which are held. Where it finds no memory, no unit
-    /// is deleted.
-    pub fn delete(&mut self, span: Span) -> Result<(), NoMemory>
-        requires held { span.clock + span.len ≤ next_clock self.old.store.placed span.client.0 }
-        ensures done { OnOk result (DeletesUnits self.old.store self.new.store span) }
-        ensures unchanged { OnErr result (KeepsUnits self.old.store self.new.store) }
-        ensures filled { StaysFilled self.old self.new }
-        ensures names { self.new.names ≡ self.old.names }
-    {
-        self.store.delete(span)
-    }
-
     /// Takes the client's units from a clock on out again, where no run goes over that clock. Lists
     /// and their names stay. It takes no memory.
     pub fn go_back(&mut self, client: Client, clock: u64)

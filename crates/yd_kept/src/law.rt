@@ -17,7 +17,7 @@ pub fn filling_starts()
     ensures { FillingStarts }
 {}
 
-/// What is filled stays so once more is held.
+/// What is filled stays so when more is held.
 pub fn filling_stays()
     ensures { FillingStays }
 {}

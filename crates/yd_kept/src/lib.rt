@@ -15,7 +15,8 @@
 //! ```rust
 //! let mut kept = Kept::new(alloc);
 //! kept.hold(run)?;
-//! kept.delete(span)?;
+//! kept.part_each(&ids)?;
+//! kept.mark_each(&ids);
 //! let list = kept.number_of(&name);
 //! ```
 #![tactic(auto)]

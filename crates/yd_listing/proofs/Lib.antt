@@ -11,5 +11,4 @@ pub mod LentLemmas
 pub mod ListingLemmas
 pub mod RowLemmas
 pub mod StandingLemmas
-pub mod UnitLemmas
 pub mod WalkLemmas

@@ -4,4 +4,3 @@ pub mod Law
 pub mod Lending
 pub mod Listing
 pub mod Steps
-pub mod Unit

@@ -1,8 +1,8 @@
-//! The lists of a store by their names, lent run by run, and single units by their ids.
+//! The lists of a store by their names, lent run by run.
 //!
 //! What is told is said of each document that the store tells: its lists are those of the store, and
 //! its deleted ids those that are marked (`specs/Listing.antt`). A list is found in a look-up by a
-//! hash, and a unit by a bisection. Reading takes a few loads a run, from either end, and no memory.
+//! hash. Reading takes a few loads a run, from either end, and no memory.
 //!
 //! ```rust
 //! let mut view = list(&kept, &name);
@@ -22,7 +22,6 @@ mod came;
 mod closing;
 mod dropping;
 mod ends;
-mod finding;
 mod last;
 pub mod law;
 mod lent;
@@ -38,7 +37,6 @@ mod walking;
 pub use came::Came;
 pub use dropping::deletions_besides;
 pub use ends::last_run;
-pub use finding::{UnitView, unit};
 pub use last::last_of;
 pub use lent::LentRun;
 pub use listing::{ListView, list, list_around, list_at, list_from};
