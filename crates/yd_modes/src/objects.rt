@@ -8,7 +8,7 @@ ghost use Rattle.yd_value.specs.View.{shown_tree, shown_fields};
 use crate::fault::NoMemory;
 use std::alloc::Global;
 use yd_any::Text;
-use yd_value::{Shown, ShownFields};
+use yd_value::{Shown, ShownElement, ShownFields};
 
 /// An element: its attributes, its children and its name.
 pub fn element_of(
@@ -22,14 +22,12 @@ pub fn element_of(
         (field (codes "children") (shown_tree children)
         (field (codes "name") (str name.now) no_fields)))) }
 {
-    let mut fields = ShownFields::new(alloc);
-    fields.push((
-        Text::copy_of(alloc, "attributes")?,
-        Shown::Fields(attributes),
-    ))?;
-    fields.push((Text::copy_of(alloc, "children")?, children))?;
-    fields.push((Text::copy_of(alloc, "name")?, Shown::Str(name.copy()?)))?;
-    Ok(Shown::Fields(fields))
+    let element = ShownElement {
+        attributes,
+        children,
+        name: name.copy()?,
+    };
+    Ok(Shown::Element(Box::new(alloc, element)?))
 }
 
 /// A hook: its attributes and its name.

@@ -3,8 +3,9 @@ use Rattle.std.proofs.Common.{◌≡◌, ℕ, ◌+◌, ◌<◌, List, [], ◌∷
 use Rattle.std.proofs.lemmas.List.{drop_more}
 use Rattle.yd_any.specs.Tree.{AnyTree, raw4, raw8, tree, field, trees_of, fields_of, with_last, with_last_field}
 use Rattle.yd_any.proofs.TreeLemmas.{trees_of-last, fields_of-last, map-last}
-use Rattle.yd_value.specs.View.{shown_tree, shown_trees, shown_fields, items_trees, entries_fields}
+use Rattle.yd_value.specs.View.{element_tree, tree_of_element, shown_tree, shown_trees, shown_fields, items_trees, entries_fields}
 use Rattle.yd_value.specs.declared.shown.Shown.{Shown, Raw4, Raw8, the_lemmas}
+use Rattle.yd_value.specs.declared.shown.ShownElement.{ShownElement}
 use Rattle.yd_value.specs.declared.shown.ShownList.{ShownList}
 use Rattle.yd_value.specs.declared.shown.ShownFields.{ShownFields}
 
@@ -28,6 +29,10 @@ entries_step es i x lt here = ap entries_fields (drop_more es i x lt) ∙ ap (λ
 -- a list has the trees of its items
 pub shown_trees-items : (l : ShownList) → shown_trees l ≡ items_trees l.items.items
 shown_trees-items l = search (rules, the_lemmas)
+
+-- an element has the trees of its parts
+pub tree_of_element-parts : (e : ShownElement) → tree_of_element e ≡ element_tree (shown_fields e.attributes) (shown_tree e.children) e.name
+tree_of_element-parts e = search (rules, the_lemmas)
 
 -- fields are those of their entries
 pub shown_fields-entries : (p : ShownFields) → shown_fields p ≡ entries_fields p.items.items

@@ -20,4 +20,4 @@ mod writing;
 
 pub use fault::NoMemory;
 pub use printing::print;
-pub use shown::{Shown, ShownFields, ShownList};
+pub use shown::{Shown, ShownElement, ShownFields, ShownList};

@@ -34,8 +34,22 @@ pub enum Shown {
     List(ShownList),
     /// Keys with values, in order.
     Fields(ShownFields),
+    /// An element, which stands for three keys.
+    Element(Box<ShownElement>),
     /// A byte string.
     Blob(Blob),
+}
+
+/// An element of a tree. It is shown as an object with the keys `attributes`, `children` and `name`.
+#[cycle(shown)]
+#[derive(Drop)]
+pub struct ShownElement {
+    /// Its attributes.
+    pub attributes: ShownFields,
+    /// Its children, as a list.
+    pub children: Shown,
+    /// Its name.
+    pub name: Text,
 }
 
 /// Shown values in order.

@@ -6,10 +6,10 @@ ghost use Rattle.json.specs.Token.{begin_object, begin_array, string, boolean};
 ghost use Rattle.hex.specs.Hex.{encode_lower};
 ghost use Rattle.yd_any.specs.Printed.{marked, WritesAll};
 ghost use Rattle.yd_any.specs.Printed.{tokens_of, tokens_of_trees, tokens_of_fields};
-ghost use Rattle.yd_value.specs.View.{shown_tree, shown_trees, shown_fields};
+ghost use Rattle.yd_value.specs.View.{shown_tree, shown_trees, shown_fields, tree_of_element};
 
 use crate::fault::NoMemory;
-use crate::shown::{Shown, ShownFields, ShownList};
+use crate::shown::{Shown, ShownElement, ShownFields, ShownList};
 use json::Writer;
 use std::alloc::Global;
 
@@ -29,8 +29,24 @@ pub fn write_shown(alloc: Global, value: &Shown, out: &mut Writer) -> Result<(),
         Shown::Str(text) => out.string(text.as_str())?,
         Shown::List(items) => write_list(alloc, items, out)?,
         Shown::Fields(entries) => write_fields(alloc, entries, out)?,
+        Shown::Element(element) => write_element(alloc, element, out)?,
         Shown::Blob(bytes) => write_hex(alloc, "$blob", bytes.as_slice(), out)?,
     }
+    Ok(())
+}
+
+#[cycle(write_shown)]
+fn write_element(alloc: Global, element: &ShownElement, out: &mut Writer) -> Result<(), NoMemory>
+    ensures { WritesAll result out.old out.new (tokens_of (tree_of_element element.now)) }
+{
+    out.begin_object()?;
+    out.key("attributes")?;
+    write_fields(alloc, &element.attributes, out)?;
+    out.key("children")?;
+    write_shown(alloc, &element.children, out)?;
+    out.key("name")?;
+    out.string(element.name.as_str())?;
+    out.end_object()?;
     Ok(())
 }
 
