@@ -31,12 +31,12 @@ pub struct Findings {
 /// counted in the document that this replica of the updates has. Updates that do not agree are
 /// counted as they were received: of an id the first operation stays unless another one says less.
 /// It takes the time and memory of receiving the updates, of `disagree` and of `dishonest`.
-pub fn check(alloc: Global, updates: &[Update]) -> Result<Findings, NoMemory>
-    requires { Each IsValidUpdate (map update_value updates.now) }
-    ensures { IfOk result (λ found. IsFound found (map update_value updates.now)) }
+pub fn check(alloc: Global, updates: Vec<Update>) -> Result<Findings, NoMemory>
+    requires { Each IsValidUpdate (map update_value updates.items) }
+    ensures { IfOk result (λ found. IsFound found (map update_value updates.items)) }
 {
+    let disagreement = disagree(alloc, &updates)?;
     let state = State::of_updates(alloc, updates)?;
-    let disagreement = disagree(alloc, updates)?;
     let breach = dishonest(alloc, state.held())?;
     Ok(Findings {
         counts: count(&state),

@@ -8,7 +8,7 @@
 //! ([`law`]). No unit is walked to be counted.
 //!
 //! ```rust
-//! let found = check(alloc, &[first, second])?;
+//! let found = check(alloc, updates)?;
 //! if found.disagreement.is_none() {
 //!     // The updates agree.
 //! }

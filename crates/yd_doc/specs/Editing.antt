@@ -40,7 +40,7 @@ pub record GrowsUnlessLost (update : UpdateValue) (old new : Kept) : Type 0 wher
 abbrev pub HasGrownLists : Kept → Type 0
 HasGrownLists r = (list : DocList) → IsGrown (standing (held_in r.state)) list (ids_in (own_document r) list)
 
--- the replica has taken an update of its own client
+-- the replica has taken an update, and is behind or not as it was
 pub record IsCommitted (old new : Kept) (update : UpdateValue) : Type 0 where
   pub received : received_of new ≡ received_after (received_of old) update
   pub client : new.client ≡ old.client

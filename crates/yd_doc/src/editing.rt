@@ -73,7 +73,7 @@ impl Replica {
         ensures taken { OnOk result (IsCommitted self.old self.new (update_value update.now)) }
         ensures unchanged { OnErr result (self.new ≡ self.old) }
     {
-        self.state.take(update)?;
+        self.state.take_copy(update)?;
         Ok(())
     }
 

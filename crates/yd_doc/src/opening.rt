@@ -22,12 +22,12 @@ impl Replica {
     pub fn of_updates(
         alloc: Global,
         client: Client,
-        updates: &[Update],
+        updates: Vec<Update>,
     ) -> Result<Replica, NoMemory>
         requires client { IsClient client }
-        requires valid { Each IsValidUpdate (map update_value updates.now) }
+        requires valid { Each IsValidUpdate (map update_value updates.items) }
         ensures received { IfOk result (λ replica.
-            received_of replica ≡ received_set (map update_value updates.now)) }
+            received_of replica ≡ received_set (map update_value updates.items)) }
         ensures client { IfOk result (λ replica. replica.client ≡ client) }
         ensures caught_up { IfOk result (λ replica. replica.is_behind ≡ false) }
     {

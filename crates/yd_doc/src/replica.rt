@@ -114,7 +114,7 @@ impl Replica {
         ensures shows { OnErr result (own_document self.new ≡ own_document self.old) }
         ensures behind { OnErr result (self.new.is_behind ≡ true) }
     {
-        let applied = self.state.take(update);
+        let applied = self.state.take_copy(update);
         self.is_behind = applied.is_err();
         let brings = applied?;
         Ok(brings)

@@ -30,4 +30,5 @@ pub mod TornLemmas
 pub mod UnitLemmas
 pub mod WalkLemmas
 pub mod WholeLemmas
+pub mod WholeRunLemmas
 pub mod WrittenLemmas

@@ -8,7 +8,7 @@
 //! one entry of two, where a text goes on, and no unit changes.
 //!
 //! ```rust
-//! let adds = add_run(alloc, &mut runs, &mut taken, &run, false)?;
+//! let adds = add_run(alloc, &mut runs, &mut taken, run, false)?;
 //! let lowers = lower(alloc, &mut runs, &mut taken, &mut before, run.id, run.len(), level_from(false))?;
 //! let joins = join(&mut runs, &mut taken, at);
 //! ```

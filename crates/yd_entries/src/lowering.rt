@@ -35,7 +35,7 @@ pub fn level_from(is_gone: bool) -> u64
 
 /// Lowers so many units from an id on to a level, where they say more, and says whether one did. A
 /// half that loses its partner is U+FFFD. All units stay at their places. Before the first entry is
-/// lowered the entries are copied.
+/// lowered the entries are copied. Where memory ends, some may be lowered, and the copy puts them back.
 pub fn lower(
     alloc: Global,
     runs: &mut Vec<Run>,

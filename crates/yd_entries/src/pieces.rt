@@ -101,7 +101,7 @@ pub(crate) fn take_piece(
 }
 
 /// Takes units of a run as they are.
-fn take_whole(
+pub(crate) fn take_whole(
     taken: &mut Vec<Entry>,
     run: &Run,
     is_gone: bool,

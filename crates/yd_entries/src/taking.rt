@@ -8,17 +8,73 @@ ghost use Rattle.yd_ops.specs.View.{content_value, run_value};
 ghost use Rattle.yd_entries.specs.Entries.{AreTaken, AreInOrder, operations_in, OnlyAdds, GrowBy};
 ghost use Rattle.yd_entries.specs.Taking.{AreCovered, AddsOne, AddsGroup, HasUnits, IsRun, IsKept};
 ghost use Rattle.yd_entries.specs.Taking.{IsPassed, IsTakenNext, operations_from_run, AreUnchanged};
+ghost use Rattle.yd_entries.specs.Taking.{IsGap};
 
 use crate::entry::Entry;
 use crate::fault::NoMemory;
 use crate::gaps::{ids_from, known_from};
-use crate::pieces::{first_piece, id_at, take_piece};
+use crate::pieces::{first_piece, id_at, take_piece, take_whole};
 use std::alloc::Global;
 use yd_ops::Run;
 
 /// Adds the units of a run with new ids, or as many that are gone, and says whether there are any.
-/// Then a copy of the run is kept.
+/// Then the run is kept. Where all its ids are new and go to one place, nothing is copied. Where memory
+/// ends, a run and some of its units may have been added behind the other runs.
 pub fn add_run(
+    alloc: Global,
+    runs: &mut Vec<Run>,
+    taken: &mut Vec<Entry>,
+    run: Run,
+    is_gone: bool,
+) -> Result<bool, NoMemory>
+    requires run { IsRun is_gone (run_value run) }
+    requires taken { AreTaken runs.old.items taken.old.items }
+    ensures added { OnOk result (AddsGroup runs.old.items taken.old.items
+        runs.new.items taken.new.items (operations_from_run is_gone (run_value run))) }
+    ensures says { IfOk result (λ says. IsTrue says
+        ↔ AddsOne (operations_from_run is_gone (run_value run))
+        (operations_in runs.old.items taken.old.items)) }
+    ensures unchanged { IfOk result (λ says. OnFalse says
+        (AreUnchanged runs.old.items taken.old.items runs.new.items taken.new.items)) }
+    ensures grows { GrowBy runs.old.items runs.new.items }
+    ensures adds { OnlyAdds (length runs.old.items) taken.old.items taken.new.items }
+{
+    let len = run.len();
+    let ids = ids_from(taken, run.id, len);
+    if ids.is_new && ids.len == len {
+        add_whole(runs, taken, run, is_gone, ids.at)?;
+        return Ok(true);
+    }
+    add_parts(alloc, runs, taken, &run, is_gone)
+}
+
+/// Adds the units of a run, all of whose ids are new and go to one place.
+fn add_whole(
+    runs: &mut Vec<Run>,
+    taken: &mut Vec<Entry>,
+    run: Run,
+    is_gone: bool,
+    at: usize,
+) -> Result<(), NoMemory>
+    requires run { IsRun is_gone (run_value run) }
+    requires taken { AreTaken runs.old.items taken.old.items }
+    requires gap { IsGap taken.old.items at run.id (len_of (content_value run.content))
+        (len_of (content_value run.content)) }
+    ensures added { OnOk result (AddsGroup runs.old.items taken.old.items
+        runs.new.items taken.new.items (operations_from_run is_gone (run_value run))) }
+    ensures grows { GrowBy runs.old.items runs.new.items }
+    ensures adds { OnlyAdds (length runs.old.items) taken.old.items taken.new.items }
+{
+    let index = runs.len();
+    let len = run.len();
+    take_whole(taken, &run, is_gone, index, at, 0, len)?;
+    runs.push(run)?;
+    Ok(())
+}
+
+/// Adds the units of a run with new ids, or as many that are gone, and says whether there are any.
+/// Then a copy of the run is kept.
+fn add_parts(
     alloc: Global,
     runs: &mut Vec<Run>,
     taken: &mut Vec<Entry>,

@@ -53,17 +53,17 @@ pub(crate) struct Changed {
 pub(crate) fn change(
     held: &mut HeldParts,
     before: &mut Before,
-    update: &Update,
+    update: Update,
 ) -> Result<Changed, NoMemory>
-    requires update { IsValidUpdate (update_value update.now) }
+    requires update { IsValidUpdate (update_value update) }
     requires holds { HoldsAll (held_value held.old) }
     requires before { IsOf (held_value held.old) before.old }
     ensures received { OnOk result (taken_of held.new.received
-        ≡ with_groups (groups_of (update_value update.now)) (taken_of held.old.received)) }
+        ≡ with_groups (groups_of (update_value update)) (taken_of held.old.received)) }
     ensures brings { IfOk result (λ changed. IsTrue changed.brings
-        ↔ BringsOperation (update_value update.now) (taken_of held.old.received)) }
+        ↔ BringsOperation (update_value update) (taken_of held.old.received)) }
     ensures anew { IfOk result (λ changed. IsTrue changed.anew
-        → LowersOne (operations_of (update_value update.now)) (taken_of held.old.received)
+        → LowersOne (operations_of (update_value update)) (taken_of held.old.received)
         × LosesOne (held_value held.old) (held_value held.new)) }
     ensures order { IfOk result (λ changed. TellsOrder changed.anew changed.told.items
         changed.order.items (held_value held.old) (held_value held.new)) }
@@ -72,7 +72,7 @@ pub(crate) fn change(
     ensures single { IfOk result (λ changed. IfSome changed.single
         (CameAlone changed.order.items (held_value held.new))) }
     ensures together { IfOk result (λ changed. IfNone changed.single
-        (LowersOne (operations_of (update_value update.now)) (taken_of held.old.received)
+        (LowersOne (operations_of (update_value update)) (taken_of held.old.received)
         ⊎ NoneCameAlone (length held.old.received.runs) (length held.old.received.entries)
         changed.order.items (held_value held.new))) }
     ensures holds { OnOk result (HoldsAll (held_value held.new)) }

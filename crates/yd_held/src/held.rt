@@ -1,6 +1,6 @@
 //! What is held, as one value.
 
-ghost use Rattle.std.specs.Prelude.{◌≡◌, ◌≢◌, ◌↔◌, ◌⊎◌, [], ℕ, Some, IsTrue, IfSome, IfNone, OnOk, OnErr, IfOk, length, slice_get};
+ghost use Rattle.std.specs.Prelude.{◌≡◌, ◌↔◌, ◌⊎◌, [], IsTrue, IfSome, IfNone, OnOk, OnErr, IfOk, length};
 ghost use Rattle.yd_ops.specs.Operation.{operations_of};
 ghost use Rattle.yd_ops.specs.Valid.{IsValidUpdate};
 ghost use Rattle.yd_ops.specs.View.{update_value};
@@ -105,18 +105,8 @@ impl Held {
         self.parts.names.as_slice()
     }
 
-    /// The number of the list with a name, and none where no unit stood in it. It takes a look-up by
-    /// a hash.
-    pub fn number_of(&self, list: &List) -> Option<usize>
-        ensures there { IfSome result (λ n. slice_get self.now.names n ≡ Some list.now) }
-        ensures none { IfNone result ((n : ℕ) → slice_get self.now.names n ≢ Some list.now) }
-        ensures holds { HoldsAll self.now }
-    {
-        self.parts.names.number_of(list)
-    }
-
-    /// The number of the last of a parent's lists, or of the last one before another of them, in the
-    /// time of such a look-up.
+    /// The number of the last of a parent's lists, or of the last one before another of them. It takes a
+    /// look-up by a hash.
     pub fn last_of(&self, parent: &Parent, before: Option<usize>) -> Option<usize>
         requires { IfSome before (λ n. IsOf self.now.names parent.now n) }
         ensures { IsLastOf self.now.names parent.now (top_of self.now.names before) result }
@@ -132,14 +122,14 @@ impl Held {
     /// held stays so, one pass over the entries finds of which less is told, and each client is tried
     /// again. Where one that was in a list is gone, all that is received is held anew. Where memory
     /// ends nothing was taken.
-    pub fn take(&mut self, update: &Update) -> Result<Taken, NoMemory>
-        requires { IsValidUpdate (update_value update.now) }
+    pub fn take(&mut self, update: Update) -> Result<Taken, NoMemory>
+        requires { IsValidUpdate (update_value update) }
         ensures received { OnOk result (taken_of self.new.received
-            ≡ with_groups (groups_of (update_value update.now)) (taken_of self.old.received)) }
+            ≡ with_groups (groups_of (update_value update)) (taken_of self.old.received)) }
         ensures brings { IfOk result (λ taken. IsTrue taken.brings
-            ↔ BringsOperation (update_value update.now) (taken_of self.old.received)) }
+            ↔ BringsOperation (update_value update) (taken_of self.old.received)) }
         ensures anew { IfOk result (λ taken. IsTrue taken.anew
-            → LowersOne (operations_of (update_value update.now)) (taken_of self.old.received)
+            → LowersOne (operations_of (update_value update)) (taken_of self.old.received)
             × LosesOne self.old self.new) }
         ensures order { IfOk result (λ taken. TellsOrder taken.anew taken.told.items
             taken.order.items self.old self.new) }
@@ -148,7 +138,7 @@ impl Held {
         ensures single { IfOk result (λ taken. IfSome taken.single
             (CameAlone taken.order.items self.new)) }
         ensures together { IfOk result (λ taken. IfNone taken.single
-            (LowersOne (operations_of (update_value update.now)) (taken_of self.old.received)
+            (LowersOne (operations_of (update_value update)) (taken_of self.old.received)
             ⊎ NoneCameAlone (length self.old.received.runs) (length self.old.received.entries)
             taken.order.items self.new)) }
         ensures holds { HoldsAll self.new }

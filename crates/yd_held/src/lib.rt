@@ -2,13 +2,13 @@
 //!
 //! Taking an update in gives exactly the held set that `yd_meaning` defines, and tells what of it is
 //! lost, however the operations came ([`Held::take`]). It keeps the clock that each client has
-//! reached, and numbers the lists by their names ([`Held::number_of`]). What waits is noted by what it
+//! reached, and numbers the lists by their names ([`Held::names`]). What waits is noted by what it
 //! lacks, and tried again when that is held. Text that comes a letter at a time can be joined, and
 //! then takes one entry ([`Held::join`]). A call that finds no memory has changed nothing.
 //!
 //! ```rust
 //! let mut held = Held::new(alloc);
-//! let taken = held.take(&update)?;
+//! let taken = held.take(update)?;
 //! held.put_back(taken.before);
 //! ```
 #![tactic(auto)]

@@ -93,7 +93,7 @@ pub fn lists_can_grow()
     ensures { ListsCanGrow }
 {}
 
-/// A list that grew by scans did so still once more is held, where it got nothing or grew on.
+/// A list that grew by scans did so still when more is held, where it got nothing or grew on.
 pub fn grown_stays()
     ensures { GrownStays }
 {}

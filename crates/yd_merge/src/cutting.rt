@@ -78,7 +78,8 @@ fn cut_taken(
         ≡ cut_update (update_value update.now) (clock_of vector.now)) }
 {
     let mut received = Received::new(alloc);
-    received.take(update)?;
+    let copy = update.copy()?;
+    received.take(copy)?;
     let cut = write_cut(alloc, &received, vector, deletes)?;
     Ok(cut)
 }

@@ -73,7 +73,8 @@ pub fn received_of(alloc: Global, updates: &[Update]) -> Result<Received, NoMemo
 {
     let mut received = Received::new(alloc);
     for update in updates {
-        received.take(update)?;
+        let copy = update.copy()?;
+        received.take(copy)?;
     }
     Ok(received)
 }

@@ -90,19 +90,20 @@ impl Received {
     }
 
     /// Takes in the operations of an update, and answers what that did: an operation may have a new
-    /// id, or say less than the one that was there. Each run of which a unit is new is copied once.
-    /// For each entry that has ids of a run, and each new or lowered one, it takes a bisection and an
-    /// insertion. All units stay at their places, and new ones wait. Before the first entry is
+    /// id, or say less than the one that was there. A run is kept as it is, where its units are new and
+    /// go to one place; where only some of them are new, or go to many places, it is copied. For each
+    /// entry that has ids of a run, and each new or lowered one, it takes a bisection and an insertion.
+    /// All units stay at their places, and new ones wait. Before the first entry is
     /// lowered the entries are copied, and the copy is handed out. Where memory ends nothing was
     /// taken.
-    pub fn take(&mut self, update: &Update) -> Result<Brought, NoMemory>
-        requires { IsValidUpdate (update_value update.now) }
+    pub fn take(&mut self, update: Update) -> Result<Brought, NoMemory>
+        requires { IsValidUpdate (update_value update) }
         ensures received { OnOk result (taken_of self.new
-            ≡ with_groups (groups_of (update_value update.now)) (taken_of self.old)) }
+            ≡ with_groups (groups_of (update_value update)) (taken_of self.old)) }
         ensures brings { IfOk result (λ brought. IsTrue (brings brought)
-            ↔ BringsOperation (update_value update.now) (taken_of self.old)) }
+            ↔ BringsOperation (update_value update) (taken_of self.old)) }
         ensures lowers { IfOk result (λ brought. IsTrue (lowers brought)
-            → LowersOne (operations_of (update_value update.now)) (taken_of self.old)) }
+            → LowersOne (operations_of (update_value update)) (taken_of self.old)) }
         ensures brought { IfOk result (λ brought. IsBrought brought self.old self.new) }
         ensures kept { IsReceived self.new }
         ensures grows { OnOk result (GrowBy self.old.runs self.new.runs) }

@@ -26,31 +26,33 @@ pub(crate) fn take_blocks(
     runs: &mut Vec<Run>,
     taken: &mut Vec<Entry>,
     before: &mut Option<Vec<Entry>>,
-    blocks: &[Block],
+    blocks: Vec<Block>,
 ) -> Result<bool, NoMemory>
-    requires blocks { Each IsValidBlock (map block_value blocks.now) }
+    requires blocks { Each IsValidBlock (map block_value blocks.items) }
     requires taken { AreTaken runs.old.items taken.old.items }
     ensures taken { OnOk result (TakesIn runs.old.items taken.old.items
-        runs.new.items taken.new.items (groups_of_blocks (map block_value blocks.now))) }
+        runs.new.items taken.new.items (groups_of_blocks (map block_value blocks.items))) }
     ensures brings { IfOk result (λ brings. IsTrue brings
-        ↔ BringsOne (operations_of_blocks (map block_value blocks.now))
+        ↔ BringsOne (operations_of_blocks (map block_value blocks.items))
         (operations_in runs.old.items taken.old.items)) }
     ensures unchanged { IfOk result (λ brings. OnFalse brings
         (AreUnchanged runs.old.items taken.old.items runs.new.items taken.new.items)) }
     ensures lowers { OnOk result (KeepsToLower before.old before.new
-        (operations_of_blocks (map block_value blocks.now))
+        (operations_of_blocks (map block_value blocks.items))
         (operations_in runs.old.items taken.old.items)) }
     ensures grows { GrowBy runs.old.items runs.new.items }
     ensures backed { IsBacked (length runs.old.items) before.old taken.old.items
         before.new taken.new.items }
 {
+    // As many blocks come as there are.
+    let _count = blocks.len();
     let mut brings = false;
     for block in blocks {
         let first = Id {
             client: block.client,
             clock: block.clock,
         };
-        let more = take_structs(alloc, runs, taken, before, first, block.structs.as_slice())?;
+        let more = take_structs(alloc, runs, taken, before, first, block.structs.into_vec())?;
         brings |= more;
     }
     Ok(brings)
@@ -63,27 +65,29 @@ fn take_structs(
     taken: &mut Vec<Entry>,
     before: &mut Option<Vec<Entry>>,
     first: Id,
-    structs: &[Struct],
+    structs: Vec<Struct>,
 ) -> Result<bool, NoMemory>
     requires client { IsClient first.client }
     requires clock { IsClock first.clock }
-    requires structs { AreStructsFrom first.client first.clock (map struct_value structs.now) }
+    requires structs { AreStructsFrom first.client first.clock (map struct_value structs.items) }
     requires taken { AreTaken runs.old.items taken.old.items }
     ensures taken { OnOk result (TakesIn runs.old.items taken.old.items
         runs.new.items taken.new.items
-        (groups_of_structs first.client first.clock (map struct_value structs.now))) }
+        (groups_of_structs first.client first.clock (map struct_value structs.items))) }
     ensures brings { IfOk result (λ brings. IsTrue brings
-        ↔ BringsOne (operations_of_structs first.client first.clock (map struct_value structs.now))
+        ↔ BringsOne (operations_of_structs first.client first.clock (map struct_value structs.items))
         (operations_in runs.old.items taken.old.items)) }
     ensures unchanged { IfOk result (λ brings. OnFalse brings
         (AreUnchanged runs.old.items taken.old.items runs.new.items taken.new.items)) }
     ensures lowers { OnOk result (KeepsToLower before.old before.new
-        (operations_of_structs first.client first.clock (map struct_value structs.now))
+        (operations_of_structs first.client first.clock (map struct_value structs.items))
         (operations_in runs.old.items taken.old.items)) }
     ensures grows { GrowBy runs.old.items runs.new.items }
     ensures backed { IsBacked (length runs.old.items) before.old taken.old.items
         before.new taken.new.items }
 {
+    // As many structs come as there are.
+    let _count = structs.len();
     let mut brings = false;
     let mut clock = first.clock;
     for entry in structs {
@@ -91,9 +95,10 @@ fn take_structs(
             client: first.client,
             clock,
         };
+        let len = entry.len();
         let more = take_struct(alloc, runs, taken, before, id, entry)?;
         brings |= more;
-        clock += entry.len();
+        clock += len;
     }
     Ok(brings)
 }
@@ -106,19 +111,19 @@ fn take_struct(
     taken: &mut Vec<Entry>,
     before: &mut Option<Vec<Entry>>,
     id: Id,
-    entry: &Struct,
+    entry: Struct,
 ) -> Result<bool, NoMemory>
-    requires entry { IsStructOf id (struct_value entry.now) }
+    requires entry { IsStructOf id (struct_value entry) }
     requires taken { AreTaken runs.old.items taken.old.items }
     ensures taken { OnOk result (TakesIn runs.old.items taken.old.items runs.new.items
-        taken.new.items (operations_of_struct id.client id.clock (struct_value entry.now) ∷ [])) }
+        taken.new.items (operations_of_struct id.client id.clock (struct_value entry) ∷ [])) }
     ensures brings { IfOk result (λ brings. IsTrue brings
-        ↔ BringsOne (operations_of_struct id.client id.clock (struct_value entry.now))
+        ↔ BringsOne (operations_of_struct id.client id.clock (struct_value entry))
         (operations_in runs.old.items taken.old.items)) }
     ensures unchanged { IfOk result (λ brings. OnFalse brings
         (AreUnchanged runs.old.items taken.old.items runs.new.items taken.new.items)) }
     ensures lowers { OnOk result (KeepsToLower before.old before.new
-        (operations_of_struct id.client id.clock (struct_value entry.now))
+        (operations_of_struct id.client id.clock (struct_value entry))
         (operations_in runs.old.items taken.old.items)) }
     ensures grows { GrowBy runs.old.items runs.new.items }
     ensures backed { IsBacked (length runs.old.items) before.old taken.old.items
@@ -131,8 +136,8 @@ fn take_struct(
         }
         Struct::Skip(_) => Ok(false),
         Struct::Gone(count) => {
-            let run = gone_run(id, *count);
-            let brings = take_less(alloc, runs, taken, before, &run, true)?;
+            let run = gone_run(id, count);
+            let brings = take_less(alloc, runs, taken, before, run, true)?;
             Ok(brings)
         }
     }
@@ -157,19 +162,19 @@ fn take_run(
     runs: &mut Vec<Run>,
     taken: &mut Vec<Entry>,
     before: &mut Option<Vec<Entry>>,
-    run: &Run,
+    run: Run,
 ) -> Result<bool, NoMemory>
-    requires run { IsRun false (run_value run.now) }
+    requires run { IsRun false (run_value run) }
     requires taken { AreTaken runs.old.items taken.old.items }
     ensures taken { OnOk result (TakesIn runs.old.items taken.old.items
-        runs.new.items taken.new.items (operations_of_run (run_value run.now) ∷ [])) }
+        runs.new.items taken.new.items (operations_of_run (run_value run) ∷ [])) }
     ensures brings { IfOk result (λ brings. IsTrue brings
-        ↔ BringsOne (operations_of_run (run_value run.now))
+        ↔ BringsOne (operations_of_run (run_value run))
         (operations_in runs.old.items taken.old.items)) }
     ensures unchanged { IfOk result (λ brings. OnFalse brings
         (AreUnchanged runs.old.items taken.old.items runs.new.items taken.new.items)) }
     ensures lowers { OnOk result (KeepsToLower before.old before.new
-        (operations_of_run (run_value run.now))
+        (operations_of_run (run_value run))
         (operations_in runs.old.items taken.old.items)) }
     ensures grows { GrowBy runs.old.items runs.new.items }
     ensures backed { IsBacked (length runs.old.items) before.old taken.old.items
@@ -198,28 +203,30 @@ fn take_less(
     runs: &mut Vec<Run>,
     taken: &mut Vec<Entry>,
     before: &mut Option<Vec<Entry>>,
-    run: &Run,
+    run: Run,
     is_gone: bool,
 ) -> Result<bool, NoMemory>
-    requires run { IsRun is_gone (run_value run.now) }
-    requires deleted { level_of_content (content_value run.now.content) ≡ 1 }
+    requires run { IsRun is_gone (run_value run) }
+    requires deleted { level_of_content (content_value run.content) ≡ 1 }
     requires taken { AreTaken runs.old.items taken.old.items }
     ensures taken { OnOk result (TakesIn runs.old.items taken.old.items
-        runs.new.items taken.new.items (operations_from_run is_gone (run_value run.now) ∷ [])) }
+        runs.new.items taken.new.items (operations_from_run is_gone (run_value run) ∷ [])) }
     ensures brings { IfOk result (λ brings. IsTrue brings
-        ↔ BringsOne (operations_from_run is_gone (run_value run.now))
+        ↔ BringsOne (operations_from_run is_gone (run_value run))
         (operations_in runs.old.items taken.old.items)) }
     ensures unchanged { IfOk result (λ brings. OnFalse brings
         (AreUnchanged runs.old.items taken.old.items runs.new.items taken.new.items)) }
     ensures lowers { OnOk result (KeepsToLower before.old before.new
-        (operations_from_run is_gone (run_value run.now))
+        (operations_from_run is_gone (run_value run))
         (operations_in runs.old.items taken.old.items)) }
     ensures grows { GrowBy runs.old.items runs.new.items }
     ensures backed { IsBacked (length runs.old.items) before.old taken.old.items
         before.new taken.new.items }
 {
+    let id = run.id;
+    let len = run.len();
     let adds = add_run(alloc, runs, taken, run, is_gone)?;
     let level = level_from(is_gone);
-    let lowers = lower(alloc, runs, taken, before, run.id, run.len(), level)?;
+    let lowers = lower(alloc, runs, taken, before, id, len, level)?;
     Ok(adds | lowers)
 }

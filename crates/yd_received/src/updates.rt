@@ -21,17 +21,17 @@ use yd_ops::{Run, Update};
 pub(crate) fn take_update(
     runs: &mut Vec<Run>,
     taken: &mut Vec<Entry>,
-    update: &Update,
+    update: Update,
 ) -> Result<Brought, NoMemory>
-    requires update { IsValidUpdate (update_value update.now) }
+    requires update { IsValidUpdate (update_value update) }
     requires taken { AreTaken runs.old.items taken.old.items }
     ensures taken { OnOk result (TakesIn runs.old.items taken.old.items
-        runs.new.items taken.new.items (groups_of (update_value update.now))) }
+        runs.new.items taken.new.items (groups_of (update_value update))) }
     ensures brings { IfOk result (λ brought. IsTrue (brings brought)
-        ↔ BringsOperation (update_value update.now)
+        ↔ BringsOperation (update_value update)
         (operations_in runs.old.items taken.old.items)) }
     ensures lowers { IfOk result (λ brought. IsTrue (lowers brought)
-        → LowersOne (operations_of (update_value update.now))
+        → LowersOne (operations_of (update_value update))
         (operations_in runs.old.items taken.old.items)) }
     ensures brought { IfOk result (λ brought. IsBrought brought
         (record { runs = runs.old.items; entries = taken.old.items })
@@ -43,7 +43,7 @@ pub(crate) fn take_update(
     let alloc = *runs.allocator();
     let count = runs.len();
     let mut before = None;
-    match take_blocks(alloc, runs, taken, &mut before, update.blocks.as_slice()) {
+    match take_blocks(alloc, runs, taken, &mut before, update.blocks.into_vec()) {
         Ok(more) => Ok(brought(before, count, more)),
         Err(NoMemory) => {
             runs.truncate(count);

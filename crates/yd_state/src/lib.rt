@@ -14,7 +14,7 @@
 //!
 //! ```rust
 //! let mut state = State::new(alloc);
-//! let brings = state.take(&update)?;
+//! let brings = state.take(update)?;
 //! let units = state.list(&list);
 //! ```
 #![tactic(auto)]

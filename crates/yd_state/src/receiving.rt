@@ -1,6 +1,6 @@
 //! The state that received many updates.
 
-ghost use Rattle.std.specs.Prelude.{◌≡◌, ◌∷◌, [], map, IfOk, IfSome};
+ghost use Rattle.std.specs.Prelude.{◌≡◌, ◌∷◌, [], length, map, IsTrue, IfOk};
 ghost use Rattle.yd_words.specs.Each.{Each};
 ghost use Rattle.yd_ops.specs.Valid.{IsValidUpdate};
 ghost use Rattle.yd_ops.specs.View.{update_value};
@@ -19,32 +19,47 @@ const FEW_BLOCKS: usize = 64;
 impl State {
     /// The state that received these updates, one after another. They are merged first, so that what is
     /// held and what is deleted is found once, and each unit is placed once; one alone that a merge would
-    /// hardly change is not. It takes the time of `merge` and of one update that says all of it, and
-    /// until it ends the memory of both.
-    pub fn of_updates(alloc: Global, updates: &[Update]) -> Result<State, NoMemory>
-        requires { Each IsValidUpdate (map update_value updates.now) }
+    /// hardly change is not. It takes the time of `merge` and of one update that says all of it. The
+    /// updates are dropped once they are merged.
+    pub fn of_updates(alloc: Global, updates: Vec<Update>) -> Result<State, NoMemory>
+        requires { Each IsValidUpdate (map update_value updates.items) }
         ensures received { IfOk result (λ state.
-            received_in state ≡ received_set (map update_value updates.now)) }
+            received_in state ≡ received_set (map update_value updates.items)) }
         ensures sound { IfOk result IsSound }
     {
         let mut state = State::new(alloc);
-        if let Some(update) = alone(updates) {
-            let _brings = state.take(update)?;
-            return Ok(state);
-        }
-        let merged = merge(alloc, updates)?;
-        let _brings = state.take(&merged)?;
+        let update = one_of(alloc, updates)?;
+        let _brings = state.take(update)?;
         Ok(state)
     }
 }
 
-/// The update, where there is one alone that a merge would hardly change.
-fn alone(updates: &[Update]) -> Option<&Update>
-    ensures { IfSome result (λ update. updates.now ≡ update.now ∷ []) }
+/// One update that says what the updates say: their merge, or the one that is alone, where a merge
+/// would hardly change it.
+fn one_of(alloc: Global, updates: Vec<Update>) -> Result<Update, NoMemory>
+    requires { Each IsValidUpdate (map update_value updates.items) }
+    ensures same { IfOk result (λ update.
+        received_set (update_value update ∷ []) ≡ received_set (map update_value updates.items)) }
+    ensures valid { IfOk result (λ update. IsValidUpdate (update_value update)) }
+{
+    if !is_alone(&updates) {
+        let merged = merge(alloc, &updates)?;
+        return Ok(merged);
+    }
+    let mut updates = updates;
+    match updates.pop() {
+        Some(update) => Ok(update),
+        None => unreachable!(),
+    }
+}
+
+/// There is one update alone, which a merge would hardly change.
+fn is_alone(updates: &[Update]) -> bool
+    ensures { IsTrue result → length updates.now ≡ 1 }
 {
     match updates {
-        [update] if is_compact(update.blocks.as_slice()) => Some(update),
-        _ => None,
+        [update] => is_compact(update.blocks.as_slice()),
+        _ => false,
     }
 }
 

@@ -1,4 +1,4 @@
-//! What is deleted and what waits once more is held or named.
+//! What is deleted and what waits when more is held or named.
 
 ghost use Rattle.std.specs.Prelude.{◌≡◌, true, [], IfOk, OnOk, OnErr};
 ghost use Rattle.yd_arena.specs.Arena.{count_of};

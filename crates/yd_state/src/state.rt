@@ -96,28 +96,28 @@ impl State {
     }
 
     /// Receives an update, holds what can be held then, and puts it into its lists, where the
-    /// integration scan puts it. It answers whether the update brought something. It looks at what
+    /// integration scan puts it. Runs of which all is new are kept, and not copied. It answers whether the update brought something. It looks at what
     /// came, at what waits, and at what is deleted besides, and at what is known by look-ups alone;
     /// a set that grows is copied. Where the update says less of something that was received, the
     /// entries are copied and walked, and each client is tried again; what is gone already is told so
     /// once more. Where a unit that a list had is lost, all lists grow anew. Where memory ends, nothing
     /// has changed that is told.
-    pub fn take(&mut self, update: &Update) -> Result<bool, NoMemory>
-        requires { IsValidUpdate (update_value update.now) }
+    pub fn take(&mut self, update: Update) -> Result<bool, NoMemory>
+        requires { IsValidUpdate (update_value update) }
         ensures received { OnOk result (received_in self.new
-            ≡ received_after (received_in self.old) (update_value update.now)) }
+            ≡ received_after (received_in self.old) (update_value update)) }
         ensures brings { IfOk result (λ brings. IsTrue brings
-            ↔ BringsUnknown (update_value update.now) (received_in self.old) self.old.deletes) }
+            ↔ BringsUnknown (update_value update) (received_in self.old) self.old.deletes) }
         ensures grows { OnOk result (Grows self.old self.new) }
         ensures loses { OnOk result (LosesNone self.old self.new
-            ⊎ LowersOne (operations_of (update_value update.now))
+            ⊎ LowersOne (operations_of (update_value update))
             (received_in self.old).operations) }
         ensures sound { IsSound self.new }
         ensures unchanged { OnErr result (self.new ≡ self.old) }
     {
         // What is held says what holds before the first growth.
         let _ = self.held.received();
-        let more = named_by(update)?;
+        let more = named_by(&update)?;
         let deletes = brings_deletion(&self.sets.named, &self.sets.deletes, &more);
         let named = grown_by(&self.sets.named, &more)?;
         let taken = self.held.take(update)?;
@@ -152,6 +152,27 @@ impl State {
                 Err(NoMemory)
             }
         }
+    }
+
+    /// Receives a copy of an update, as `take` receives the update itself.
+    pub fn take_copy(&mut self, update: &Update) -> Result<bool, NoMemory>
+        requires { IsValidUpdate (update_value update.now) }
+        ensures received { OnOk result (received_in self.new
+            ≡ received_after (received_in self.old) (update_value update.now)) }
+        ensures brings { IfOk result (λ brings. IsTrue brings
+            ↔ BringsUnknown (update_value update.now) (received_in self.old) self.old.deletes) }
+        ensures grows { OnOk result (Grows self.old self.new) }
+        ensures loses { OnOk result (LosesNone self.old self.new
+            ⊎ LowersOne (operations_of (update_value update.now))
+            (received_in self.old).operations) }
+        ensures sound { IsSound self.new }
+        ensures unchanged { OnErr result (self.new ≡ self.old) }
+    {
+        // What was received is sound also where there is no memory for the copy.
+        let _ = self.received();
+        let copy = update.copy()?;
+        let brings = self.take(copy)?;
+        Ok(brings)
     }
 
     /// What was received, as it is kept.

@@ -92,6 +92,13 @@ impl UpdateList {
     {
         self.updates.as_slice()
     }
+
+    /// The updates, handed out.
+    pub fn into_vec(self) -> Vec<Update>
+        ensures { result.items ≡ self }
+    {
+        self.updates
+    }
 }
 
 impl UpdateTaker for UpdateList {

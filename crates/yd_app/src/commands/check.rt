@@ -16,12 +16,12 @@ use yd_files::Inputs;
 use yd_ids::Id;
 
 /// Seven lines, of what is found of all updates together.
-pub fn check(alloc: Global, inputs: &Inputs) -> Result<Vec<u8>, NoMemory>
-    requires { Each IsValidUpdate (inputs_of inputs.now).updates }
+pub fn check(alloc: Global, inputs: Inputs) -> Result<Vec<u8>, NoMemory>
+    requires { Each IsValidUpdate (inputs_of inputs).updates }
     ensures { IfOk result (λ bytes.
-        IsMadeOf checks (inputs_of inputs.now) bytes.items) }
+        IsMadeOf checks (inputs_of inputs) bytes.items) }
 {
-    let found = yd_checking::check(alloc, inputs.updates.as_slice())?;
+    let found = yd_checking::check(alloc, inputs.updates.into_vec())?;
     let text = text_of(alloc, &found)?;
     Ok(text)
 }

@@ -34,14 +34,14 @@ pub fn edit<'a>(
     alloc: Global,
     client: Client,
     name: &'a str,
-    inputs: &Inputs,
+    inputs: Inputs,
 ) -> Result<Vec<u8>, Stop<'a>>
     requires client { IsClient client }
-    requires valid { Each IsValidUpdate (inputs_of inputs.now).updates }
+    requires valid { Each IsValidUpdate (inputs_of inputs).updates }
     ensures made { IfOk result (λ bytes.
-        IsMadeOf (edits client name.now) (inputs_of inputs.now) bytes.items) }
+        IsMadeOf (edits client name.now) (inputs_of inputs) bytes.items) }
     ensures stops { IfErr result
-        (StopsMaking (edits client name.now) (inputs_of inputs.now)) }
+        (StopsMaking (edits client name.now) (inputs_of inputs)) }
 {
     let updates = updates_of(alloc, client, name, inputs)?;
     let bytes = merged(alloc, &updates)?;
@@ -53,20 +53,25 @@ fn updates_of<'a>(
     alloc: Global,
     client: Client,
     name: &'a str,
-    inputs: &Inputs,
+    inputs: Inputs,
 ) -> Result<UpdateList, Stop<'a>>
     requires client { IsClient client }
-    requires valid { Each IsValidUpdate (inputs_of inputs.now).updates }
+    requires valid { Each IsValidUpdate (inputs_of inputs).updates }
     ensures made { IfOk result (λ updates.
-        MakesUpdates client (inputs_of inputs.now) (map update_value updates)) }
+        MakesUpdates client (inputs_of inputs) (map update_value updates)) }
     ensures valid { IfOk result (λ updates. Each IsValidUpdate (map update_value updates)) }
     ensures stops { IfErr result
-        (StopsMaking (edits client name.now) (inputs_of inputs.now)) }
+        (StopsMaking (edits client name.now) (inputs_of inputs)) }
 {
-    let Ok(mut replica) = Replica::of_updates(alloc, client, inputs.updates.as_slice()) else {
+    let Inputs {
+        scripts,
+        updates,
+        ..
+    } = inputs;
+    let Ok(mut replica) = Replica::of_updates(alloc, client, updates.into_vec()) else {
         return Err(Stop::NoMemory);
     };
-    match play(alloc, &mut replica, first_of(&inputs.scripts)) {
+    match play(alloc, &mut replica, first_of(&scripts)) {
         Ok(updates) => Ok(updates),
         Err(PlayFault::NoMemory) => Err(Stop::NoMemory),
         Err(PlayFault::Refused { number, cause }) => Err(Stop::Refused(Refusal::OfLine {

@@ -169,7 +169,7 @@ fn make_kept<'a, L: Library>(
     ensures linked { IsNoLinkFault result }
 {
     let inputs = read_files(alloc, library, files)?;
-    let output = output_of(alloc, command, &inputs)?;
+    let output = output_of(alloc, command, inputs)?;
     Ok(output)
 }
 
@@ -192,7 +192,7 @@ fn make_gathered<'a, L: Library>(
     ensures linked { IsNoLinkFault result }
 {
     let inputs = gather_files(alloc, library, files)?;
-    let output = output_of(alloc, command, &inputs)?;
+    let output = output_of(alloc, command, inputs)?;
     Ok(output)
 }
 
@@ -224,20 +224,20 @@ fn make_online<'a, B: Switchboard>(
 }
 
 // What the command makes of what its files stand for, or why it refuses that.
-fn output_of<'a>(alloc: Global, command: Command<'a>, inputs: &Inputs) -> Result<Vec<u8>, Stop<'a>>
-    requires valid { Each IsValidUpdate (inputs_of inputs.now).updates }
+fn output_of<'a>(alloc: Global, command: Command<'a>, inputs: Inputs) -> Result<Vec<u8>, Stop<'a>>
+    requires valid { Each IsValidUpdate (inputs_of inputs).updates }
     requires range { HasRange (command_of command) }
     requires together { IsOfInputs (command_of command) }
     ensures made { IfOk result (λ bytes.
-        IsMadeOf (command_of command.entry) (inputs_of inputs.now) bytes.items) }
+        IsMadeOf (command_of command.entry) (inputs_of inputs) bytes.items) }
     ensures stops { IfErr result
-        (StopsMaking (command_of command.entry) (inputs_of inputs.now)) }
+        (StopsMaking (command_of command.entry) (inputs_of inputs)) }
 {
     match command {
         Command::Show { mode, root } => Ok(show::show(alloc, mode, root, inputs)?),
-        Command::Convert { form } => Ok(convert::convert(alloc, form, inputs)?),
+        Command::Convert { form } => Ok(convert::convert(alloc, form, &inputs)?),
         Command::Pack => unreachable!(),
-        Command::Merge { form } => Ok(merge::merge(alloc, form, inputs)?),
+        Command::Merge { form } => Ok(merge::merge(alloc, form, &inputs)?),
         Command::Vector => unreachable!(),
         Command::Cut { .. } => unreachable!(),
         Command::Edit { client, script } => edit::edit(alloc, client, script, inputs),

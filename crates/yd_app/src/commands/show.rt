@@ -28,13 +28,13 @@ use yd_value::print;
 use yd_view::text;
 
 /// What the root shows in the mode in a replica's document of all updates, and a line feed.
-pub fn show(alloc: Global, mode: Mode, root: &str, inputs: &Inputs) -> Result<Vec<u8>, NoMemory>
-    requires { Each IsValidUpdate (inputs_of inputs.now).updates }
+pub fn show(alloc: Global, mode: Mode, root: &str, inputs: Inputs) -> Result<Vec<u8>, NoMemory>
+    requires { Each IsValidUpdate (inputs_of inputs).updates }
     ensures { IfOk result (λ line.
-        IsMadeOf (shows mode root.now) (inputs_of inputs.now) line.items) }
+        IsMadeOf (shows mode root.now) (inputs_of inputs) line.items) }
 {
     // It makes no edits, so any client serves.
-    let replica = Replica::of_updates(alloc, Client(0), inputs.updates.as_slice())?;
+    let replica = Replica::of_updates(alloc, Client(0), inputs.updates.into_vec())?;
     own_document_is_replicas(&replica);
     let mut line = print_root(alloc, &replica, mode, root)?;
     line.push(b'\n')?;

@@ -77,7 +77,7 @@ returns-clause-together c = or_alone c.single_of-single.result c.single_of-singl
     k = held_value c.hold_new.new.held
 
     or_alone : (single : Option ℕ) → IfNone single (NoneCameAlone (length c.runs-from.result.now) (length c.entries-count.result.now) c.deref.result.now k) →
-        IfNone single (LowersOne (operations_of (update_value c.args.update.now)) (taken_of c.args.held.now.received)
+        IfNone single (LowersOne (operations_of (update_value c.args.update)) (taken_of c.args.held.now.received)
         ⊎ NoneCameAlone (length c.args.held.now.received.runs) (length c.args.held.now.received.entries) c.in_ok-order-3.order.items k)
     or_alone (Some at) alone = tt
     or_alone None alone = inr (subst (λ order. NoneCameAlone (length c.args.held.now.received.runs) (length c.args.held.now.received.entries) order k) c.deref.ensures.value
@@ -97,7 +97,7 @@ pub returns-then-loses_one-clause-anew : goal.returns-then-loses_one-clause-anew
 returns-then-loses_one-clause-anew c anew =
     let (t, i, e) = subst (λ ts. (t : Entry) × IsIn t ts × (is_gone_listed t ≡ true)) c.entries.ensures.entries c.if-loses_one.ensures.one in (
       c.in_ok-brought.ensures.lowers (subst (λ b. IsTrue (lowers b)) (sym c.in-Lowered.is) anew),
-      loses_one (held_value c.args.held.now) c.take.new.self c.requires.holds c.take.ensures.kept (groups_of (update_value c.args.update.now)) c.in_ok-brought.ensures.received
+      loses_one (held_value c.args.held.now) c.take.new.self c.requires.holds c.take.ensures.kept (groups_of (update_value c.args.update)) c.in_ok-brought.ensures.received
           c.in_ok-brought.ensures.places t i e (held_value c.set_aside.new.held) (held_value c.hold_more.new.held)
           (ap (λ (k : HeldValue). k.received) c.set_aside.ensures.held) c.in_ok-order.ensures.held,
     )
@@ -106,13 +106,13 @@ returns-then-loses_one-clause-anew c anew =
 
 pub hold_more-requires-in-Lowered-clause-holding : goal.hold_more-requires-in-Lowered-clause-holding
 hold_more-requires-in-Lowered-clause-holding c =
-    holding_still (held_value c.args.held.now) c.take.new.self c.requires.holds c.take.ensures.kept (groups_of (update_value c.args.update.now)) c.in_ok-brought.ensures.received
+    holding_still (held_value c.args.held.now) c.take.new.self c.requires.holds c.take.ensures.kept (groups_of (update_value c.args.update)) c.in_ok-brought.ensures.received
     c.in_ok-brought.ensures.places (none_gone c.take.new.self.entries (subst (Each (λ t. is_gone_listed t ≡ false)) c.entries.ensures.entries c.if-loses_one.ensures.none))
 
 pub returns-in-Lowered-clause-order : goal.returns-in-Lowered-clause-order
 returns-in-Lowered-clause-order c =
     let from = length c.runs-from.result.now in
-    holds_on (held_value c.args.held.now) c.take.new.self c.requires.holds c.take.ensures.kept (groups_of (update_value c.args.update.now)) c.in_ok-brought.ensures.received
+    holds_on (held_value c.args.held.now) c.take.new.self c.requires.holds c.take.ensures.kept (groups_of (update_value c.args.update)) c.in_ok-brought.ensures.received
     c.in_ok-brought.ensures.places from (ap length c.runs-from.ensures)
     (none_gone c.take.new.self.entries (subst (Each (λ t. is_gone_listed t ≡ false)) c.entries.ensures.entries c.if-loses_one.ensures.none))
     c.in_ok-told.told.items c.in_ok-order-2.order.items

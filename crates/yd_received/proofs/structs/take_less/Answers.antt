@@ -5,16 +5,16 @@ use Rattle.yd_received.proofs.structs.take_less.Goals as goal
 
 pub returns-clause-taken : goal.returns-clause-taken
 returns-clause-taken c =
-    less_taken c.args.is_gone c.args.runs.now.items c.args.taken.now.items (run_value c.args.run.now) c.requires.taken c.requires.run c.requires.deleted
+    less_taken c.args.is_gone c.args.runs.now.items c.args.taken.now.items (run_value c.args.run) c.requires.taken c.requires.run c.requires.deleted
     c.add_run.new.runs.items c.add_run.new.taken.items c.in_ok-adds.ensures.added c.in_ok-lowers.lowers c.lower.new.runs.items c.lower.new.taken.items
-    (rw (c.len.ensures, c.level_from-level.ensures) at c.in_ok-lowers.ensures.says) (rw (c.len.ensures, c.level_from-level.ensures) at c.in_ok-lowers.ensures.lowered)
+    (rw (c.len-len.ensures, c.level_from-level.ensures) at c.in_ok-lowers.ensures.says) (rw (c.len-len.ensures, c.level_from-level.ensures) at c.in_ok-lowers.ensures.lowered)
     c.in_ok-lowers.ensures.unchanged c.in_ok-adds.ensures.grows c.in_ok-adds.ensures.adds c.in_ok-lowers.ensures.places
 
 pub returns-clause-brings : goal.returns-clause-brings
 returns-clause-brings c =
-    less_brings c.args.is_gone c.args.runs.now.items c.args.taken.now.items (run_value c.args.run.now) c.requires.taken c.requires.run c.requires.deleted
+    less_brings c.args.is_gone c.args.runs.now.items c.args.taken.now.items (run_value c.args.run) c.requires.taken c.requires.run c.requires.deleted
     c.add_run.new.runs.items c.add_run.new.taken.items c.in_ok-adds.ensures.added c.in_ok-adds.adds c.in_ok-lowers.lowers c.in_ok-adds.ensures.says
-    (rw (c.len.ensures, c.level_from-level.ensures) at c.in_ok-lowers.ensures.says)
+    (rw (c.len-len.ensures, c.level_from-level.ensures) at c.in_ok-lowers.ensures.says)
 
 pub returns-clause-backed : goal.returns-clause-backed
 returns-clause-backed c =
@@ -23,6 +23,6 @@ returns-clause-backed c =
 
 pub returns-clause-lowers : goal.returns-clause-lowers
 returns-clause-lowers c =
-    less_keeps c.args.is_gone c.args.runs.now.items c.args.taken.now.items (run_value c.args.run.now) c.requires.taken c.requires.run c.requires.deleted
+    less_keeps c.args.is_gone c.args.runs.now.items c.args.taken.now.items (run_value c.args.run) c.requires.taken c.requires.run c.requires.deleted
     c.add_run.new.runs.items c.add_run.new.taken.items c.in_ok-adds.ensures.added c.in_ok-lowers.lowers c.args.before.now c.lower.new.before
-    (rw (c.len.ensures, c.level_from-level.ensures) at c.in_ok-lowers.ensures.says) c.in_ok-lowers.ensures.aside
+    (rw (c.len-len.ensures, c.level_from-level.ensures) at c.in_ok-lowers.ensures.says) c.in_ok-lowers.ensures.aside

@@ -7,7 +7,7 @@ pub returns : goal.returns
 returns c = record {
   is_output = record {
     found = c.in_ok-found.found;
-    is_found = subst (λ us. IsFound c.in_ok-found.found (map update_value us)) c.as_slice.ensures c.in_ok-found.ensures;
+    is_found = subst (λ us. IsFound c.in_ok-found.found (map update_value us)) c.into_vec.ensures c.in_ok-found.ensures;
     bytes_are = c.in_ok-text.ensures;
   };
   again = tt;

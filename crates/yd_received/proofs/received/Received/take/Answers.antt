@@ -8,9 +8,9 @@ use Rattle.yd_received.proofs.received.Received.take.Goals as goal
 
 pub returns-clause-brings : goal.returns-clause-brings
 returns-clause-brings c =
-    subst (λ v. IfOk c.take_update-result.result (λ brought. IsTrue (brings brought) ↔ BringsOperation (update_value c.args.update.now) (taken_of v))) c.self.view_is c.take_update-result.ensures.brings
+    subst (λ v. IfOk c.take_update-result.result (λ brought. IsTrue (brings brought) ↔ BringsOperation (update_value c.args.update) (taken_of v))) c.self.view_is c.take_update-result.ensures.brings
 
 pub returns-clause-lowers : goal.returns-clause-lowers
 returns-clause-lowers c =
-    subst (λ v. IfOk c.take_update-result.result (λ brought. IsTrue (lowers brought) → LowersOne (operations_of (update_value c.args.update.now)) (taken_of v))) c.self.view_is
+    subst (λ v. IfOk c.take_update-result.result (λ brought. IsTrue (lowers brought) → LowersOne (operations_of (update_value c.args.update)) (taken_of v))) c.self.view_is
     c.take_update-result.ensures.lowers

@@ -32,7 +32,7 @@ settle-requires c =
 pub invariant_of-self-in-Ok : goal.invariant_of-self-in-Ok
 invariant_of-self-in-Ok c =
     let new : GrownValue = record { held = c.take.new.self; named = c.put.new.set; waiting = c.in-Ok.field-0.waiting; kept = c.settle.new.kept; deletes = c.put-in-Ok.new.set } in
-    joined_whole new (settled_whole c.self.inside.held c.self.inside.kept c.self.inside.sets c.self.invariant (update_value c.args.update.now) c.requires
+    joined_whole new (settled_whole c.self.inside.held c.self.inside.kept c.self.inside.sets c.self.invariant (update_value c.args.update) c.requires
     c.take.new.self c.in_ok-taken.ensures.holds c.in_ok-taken.ensures.received c.in_ok-more.more c.put.new.set c.in_ok-more.ensures (c.put.ensures ∙ c.in_ok-named.ensures)
     c.in_ok-taken.taken.anew c.in_ok-taken.taken.told.items c.in_ok-taken.taken.order.items c.in_ok-taken.ensures.order
     c.settle.new.kept c.in-Ok.field-0.waiting _ c.put-in-Ok.new.set c.in-Ok.ensures.settled c.put-in-Ok.ensures)
@@ -43,7 +43,7 @@ pub returns-in-Ok-clause-sound : goal.returns-in-Ok-clause-sound
 returns-in-Ok-clause-sound c =
     let new : GrownValue = record { held = c.take.new.self; named = c.put.new.set; waiting = c.in-Ok.field-0.waiting; kept = c.settle.new.kept; deletes = c.put-in-Ok.new.set } in
     seen_sound (record { held = c.join.new.held; named = c.put.new.set; waiting = c.in-Ok.field-0.waiting; kept = c.join.new.kept; deletes = c.put-in-Ok.new.set })
-    (joined_whole new (settled_whole c.self.inside.held c.self.inside.kept c.self.inside.sets c.self.invariant (update_value c.args.update.now) c.requires
+    (joined_whole new (settled_whole c.self.inside.held c.self.inside.kept c.self.inside.sets c.self.invariant (update_value c.args.update) c.requires
     c.take.new.self c.in_ok-taken.ensures.holds c.in_ok-taken.ensures.received c.in_ok-more.more c.put.new.set c.in_ok-more.ensures (c.put.ensures ∙ c.in_ok-named.ensures)
     c.in_ok-taken.taken.anew c.in_ok-taken.taken.told.items c.in_ok-taken.taken.order.items c.in_ok-taken.ensures.order
     c.settle.new.kept c.in-Ok.field-0.waiting _ c.put-in-Ok.new.set c.in-Ok.ensures.settled c.put-in-Ok.ensures)
@@ -52,7 +52,7 @@ returns-in-Ok-clause-sound c =
 
 pub returns-in-Ok-clause-brings : goal.returns-in-Ok-clause-brings
 returns-in-Ok-clause-brings c =
-    let update = update_value c.args.update.now in
+    let update = update_value c.args.update in
     let one = c.in_ok-taken.taken.brings in
     let more = c.brings_deletion-deletes.result in
     let either : c.if-taken.result ≡ one || more = elim c.if-taken.branch [
@@ -94,7 +94,7 @@ pub returns-in-Ok-clause-grows : goal.returns-in-Ok-clause-grows
 returns-in-Ok-clause-grows c =
     let old : GrownValue = grown_of c.self.inside.held c.self.inside.kept c.self.inside.sets in
     let new : GrownValue = record { held = c.take.new.self; named = c.put.new.set; waiting = c.in-Ok.field-0.waiting; kept = c.settle.new.kept; deletes = c.put-in-Ok.new.set } in
-    let whole : IsWhole new = settled_whole c.self.inside.held c.self.inside.kept c.self.inside.sets c.self.invariant (update_value c.args.update.now) c.requires
+    let whole : IsWhole new = settled_whole c.self.inside.held c.self.inside.kept c.self.inside.sets c.self.invariant (update_value c.args.update) c.requires
     c.take.new.self c.in_ok-taken.ensures.holds c.in_ok-taken.ensures.received c.in_ok-more.more c.put.new.set c.in_ok-more.ensures (c.put.ensures ∙ c.in_ok-named.ensures)
     c.in_ok-taken.taken.anew c.in_ok-taken.taken.told.items c.in_ok-taken.taken.order.items c.in_ok-taken.ensures.order
     c.settle.new.kept c.in-Ok.field-0.waiting _ c.put-in-Ok.new.set c.in-Ok.ensures.settled c.put-in-Ok.ensures in
@@ -106,13 +106,13 @@ pub returns-in-Ok-clause-loses : goal.returns-in-Ok-clause-loses
 returns-in-Ok-clause-loses c =
     let old : GrownValue = grown_of c.self.inside.held c.self.inside.kept c.self.inside.sets in
     let new : GrownValue = record { held = c.take.new.self; named = c.put.new.set; waiting = c.in-Ok.field-0.waiting; kept = c.settle.new.kept; deletes = c.put-in-Ok.new.set } in
-    let whole : IsWhole new = settled_whole c.self.inside.held c.self.inside.kept c.self.inside.sets c.self.invariant (update_value c.args.update.now) c.requires
+    let whole : IsWhole new = settled_whole c.self.inside.held c.self.inside.kept c.self.inside.sets c.self.invariant (update_value c.args.update) c.requires
     c.take.new.self c.in_ok-taken.ensures.holds c.in_ok-taken.ensures.received c.in_ok-more.more c.put.new.set c.in_ok-more.ensures (c.put.ensures ∙ c.in_ok-named.ensures)
     c.in_ok-taken.taken.anew c.in_ok-taken.taken.told.items c.in_ok-taken.taken.order.items c.in_ok-taken.ensures.order
     c.settle.new.kept c.in-Ok.field-0.waiting _ c.put-in-Ok.new.set c.in-Ok.ensures.settled c.put-in-Ok.ensures in
-    let less : Type 0 = LowersOne (operations_of (update_value c.args.update.now)) (taken_of c.self.inside.held.received) in
+    let less : Type 0 = LowersOne (operations_of (update_value c.args.update)) (taken_of c.self.inside.held.received) in
     subst (λ s. LosesNone s (seen_of (record { held = c.join.new.held; named = c.put.new.set; waiting = c.in-Ok.field-0.waiting; kept = c.join.new.kept; deletes = c.put-in-Ok.new.set }))
-    ⊎ LowersOne (operations_of (update_value c.args.update.now)) (received_in s).operations) c.self.view_is
+    ⊎ LowersOne (operations_of (update_value c.args.update)) (received_in s).operations) c.self.view_is
     (elim (loses_then old new c.self.invariant less c.in_ok-taken.taken.anew c.in_ok-taken.taken.told.items c.in_ok-taken.taken.order.items c.in_ok-taken.ensures.order
     (λ anew. (c.in_ok-taken.ensures.anew anew).0)) [
       | inl none ↦ inl (joined_loses new whole c.join.new.held c.join.ensures.held c.join.new.kept c.join.ensures.kept (seen_of old) none)
