@@ -11,4 +11,5 @@ pub mod LentLemmas
 pub mod ListingLemmas
 pub mod RowLemmas
 pub mod StandingLemmas
+pub mod UnitLemmas
 pub mod WalkLemmas
