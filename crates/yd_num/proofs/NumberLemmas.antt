@@ -1,5 +1,6 @@
 -- Numbers: what reading takes is what the grammar spells.
 use Rattle.std.proofs.Common.{◌≡◌, ℕ, zero, suc, ◌+◌, ◌*◌, ◌%◌, ◌^◌, ◌<◌, ◌≤◌, cond, ltb, List, [], ◌∷◌, ◌++◌, length, Ok, Err, refl, ap, subst, ◌∙◌, inl, inr, arith}
+use Rattle.std.proofs.Math.Nat.{pow-le-pow_right, pow-suc}
 use Rattle.std.proofs.lemmas.Bool.{cases_lt, lt-ltb, le-ltb, ltb-true}
 use Rattle.yd_num.specs.Grammar.{Joins}
 use Rattle.yd_num.specs.Number.{IsTerminated, grouped_value, SpellsUnsigned, groups_at, unsigned_at}
@@ -75,6 +76,15 @@ unsigned_only field v rest spells =
     let small : grouped_value field < 2 ^ 53 = rw spells.value spells.in_range in
     rw (groups_again 8 field rest spells.terminated spells.in_eight, lt-ltb (grouped_value field) (2 ^ 53) small) (ap (λ (n : ℕ). Ok (n, rest)) spells.value)
 
--- a byte below 128 at the front is a number by itself
-pub one_byte : (b : ℕ) (rest : List ℕ) → b < 128 → unsigned_at (b ∷ rest) ≡ Ok (b, rest)
-one_byte b rest lt = unsigned_only (b ∷ []) b rest (record { terminated = lt; in_eight = omega arith; value = grind arith; in_range = omega arith })
+-- bytes make less than a group of seven bits for each allows
+pub value-below : (field : List ℕ) → grouped_value field < 128 ^ length field
+value-below [] = omega arith
+value-below (b ∷ field) = rw (pow-suc 128 (length field)) (omega (arith, value-below field))
+
+-- few groups at the front are a number
+pub few_groups : (bytes : List ℕ) (v : ℕ) (rest : List ℕ) → groups_at 3 bytes ≡ Ok (v, rest) → unsigned_at bytes ≡ Ok (v, rest)
+few_groups bytes v rest e =
+    let t = groups_take 3 bytes (v, rest) e in
+    let weight : 128 ^ length t.field ≤ 128 ^ 3 = pow-le-pow_right {n = 128} (omega arith) {i = length t.field} {j = 3} t.within in
+    let small : v < 2 ^ 53 = omega (arith, value-below t.field, t.value) in
+    ap unsigned_at t.joined ∙ unsigned_only t.field v rest (record { terminated = t.terminated; in_eight = omega (arith, t.within); value = t.value; in_range = small })

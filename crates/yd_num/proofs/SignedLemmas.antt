@@ -1,18 +1,14 @@
 -- Signed numbers: what reading takes is what the grammar spells.
 use Rattle.std.proofs.Common.{◌≡◌, ℕ, ◌^◌, ◌<◌, ◌≤◌, List, [], ◌∷◌, ◌++◌, length, Ok, refl, ap, subst, ◌∙◌, inl, inr, arith}
-use Rattle.std.proofs.Math.Nat.{pow-le-pow_right, pow-suc}
+use Rattle.std.proofs.Math.Nat.{pow-le-pow_right}
 use Rattle.std.proofs.lemmas.Bool.{cases_lt, lt-ltb, le-ltb}
 use Rattle.yd_num.specs.declared.signed.Signed.{Signed}
 use Rattle.yd_num.specs.Grammar.{Joins}
-use Rattle.yd_num.specs.Number.{IsTerminated, grouped_value, groups_at}
+use Rattle.yd_num.specs.Number.{IsTerminated, groups_at}
 use Rattle.yd_num.specs.Reading.{Cause}
 use Rattle.yd_num.specs.Signed.{signed_number, signed_value, SpellsSigned, signed_at}
-use Rattle.yd_num.proofs.NumberLemmas.{Takes, terminated-cons, groups_take, groups_again}
+use Rattle.yd_num.proofs.NumberLemmas.{Takes, terminated-cons, groups_take, groups_again, value-below}
 use Rattle.yd_num.proofs.ReadingLemmas.{bind_ok, ok_value}
-
-value-below : (field : List ℕ) → grouped_value field < 128 ^ length field
-value-below [] = omega arith
-value-below (b ∷ field) = rw (pow-suc 128 (length field)) (omega (arith, value-below field))
 
 -- seven groups make 49 bits
 pub seven_fit : (bytes : List ℕ) (v : ℕ) (rest : List ℕ) → groups_at 7 bytes ≡ Ok (v, rest) → v < 2 ^ 49

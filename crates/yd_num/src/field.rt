@@ -13,18 +13,19 @@ use simdutf8::basic::from_utf8;
 /// The greatest unsigned number, 2^53-1, the last up to which JavaScript counts exactly.
 pub const MOST: u64 = (1 << 53) - 1;
 
-/// An unsigned number. Most are below 128, which is one byte.
+/// How many groups of seven bits most numbers have at most.
+const FEW: usize = 3;
+
+/// An unsigned number. Most have few groups.
 #[inline(always)]
-#[tactic(auto, using(crate::proofs::NumberLemmas::one_byte))]
+#[tactic(auto, using(crate::proofs::NumberLemmas::few_groups))]
 pub fn unsigned_of(bytes: &[u8], place: usize) -> Result<(u64, usize), NumFault>
     ensures { StandsAtFront (λ v. v) bytes.now place result (unsigned_at bytes.now) }
 {
-    if let Some((first, _)) = bytes.split_first() {
-        if *first < 128 {
-            return Ok((u64::from(*first), 1));
-        }
+    match groups_of(bytes, FEW) {
+        Groups::Number { value, len } => Ok((value, len)),
+        Groups::Short | Groups::Long => any_unsigned_of(bytes, place),
     }
-    any_unsigned_of(bytes, place)
 }
 
 // An unsigned number of any length.

@@ -15,6 +15,7 @@ pub enum Groups {
 }
 
 /// The number of at most so many groups at the front of the bytes.
+#[inline(always)]
 pub fn groups_of(bytes: &[u8], most: usize) -> Groups
     requires { most ≤ 8 }
     ensures { GivesGroups bytes.now result (groups_at most bytes.now) }

@@ -2,15 +2,15 @@
 use Rattle.std.proofs.Common.{◌≡◌, ℕ, zero, suc, ◌^◌, ◌<◌, ◌⊎◌, true, List, [], ◌∷◌, ◌++◌, length, get_or, Option, Some, IsUtf8, refl, sym, ap, ◌∙◌, inl, inr, append_assoc, arith}
 use Rattle.std.proofs.Math.ListN.{get_or-eq_default}
 use Rattle.std.proofs.Math.Utf8.{scalar, scalars, encode, encodes}
-use Rattle.std.proofs.lemmas.Bool.{and_parts}
+use Rattle.std.proofs.lemmas.Bool.{and_parts, lt-ltb}
 use Rattle.std.proofs.lemmas.List.{map-append}
-use Rattle.std.proofs.lemmas.Str.{chars-nil, chars-encodes, chars_past_char, encodes-append, encodes-chars, scalars-chars, utf16_chars-nil}
+use Rattle.std.proofs.lemmas.Str.{chars-IsAscii, chars-nil, chars-encodes, chars_past_char, encodes-append, encodes-chars, scalars-chars, utf16_chars-nil}
 use Rattle.std.proofs.str.Utf16.{one_unit}
 use Rattle.std.specs.Char.Escape.{encode_utf16}
 use Rattle.std.specs.Char.Utf16.{utf16_chars, utf16_lossy_chars, lone_unit_char, surrogate_pair_char}
 use Rattle.std.specs.List.{flat_map, AllByRecursion}
 use Rattle.std.specs.Option.{unwrap_or}
-use Rattle.std.specs.Str.{chars}
+use Rattle.std.specs.Str.{chars, IsAscii}
 use Rattle.yd_units.specs.Half.{AreUnits, IsHigh, IsLow, IsCut, IsWhole, IsLone}
 use Rattle.yd_units.specs.Text.{units_of, text_of, replacement}
 use Rattle.yd_units.proofs.CharLemmas.{one_or_two, partners_or, half_cases, chars_pair, chars_alone, char_plain, char_half, pair_spelled, pair_scalar, plain_scalar}
@@ -31,6 +31,17 @@ each_fits (u ∷ us) f zero = f.0
 each_fits (u ∷ us) f (suc i) = each_fits us f.1 i
 
 -- ---- from a text
+
+each_unit : (bytes : List ℕ) → IsAscii bytes → flat_map encode_utf16 bytes ≡ bytes
+each_unit [] is = refl
+each_unit (b ∷ rest) is =
+    let small : b < 0x1_0000 = omega (arith, is 0) in
+    rw (lt-ltb b 0x1_0000 small, each_unit rest (λ i. is (suc i))) refl
+
+-- bytes below 128 are units by themselves
+pub units_of_ascii : (text : List ℕ) → IsAscii text → units_of text ≡ text
+unfolding units_of
+units_of_ascii text is = rw (chars-IsAscii text is) (each_unit text is)
 
 units_chars : (cs : List ℕ) → scalars cs ≡ true → utf16_lossy_chars (flat_map encode_utf16 cs) ≡ cs
 units_chars [] is = rw utf16_chars-nil refl

@@ -10,7 +10,29 @@ use crate::half::is_low;
 use std::alloc::Global;
 
 /// The units of a text.
+#[tactic(auto, using(crate::proofs::TextLemmas::units_of_ascii))]
 pub fn units_of(alloc: Global, text: &str) -> Result<Vec<u16>, NoMemory>
+    ensures { IfOk result (λ units. units.items ≡ units_of text.now) }
+{
+    if text.is_ascii() {
+        return units_of_bytes(alloc, text.as_bytes());
+    }
+    units_of_chars(alloc, text)
+}
+
+/// Bytes, each as a unit.
+fn units_of_bytes(alloc: Global, bytes: &[u8]) -> Result<Vec<u16>, NoMemory>
+    ensures { IfOk result (λ units. units.items ≡ bytes.now) }
+{
+    let mut units = Vec::with_capacity(alloc, bytes.len())?;
+    for byte in bytes {
+        units.push_reserved(u16::from(*byte));
+    }
+    Ok(units)
+}
+
+/// The units of each character.
+fn units_of_chars(alloc: Global, text: &str) -> Result<Vec<u16>, NoMemory>
     ensures { IfOk result (λ units. units.items ≡ units_of text.now) }
 {
     let mut units = Vec::with_capacity(alloc, text.len())?;

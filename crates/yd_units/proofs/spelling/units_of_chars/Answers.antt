@@ -2,7 +2,7 @@ use Rattle.std.proofs.Common.{sym, ◌∙◌, append_assoc, append-nil}
 use Rattle.std.proofs.lemmas.Str.{IsUtf8-past_char}
 use Rattle.std.proofs.lemmas.List.{nil_from_length}
 use Rattle.yd_units.proofs.TextLemmas.{units_of-step, units_of-nil}
-use Rattle.yd_units.proofs.spelling.units_of.Goals as goal
+use Rattle.yd_units.proofs.spelling.units_of_chars.Goals as goal
 
 pub loop-c-preserved : goal.loop-c-preserved
 loop-c-preserved c =

@@ -1,7 +1,7 @@
 use Rattle.std.proofs.Common.{◌≡◌, ◌++◌, IsUtf8}
 use Rattle.std.specs.Str.Iter.{chars_rest}
 use Rattle.yd_units.specs.Text.{units_of}
-use Rattle.yd_units.proofs.spelling.units_of.Given as goal
+use Rattle.yd_units.proofs.spelling.units_of_chars.Given as goal
 
 -- the units so far, and those of what is left, are the units of the text
 abbrev pub invariant-loop-c : goal.invariant-loop-c
