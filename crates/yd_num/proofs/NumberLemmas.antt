@@ -82,9 +82,9 @@ value-below [] = omega arith
 value-below (b ∷ field) = rw (pow-suc 128 (length field)) (omega (arith, value-below field))
 
 -- few groups at the front are a number
-pub few_groups : (bytes : List ℕ) (v : ℕ) (rest : List ℕ) → groups_at 3 bytes ≡ Ok (v, rest) → unsigned_at bytes ≡ Ok (v, rest)
+pub few_groups : (bytes : List ℕ) (v : ℕ) (rest : List ℕ) → groups_at 5 bytes ≡ Ok (v, rest) → unsigned_at bytes ≡ Ok (v, rest)
 few_groups bytes v rest e =
-    let t = groups_take 3 bytes (v, rest) e in
-    let weight : 128 ^ length t.field ≤ 128 ^ 3 = pow-le-pow_right {n = 128} (omega arith) {i = length t.field} {j = 3} t.within in
+    let t = groups_take 5 bytes (v, rest) e in
+    let weight : 128 ^ length t.field ≤ 128 ^ 5 = pow-le-pow_right {n = 128} (omega arith) {i = length t.field} {j = 5} t.within in
     let small : v < 2 ^ 53 = omega (arith, value-below t.field, t.value) in
     ap unsigned_at t.joined ∙ unsigned_only t.field v rest (record { terminated = t.terminated; in_eight = omega (arith, t.within); value = t.value; in_range = small })

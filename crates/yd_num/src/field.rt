@@ -13,8 +13,8 @@ use simdutf8::basic::from_utf8;
 /// The greatest unsigned number, 2^53-1, the last up to which JavaScript counts exactly.
 pub const MOST: u64 = (1 << 53) - 1;
 
-/// How many groups of seven bits most numbers have at most.
-const FEW: usize = 3;
+/// How many groups of seven bits most numbers have at most: a client of 32 bits has five.
+const FEW: usize = 5;
 
 /// An unsigned number. Most have few groups.
 #[inline(always)]
