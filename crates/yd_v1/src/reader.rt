@@ -4,7 +4,7 @@ ghost use Rattle.std.specs.Prelude.{◌≡◌, ◌+◌, ◌<◌, ◌^◌, IfOk, 
 ghost use Rattle.yd_any.specs.JsonView.{json_tree};
 ghost use Rattle.yd_any.specs.Valid.{is_valid_json};
 ghost use Rattle.yd_parts.specs.Fault.{Gives, TakesNoMemory};
-ghost use Rattle.yd_parts.specs.Part.{part_at, last_spot};
+ghost use Rattle.yd_parts.specs.Part.{here, part_at, last_spot};
 ghost use Rattle.yd_parts.specs.Plan.{read_by};
 ghost use Rattle.yd_v1.specs.Reading.{IsSoundV1, flag_plan, id_plan, json_text_plan, range_plan, v1_at, v1_end, v1_spot, v1_start};
 
@@ -41,6 +41,17 @@ impl<'a> V1Reader<'a> {
         let spot = parts.here();
         V1Reader { parts, spot }
     }
+
+    // The next field is the one that will be the last. Column and place are written apart: a whole
+    // spot has bytes between them, and these would be written too.
+    #[inline(always)]
+    fn mark(&mut self)
+        ensures { self.new ≡ record { left = self.old.left; spot = here self.old.left } }
+    {
+        let spot = self.parts.here();
+        self.spot.column = spot.column;
+        self.spot.at = spot.at;
+    }
 }
 
 #[tactic(auto, unfolding(crate::specs::Reading::v1_at, yd_parts::specs::Plan::read_by))]
@@ -56,72 +67,72 @@ impl<'a> FieldReader<'a> for V1Reader<'a> {
     ghost is_sound = { IsSoundV1 };
 
     fn get_info(&mut self) -> Result<u8, ReadError> {
-        self.spot = self.parts.here();
+        self.mark();
         self.parts.byte()
     }
 
     fn get_client(&mut self) -> Result<u64, ReadError> {
-        self.spot = self.parts.here();
+        self.mark();
         self.parts.unsigned()
     }
 
     fn get_left(&mut self) -> Result<Id, ReadError> {
-        self.spot = self.parts.here();
+        self.mark();
         read_id(&mut self.parts)
     }
 
     fn get_right(&mut self) -> Result<Id, ReadError> {
-        self.spot = self.parts.here();
+        self.mark();
         read_id(&mut self.parts)
     }
 
     fn get_flag(&mut self) -> Result<u8, ReadError> {
-        self.spot = self.parts.here();
+        self.mark();
         read_flag(&mut self.parts)
     }
 
     fn get_string(&mut self) -> Result<&'a str, ReadError> {
-        self.spot = self.parts.here();
+        self.mark();
         self.parts.text()
     }
 
     fn get_key(&mut self) -> Result<&'a str, ReadError> {
-        self.spot = self.parts.here();
+        self.mark();
         self.parts.text()
     }
 
     fn get_kind(&mut self) -> Result<u64, ReadError> {
-        self.spot = self.parts.here();
+        self.mark();
         self.parts.unsigned()
     }
 
     fn get_length(&mut self) -> Result<u64, ReadError> {
-        self.spot = self.parts.here();
+        self.mark();
         self.parts.unsigned()
     }
 
     fn get_any(&mut self, alloc: Global) -> Result<Any, ReadError> {
-        self.spot = self.parts.here();
+        self.mark();
         read_any(alloc, &mut self.parts)
     }
 
     fn get_blob(&mut self) -> Result<&'a [u8], ReadError> {
-        self.spot = self.parts.here();
+        self.mark();
         self.parts.blob()
     }
 
     fn get_json(&mut self, alloc: Global) -> Result<Json, ReadError> {
-        self.spot = self.parts.here();
+        self.mark();
         read_json(alloc, &mut self.parts)
     }
 
     fn get_number(&mut self) -> Result<u64, ReadError> {
-        self.spot = self.parts.here();
+        self.mark();
         self.parts.unsigned()
     }
 
     fn get_range(&mut self, _before: u64) -> Result<(u64, u64), ReadError> {
-        self.spot = self.parts.here();
+        self.mark();
         read_range(&mut self.parts)
     }
 
@@ -146,6 +157,7 @@ impl<'a> FieldReader<'a> for V1Reader<'a> {
     }
 }
 
+#[inline(always)]
 #[tactic(auto, unfolding(crate::specs::Reading::id_plan, yd_parts::specs::Plan::read_by))]
 fn read_id(parts: &mut Parts<'_>) -> Result<Id, ReadError>
     ensures given { Gives (λ id. id) result parts.new
