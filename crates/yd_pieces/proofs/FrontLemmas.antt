@@ -1,7 +1,7 @@
 -- The element in front of a place in a list in pieces.
-use Rattle.std.proofs.Common.{◌≡◌, ℕ, zero, suc, ◌+◌, ◌-◌, ◌<◌, ◌≤◌, Bool, List, [], ◌∷◌, ◌++◌, Option, Some, length, take, drop, get_or, refl, sym, ap, ◌∙◌, subst, arith}
-use Rattle.std.specs.Prelude.{Vec, All, slice_get}
-use Rattle.std.proofs.lemmas.List.{length-append, take_all, append_assoc}
+use Rattle.std.proofs.Common.{◌≡◌, ℕ, zero, suc, ◌+◌, ◌-◌, ◌<◌, ◌≤◌, Bool, true, List, [], ◌∷◌, ◌++◌, Option, Some, length, take, drop, get_or, refl, sym, ap, ◌∙◌, subst, arith}
+use Rattle.std.specs.Prelude.{Vec, All, HoldsAt, slice_get}
+use Rattle.std.proofs.lemmas.List.{length-append, take_all, append_assoc, get_or-append-add}
 use Rattle.std.proofs.lemmas.Option.{slice_get_within, get_or_from_slice_get}
 use Rattle.yd_pieces.specs.Pieces.{joined, ends_with, in_front, IsFilled, IsBoundary, IsLastPassed}
 use Rattle.yd_pieces.proofs.PieceLemmas.{joined_more, joined_at}
@@ -67,3 +67,17 @@ module _ {T A : Type 0} (p : T → Bool) (ps : List (Vec T A)) (last : List T) (
     boundary = point_last p ps last filled i k (length (joined ps)) le ge boundary (ap (λ qs. length (joined qs)) (sym (take_all i ps ge))) inner;
     element = e;
   }
+
+-- the last element of all is in front of the end, where it passes
+pub front_end : {T : Type 0} (p : T → Bool) (front last : List T) (found : Option T) → (0 < length last) × HoldsAt (λ y. p y ≡ true) last (length last - 1) → found ≡ slice_get last (length last - 1) →
+    IsLastPassed p (front ++ last) found
+front_end p front last found h e =
+    let n = length front + length last in
+    let len : length (front ++ last) ≡ n = length-append front last in
+    let place : n - 1 ≡ length front + (length last - 1) = omega (arith, h.0) in
+    record {
+      place = n;
+      bound = omega (arith, len);
+      boundary = (λ _ d. ap (λ k. p (get_or (front ++ last) k d)) place ∙ ap p (get_or-append-add front last (length last - 1) d) ∙ h.1 d, λ lt. absurd (omega (arith, lt, len)));
+      element = e ∙ sym (front_right front last (length last) h.0);
+    }

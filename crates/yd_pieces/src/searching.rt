@@ -1,6 +1,6 @@
 //! Where the elements that pass a test end.
 
-ghost use Rattle.std.specs.Prelude.{◌≡◌, ◌<◌, ◌≤◌, ◌+◌, ◌^◌, ◌++◌, Bool, All, length, take, option_copied};
+ghost use Rattle.std.specs.Prelude.{◌≡◌, ◌<◌, ◌≤◌, ◌+◌, ◌-◌, ◌^◌, ◌++◌, Bool, true, All, HoldsAt, length, take, option_copied};
 ghost use Rattle.yd_pieces.specs.Pieces.{joined, ends_with, in_front, IsBoundary, IsFilled, IsLastPassed};
 
 /// A test of elements, which a search goes by. Its ghost member says which elements pass, so that
@@ -18,6 +18,17 @@ fn is_end_passed<T, P: Test<T>>(piece: &Vec<T>, test: &P) -> bool
     ensures { result ≡ ends_with (P.passes test.now) piece.now }
 {
     match piece.last() {
+        Some(item) => test.passes(item),
+        None => false,
+    }
+}
+
+/// Whether there is a last element, and it passes.
+fn is_last_passed<T, P: Test<T>>(items: &[T], test: &P) -> bool
+    ensures { result ≡ true → 0 < length items.now
+        × HoldsAt (λ y. P.passes test.now y ≡ true) items.now (length items.now - 1) }
+{
+    match items.last() {
         Some(item) => test.passes(item),
         None => false,
     }
@@ -121,6 +132,10 @@ pub fn front<'a, T, P: Test<T>>(pieces: &'a [Vec<T>], last: &'a [T], test: &P) -
     ensures { IsLastPassed (P.passes test.now) (joined pieces.now ++ last.now)
         (option_copied result) }
 {
+    // What is looked for is often the last element of all.
+    if is_last_passed(last, test) {
+        return last.last();
+    }
     let i = pieces_passed(pieces, test);
     if i < pieces.len() {
         let piece = &pieces[i];

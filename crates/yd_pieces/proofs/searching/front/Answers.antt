@@ -1,7 +1,12 @@
 use Rattle.std.proofs.Common.{arith}
 use Rattle.std.specs.Prelude.{option_copied}
-use Rattle.yd_pieces.proofs.FrontLemmas.{front_within, front_last}
+use Rattle.yd_pieces.specs.Pieces.{joined}
+use Rattle.yd_pieces.proofs.FrontLemmas.{front_within, front_last, front_end}
 use Rattle.yd_pieces.proofs.searching.front.Goals as goal
+
+pub returns-then-is_last_passed : goal.returns-then-is_last_passed
+returns-then-is_last_passed g c =
+    front_end (g.P.Test.passes c.args.test.now) (joined c.args.pieces.now) c.args.last.now (option_copied c.last.result) (c.is_last_passed.ensures c.if-is_last_passed.true) c.last.ensures.value
 
 pub returns-then-i-pieces : goal.returns-then-i-pieces
 returns-then-i-pieces g c =
