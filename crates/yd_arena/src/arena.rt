@@ -17,6 +17,9 @@ use yd_ids::{Client, Id};
 use yd_index::Index;
 use yd_scan::Stretch;
 
+/// The greatest clock that a client can reach, which no unit has.
+const LAST_CLOCK: u64 = 9007199254740991;
+
 /// Where a unit stands: in the run at a place, behind so many of its units.
 #[derive(Clone, Copy, Debug)]
 pub struct Found {
@@ -83,7 +86,12 @@ impl Arena {
         ensures missing { IfNone result (next_clock self.now id.client.0 ≤ id.clock) }
         ensures arena { IsArena self.now.lines (runs_of self.now) }
     {
-        let entry = self.index.entry(id)?;
+        let index = &self.index;
+        // No unit has this clock or a greater one, so that it is not looked up.
+        if id.clock >= LAST_CLOCK {
+            return None;
+        }
+        let entry = index.entry(id)?;
         Some(Found {
             place: entry.place,
             before: id.clock - entry.clock,

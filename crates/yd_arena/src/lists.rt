@@ -157,11 +157,23 @@ impl Lists {
         ensures kept { self.old.room ≤ self.new.room }
         ensures succeeds { more ≤ self.old.room → IsOk result }
     {
-        if more > MOST - self.stretches.len() {
+        let len = self.stretches.len();
+        if more > MOST - len {
             return Err(AllocError);
         }
+        if more
+            <= self
+                .marks
+                .len()
+                .min(self.chains.len())
+                .min(self.stretches.capacity())
+                - len
+        {
+            return Ok(());
+        }
         self.stretches.reserve(more)?;
-        let most = self.stretches.len() + more;
+        // As many places and marks as there is memory for runs, so that the next calls find them.
+        let most = self.stretches.capacity().min(MOST);
         grow_marks(&mut self.marks, most)?;
         grow_places(&mut self.chains, most)?;
         Ok(())
