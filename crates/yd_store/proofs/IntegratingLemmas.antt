@@ -1,7 +1,7 @@
 -- Where runs are cut at its origins, a run can be added; and what the cuts and the addition do together.
 use Rattle.std.proofs.Common.{◌≡◌, ◌≢◌, Bool, false, ℕ, suc, ◌+◌, ◌-◌, ◌<◌, ◌≤◌, inl, inr, List, [], ◌∷◌, ◌++◌, Option, Some, None, length, refl, sym, ap, ap₂, ◌∙◌, subst, arith, true≢false}
 use Rattle.std.proofs.lemmas.List.{length-append, get_or_at}
-use Rattle.std.specs.Prelude.{IfSome, IfOk, Result, Ok, Err, OnOk, OnErr, is_err}
+use Rattle.std.specs.Prelude.{IfSome, IfOk, Result, Ok, Err, OnOk, OnErr}
 use Rattle.yd_ids.specs.declared.id.Id.{Id}
 use Rattle.yd_ids.specs.declared.id.Client.{Client}
 use Rattle.yd_words.specs.Member.{IsIn}
@@ -11,14 +11,16 @@ use Rattle.yd_ops.specs.Value.{RunValue, len_of}
 use Rattle.yd_scan.specs.declared.stretch.Stretch.{Stretch}
 use Rattle.yd_scan.specs.Stretches.{stretch_at, no_stretch, later_units, IsNoLater, EndsLeft}
 use Rattle.yd_scan.proofs.UnitLemmas.{in_units, units_in}
+use Rattle.yd_index.specs.Holding.{front_of}
+use Rattle.yd_index.proofs.CuttingLemmas.{cut_len, cut_front}
 use Rattle.yd_index.proofs.RowLemmas.{from_says, from_in}
 use Rattle.yd_arena.specs.Lists.{AreLists}
-use Rattle.yd_arena.specs.Arena.{Placed, IsArena, HasUnit, runs_of, count_of, places_in, next_clock}
+use Rattle.yd_arena.specs.Arena.{Placed, IsArena, HasUnit, CutsRun, runs_of, count_of, places_in, next_clock}
 use Rattle.yd_arena.specs.Marks.{IsBorder}
-use Rattle.yd_arena.proofs.BorderLemmas.{begins_border, next_border_of}
-use Rattle.yd_store.specs.Store.{Stored, StandsIn, AddsRun, stretch_of}
+use Rattle.yd_arena.proofs.BorderLemmas.{begins_border, next_border, next_border_of}
+use Rattle.yd_store.specs.Store.{Stored, StandsIn, IsKeptRight, AddsRun, stretch_of}
 use Rattle.yd_store.specs.Units.{KeepsUnits, AddsUnits}
-use Rattle.yd_store.specs.Integrating.{IsBorderAt, IsPlaceOf}
+use Rattle.yd_store.specs.Integrating.{IsBorderAt, IsBorderBehind, IsPlaceOf}
 use Rattle.yd_store.proofs.StoreLemmas.{stands_only, stands_below}
 
 -- ---- cuts one after another
@@ -105,6 +107,25 @@ ends_left placed list (Some id) (Some p) arena has s b =
     let clock : id.clock ≡ run.id.clock + (run.len - 1) = omega (arith, last, has.1.clock) in
     ((has.1.within, ap₂ (λ (k : Client) (n : ℕ). record { client = k; clock = n }) (sym has.1.client) clock), stands_only placed list p has.0 id arena has.1 s)
 
+-- a right origin whose run has a place counts just where the list has that place, and one without a place does not
+pub right_here : (placed : Placed) (list place : ℕ) (right : Option Id) → IsPlaceOf placed right (Some place) → IsIn place (places_in placed list) → IsKeptRight placed list right right
+right_here placed list place None e m = (let no : Some place ≡ None = e in absurd cc)
+right_here placed list place (Some id) has m = (refl, record { place = place; before = has.0; has = has.1; member = m })
+
+pub right_elsewhere : (placed : Placed) (list place : ℕ) (right : Option Id) → IsArena placed.lines (runs_of placed) → IsPlaceOf placed right (Some place) → (IsIn place (places_in placed list) → ⊥) →
+    IsKeptRight placed list right None
+right_elsewhere placed list place None arena e out = tt
+right_elsewhere placed list place (Some id) arena has out = λ s. out (stands_only placed list place has.0 id arena has.1 s)
+
+pub right_above : (placed : Placed) (list : ℕ) (right : Option Id) → IsArena placed.lines (runs_of placed) → IsPlaceOf placed right None → IsKeptRight placed list right None
+right_above placed list None arena e = tt
+right_above placed list (Some id) arena above = λ s. absurd (omega (arith, above, stands_below placed list id arena s))
+
+-- the place of a run with a unit is that of a run
+pub place_within : (placed : Placed) (place : ℕ) (z : Option Id) → IsPlaceOf placed z (Some place) → place < length (runs_of placed)
+place_within placed place None e = (let no : Some place ≡ None = e in absurd cc)
+place_within placed place (Some id) has = has.1.within
+
 not_among : (z : Option Id) (us : List Id) → ((u : Id) → IsIn u us → z ≢ Some u) → IsNotAmong z us
 not_among z [] no_one = tt
 not_among z (u ∷ us) no_one = (no_one u (inl refl), not_among z us (λ v h. no_one v (inr h)))
@@ -131,20 +152,40 @@ border_above it id arena above = next_border_of it.placed.lines (runs_of it.plac
 pub border_found : (it : Stored) (id : Id) (place : ℕ) → IsArena it.placed.lines (runs_of it.placed) → HasUnit (runs_of it.placed) place 0 id → IsBorderAt it id
 border_found it id place arena has = begins_border it.placed.lines (runs_of it.placed) place id arena has
 
-pub border_split : (it now : Stored) (id : Id) (place : ℕ) → now ≡ it → IsArena now.placed.lines (runs_of now.placed) → HasUnit (runs_of it.placed) place 0 id → IsBorderAt now id
-border_split it now id place e arena has = border_found now id place arena (subst (λ (s : Stored). HasUnit (runs_of s.placed) place 0 id) (sym e) has)
+pub border_of : (z : Option Id) (id : Id) (it : Stored) (place : ℕ) → z ≡ Some id → IsArena it.placed.lines (runs_of it.placed) → HasUnit (runs_of it.placed) place 0 id → IfSome z (IsBorderAt it)
+border_of z id it place is arena has = subst (λ y. IfSome y (IsBorderAt it)) (sym is) (border_found it id place arena has)
+
+-- no run goes over the end of a unit that is the last of its run
+pub border_end : (it : Stored) (id : Id) (place before : ℕ) → IsArena it.placed.lines (runs_of it.placed) → HasUnit (runs_of it.placed) place before id →
+    before + 1 ≡ (stretch_at (runs_of it.placed) place).len → IsBorderBehind it id
+border_end it id place before arena has last =
+    let run = stretch_at (runs_of it.placed) place in
+    let end : run.id.clock + run.len ≡ id.clock + 1 = omega (arith, last, has.clock) in
+    subst (IsBorder (runs_of it.placed) id.client.0) end
+    (next_border it.placed.lines (runs_of it.placed) arena id.client.0 place run.id.clock has.within (ap (λ (c : Client). c.0) has.client) refl (omega (arith, last)))
+
+-- the unit behind one that is not the last of its run
+pub has_next : (runs : List Stretch) (place before : ℕ) (id : Id) → HasUnit runs place before id → before + 1 ≢ (stretch_at runs place).len →
+    HasUnit runs place (before + 1) (record { client = id.client; clock = id.clock + 1 })
+has_next runs place before id has not = record { within = has.within; inside = omega (arith, has.inside, not); client = has.client; clock = omega (arith, has.clock) }
+
+-- a unit stays where it is, where its run is cut behind it
+pub unit_stays : (old new : Placed) (place n before : ℕ) (id : Id) → CutsRun old new place n → HasUnit (runs_of old) place before id → before < n → HasUnit (runs_of new) place before id
+unit_stays old new place n before id cuts has lt =
+    let e : stretch_at (runs_of new) place ≡ front_of (stretch_at (runs_of old) place) n = ap (λ rs. stretch_at rs place) cuts.runs ∙ cut_front (runs_of old) place n has.within in
+    record {
+      within = omega (arith, has.within, ap length cuts.runs, cut_len (runs_of old) place n has.within);
+      inside = subst (λ (s : Stretch). before < s.len) (sym e) lt;
+      client = ap (λ (s : Stretch). s.id.client) e ∙ has.client;
+      clock = ap (λ (s : Stretch). s.id.clock + before) e ∙ has.clock;
+    }
 
 -- ---- the ways through the calls
 
-pub keeps_as : (old it now : Stored) → now ≡ it → KeepsUnits old it → KeepsUnits old now
-keeps_as old it now e k = subst (KeepsUnits old) (sym e) k
-
 -- a border stays one
-pub border_kept : (z : Option Id) (id : Id) (it mid now : Stored) → z ≡ Some id → mid ≡ it → IsBorderAt it id → KeepsUnits mid now → IfSome z (IsBorderAt now)
-border_kept z id it mid now is e b k = subst (λ y. IfSome y (IsBorderAt now)) (sym is) (k.borders id.client.0 id.clock (subst (λ (s : Stored). IsBorderAt s id) (sym e) b))
-
-pub no_border : (z : Option Id) (now : Stored) → z ≡ None → IfSome z (IsBorderAt now)
-no_border z now is = subst (λ y. IfSome y (IsBorderAt now)) (sym is) tt
+pub borders_stay : (z : Option Id) (mid now : Stored) → KeepsUnits mid now → IfSome z (IsBorderBehind mid) → IfSome z (IsBorderBehind now)
+borders_stay None mid now k b = tt
+borders_stay (Some id) mid now k b = k.borders id.client.0 (id.clock + 1) b
 
 pub left_below : (placed : Placed) (list : ℕ) (z : Option Id) → IsArena placed.lines (runs_of placed) → IfSome z (λ id. StandsIn placed list id) → IfSome z (λ id. id.clock < next_clock placed id.client.0)
 left_below placed list None arena s = tt
@@ -153,10 +194,6 @@ left_below placed list (Some id) arena s = stands_below placed list id arena s
 pub left_kept : (old new : Stored) (list : ℕ) (z : Option Id) → KeepsUnits old new → AreLists new.placed.linked → list < count_of old.placed → IfSome z (λ id. StandsIn old.placed list id) → IfSome z (λ id. StandsIn new.placed list id)
 left_kept old new list None k lists lt s = tt
 left_kept old new list (Some id) k lists lt s = stands_kept old new list id k lists lt s
-
-pub ok_gives : {T E : Type 0} (r : Result T E) (b : Bool) (P : Type 0) → b ≡ is_err r → b ≡ false → OnOk r P → P
-ok_gives (Ok x) b P e n p = p
-ok_gives (Err x) b P e n p = absurd (true≢false (sym e ∙ n))
 
 pub ok_with : {T E : Type 0} (r : Result T E) (P Q : Type 0) → (P → Q) → OnOk r P → OnOk r Q
 ok_with (Ok x) P Q f p = f p

@@ -1,6 +1,6 @@
 //! A run that goes into a list by its origins alone (Yjs 13, `integrate`).
 
-ghost use Rattle.std.specs.Prelude.{◌≡◌, ◌<◌, true, false, IfSome, IfOk, IfErr, OnOk, OnErr};
+ghost use Rattle.std.specs.Prelude.{◌≡◌, ◌<◌, ◌+◌, Some, true, false, IfSome, IfOk, IfErr, OnOk, OnErr};
 ghost use Rattle.yd_ops.specs.View.{run_value};
 ghost use Rattle.yd_arena.specs.Arena.{runs_of, count_of, next_clock, HasUnit};
 ghost use Rattle.yd_store.specs.Units.{KeepsUnits, AddsUnits};
@@ -8,11 +8,19 @@ ghost use Rattle.yd_store.specs.Integrating.{IsBorderAt, IsBorderBehind, IsPlace
 
 use crate::fault::Unplaced;
 use crate::store::Store;
+use yd_arena::Found;
 use yd_ids::Id;
 use yd_ops::{NoMemory, Run};
 
 /// The greatest clock.
 const LAST_CLOCK: u64 = 9007199254740991;
+
+/// The places of the runs with a left and a right origin, where there are such runs.
+#[derive(Clone, Copy, Debug)]
+struct Origins {
+    left: Option<usize>,
+    right: Option<usize>,
+}
 
 impl Store {
     /// Adds the next run of its client to a list, live, where the integration scan puts it. Its
@@ -29,13 +37,12 @@ impl Store {
         ensures unchanged { OnErr result (KeepsUnits self.old self.new) }
     {
         self.is_sound();
-        let parted = self.part_origins(run.left, run.right);
-        if parted.is_err() {
+        let Ok(origins) = self.part_origins(run.left, run.right) else {
             return Err(Unplaced(run));
-        }
+        };
         self.is_sound();
-        let after = self.place_of(run.left);
-        self.add_run(run, list, after)
+        let right = self.right_in(list, run.right, origins.right);
+        self.add_kept(run, list, origins.left, right)
     }
 
     /// Whether a run can go into a list: it is not empty, its clocks are the next ones of its
@@ -55,20 +62,50 @@ impl Store {
         }
     }
 
-    /// Cuts runs in front of a right origin and behind a left one.
-    fn part_origins(&mut self, left: Option<Id>, right: Option<Id>) -> Result<(), NoMemory>
+    /// Cuts runs behind a left origin and in front of a right one, and answers where they stand then.
+    fn part_origins(&mut self, left: Option<Id>, right: Option<Id>) -> Result<Origins, NoMemory>
         requires { IfSome left (λ id. id.clock < next_clock self.old.placed id.client.0) }
+        ensures left_place { IfOk result (λ at. IsPlaceOf self.new.placed left at.left) }
+        ensures right_place { IfOk result (λ at. IsPlaceOf self.new.placed right at.right) }
         ensures right { OnOk result (IfSome right (IsBorderAt self.new)) }
         ensures left { OnOk result (IfSome left (IsBorderBehind self.new)) }
         ensures units { KeepsUnits self.old self.new }
     {
-        if let Some(id) = right {
-            self.part_at(id)?;
+        let after = self.part_left(left)?;
+        self.is_sound();
+        let Some(id) = right else {
+            return Ok(Origins {
+                left: after,
+                right: None,
+            });
+        };
+        // The right origin mostly stands behind the left one still, and is not looked up then.
+        if let Some(place) = self.next_begun(after, id) {
+            return Ok(Origins {
+                left: after,
+                right: Some(place),
+            });
         }
-        if let Some(id) = left {
-            self.part_behind(id)?;
-        }
-        Ok(())
+        let place = self.part_front(id)?;
+        // The cut can have given the left origin's unit to another run.
+        Ok(Origins {
+            left: self.place_of(left),
+            right: place,
+        })
+    }
+
+    /// Cuts a run behind a left origin, and answers where it stands then.
+    fn part_left(&mut self, left: Option<Id>) -> Result<Option<usize>, NoMemory>
+        requires { IfSome left (λ id. id.clock < next_clock self.old.placed id.client.0) }
+        ensures place { IfOk result (IsPlaceOf self.new.placed left) }
+        ensures border { OnOk result (IfSome left (IsBorderBehind self.new)) }
+        ensures units { KeepsUnits self.old self.new }
+    {
+        let Some(id) = left else {
+            return Ok(None);
+        };
+        let place = self.part_behind(id)?;
+        Ok(Some(place))
     }
 
     /// Lets no run go over the front of a unit, so that a deletion may begin or end there. The unit
@@ -77,26 +114,51 @@ impl Store {
         ensures border { OnOk result (IsBorderAt self.new id) }
         ensures units { KeepsUnits self.old self.new }
     {
-        if self.next_clock(id.client) > id.clock {
-            self.split(id)?;
-        }
-        self.is_sound();
+        self.part_front(id)?;
         Ok(())
     }
 
-    /// The same of its end, where it is held.
-    pub(crate) fn part_behind(&mut self, id: Id) -> Result<(), NoMemory>
+    /// The same, and answers the place of the run that begins with the unit then, if it is held.
+    fn part_front(&mut self, id: Id) -> Result<Option<usize>, NoMemory>
+        ensures place { IfOk result (IsPlaceOf self.new.placed (Some id)) }
+        ensures border { OnOk result (IsBorderAt self.new id) }
+        ensures units { KeepsUnits self.old self.new }
+    {
+        self.is_sound();
+        let Some(found) = self.find(id) else {
+            return Ok(None);
+        };
+        if found.before == 0 {
+            return Ok(Some(found.place));
+        }
+        let place = self.split_found(id, found)?;
+        self.is_sound();
+        Ok(Some(place))
+    }
+
+    /// Lets no run go over the end of a unit, where it is held, and answers where it stands then.
+    pub(crate) fn part_behind(&mut self, id: Id) -> Result<usize, NoMemory>
         requires { id.clock < next_clock self.old.placed id.client.0 }
+        ensures place { IfOk result (λ place. IsPlaceOf self.new.placed (Some id) (Some place)) }
         ensures border { OnOk result (IsBorderBehind self.new id) }
         ensures units { KeepsUnits self.old self.new }
     {
-        // That the next clock is one says that no sum of clocks overflows here.
-        let _ = self.next_clock(id.client);
-        self.part_at(Id {
+        self.is_sound();
+        let Some(found) = self.find(id) else {
+            unreachable!();
+        };
+        let before = found.before + 1;
+        if before == self.len_at(found.place) {
+            return Ok(found.place);
+        }
+        let next = Id {
             client: id.client,
             clock: id.clock + 1,
-        })?;
-        Ok(())
+        };
+        let place = found.place;
+        self.split_found(next, Found { place, before })?;
+        self.is_sound();
+        Ok(place)
     }
 
     /// The place of the run with a unit, if there is one.

@@ -1,13 +1,13 @@
 //! Changes of all parts of a store together.
 
-ghost use Rattle.std.specs.Prelude.{◌≡◌, ◌<◌, ◌≤◌, ◌++◌, ◌∷◌, [], ℕ, length, take, IfSome, IfNone, IfOk, OnOk, OnErr, IsOk, min};
+ghost use Rattle.std.specs.Prelude.{◌≡◌, ◌<◌, ◌≤◌, ◌++◌, ◌∷◌, [], ℕ, length, take, IfOk, OnOk, OnErr, IsOk, min};
 ghost use Rattle.yd_arena.specs.Lists.{AreLists};
-ghost use Rattle.yd_arena.specs.Arena.{runs_of, room_for, count_of, next_clock, IsArena, HasUnit};
+ghost use Rattle.yd_arena.specs.Arena.{runs_of, room_for, count_of, IsArena};
 ghost use Rattle.yd_store.specs.Store.{KeepsParts, KeepsRuns};
 
 use crate::contents::Contents;
 use std::alloc::AllocError;
-use yd_arena::{Arena, Found, Marks};
+use yd_arena::{Arena, Marks};
 use yd_ids::{Client, Id};
 
 /// Makes room for so many runs of a client in all parts, or finds no memory for it.
@@ -55,13 +55,15 @@ pub fn add_list_parts(arena: &mut Arena, marks: &mut Marks) -> Result<usize, All
     }
 }
 
-/// Where a unit stands, with what its run can be cut by.
-pub fn seek(arena: &Arena, id: Id) -> Option<Found>
-    ensures found { IfSome result (λ at. HasUnit (runs_of arena.now) at.place at.before id) }
-    ensures missing { IfNone result (next_clock arena.now id.client.0 ≤ id.clock) }
+/// That the index finds the runs, and no list has a place twice, as facts for callers.
+pub fn is_sound(arena: &Arena)
     ensures arena { IsArena arena.now.lines (runs_of arena.now) }
     ensures lists { AreLists arena.now.linked }
 {
     let _ = arena.lists();
-    arena.find(id)
+    // No unit has this clock, so nothing is looked up.
+    let _ = arena.find(Id {
+        client: Client(0),
+        clock: u64::MAX,
+    });
 }

@@ -17,19 +17,18 @@ ghost use Rattle.yd_store.specs.Taking.{TakesBack, AreDead};
 
 mod joining;
 mod outside;
+mod placing;
 mod telling;
 
 use crate::contents::Contents;
-use crate::counted::counts;
 use crate::fault::Unplaced;
-use crate::parts::{add_list_parts, reserve_parts, seek};
+use crate::parts::{add_list_parts, is_sound, reserve_parts};
 use crate::rights::{kept_right, stands_in};
 use std::alloc::Global;
 use std::marker::Model;
-use yd_arena::{Arena, Found, Mark, Marks};
+use yd_arena::{Arena, Found, Marks};
 use yd_ids::{Client, Id, Span};
 use yd_ops::{NoMemory, Run};
-use yd_scan::Stretch;
 
 /// The runs that are held, at places: in lists by their numbers, or in none where they are gone or
 /// lost. Each has a mark of deletion and, unless it is gone, what it holds.
@@ -117,11 +116,7 @@ impl Store {
         ensures counted { AreCounted self.now.placed.linked self.now.marks.rows self.now.marks.live }
         ensures noted { AreNoted self.now.marks.rows (told_of self.now.contents) }
     {
-        let id = Id {
-            client: Client(0),
-            clock: 0,
-        };
-        let _ = seek(&self.arena, id);
+        is_sound(&self.arena);
     }
 
     /// The first place of a list, or None where it is empty.
@@ -239,18 +234,13 @@ impl Store {
         ensures units { KeepsUnits self.old self.new }
         ensures unchanged { OnErr result (IsKept self.old self.new) }
     {
-        let Some(found) = seek(&self.arena, id) else {
+        let Some(found) = self.find(id) else {
             unreachable!();
         };
         if found.before == 0 {
             return Ok(found.place);
         }
-        self.marks.reserve(1)?;
-        let place = self
-            .arena
-            .cut_with(found.place, found.before, &mut self.contents)?;
-        self.marks.cut(found.place);
-        Ok(place)
+        self.split_found(id, found)
     }
 
     /// Adds the next run of its client to a list, live, where the integration scan of its first
@@ -281,42 +271,12 @@ impl Store {
         ensures succeeds { 0 < spare_of self.old run.id.client.0 →
             CanCount self.old list (run_value run) → IsOk result }
     {
-        if !self.can_count(list, &run) {
-            return Err(Unplaced(run));
-        }
         let right = kept_right(&self.arena, list, run.right);
-        let room = reserve_parts(
-            &mut self.arena,
-            &mut self.marks,
-            &mut self.contents,
-            run.id.client,
-            1,
-        );
-        if room.is_err() {
-            return Err(Unplaced(run));
-        }
-        let len = run.len();
-        let mark = Mark {
-            deleted: false,
-            counted: counts(&run.content),
-        };
-        let place = self.arena.add_run(
-            list,
-            after,
-            Stretch {
-                id: run.id,
-                len,
-                left: run.left,
-                right,
-            },
-        );
-        self.marks.add(Some(list), len, mark);
-        self.contents.add(Some(run));
-        Ok(place)
+        self.add_kept(run, list, after, right)
     }
 
     /// A list has fewer than 2^64 live units with those of a run.
-    fn can_count(&self, list: usize, run: &Run) -> bool
+    pub(crate) fn can_count(&self, list: usize, run: &Run) -> bool
         requires { list < count_of self.now.placed }
         ensures fits { result ≡ true → CanCount self.now list (run_value run.now) }
         ensures full { result ≡ false → CanCount self.now list (run_value run.now) → ⊥ }
@@ -352,7 +312,7 @@ impl Store {
         ensures dead { AreDead self.new client.0 clock }
         ensures spares { (k : ℕ) → spare_of self.old k ≤ spare_of self.new k }
     {
-        let _ = seek(&self.arena, Id { client, clock });
+        is_sound(&self.arena);
         let place = self.arena.take_last(client);
         self.contents.empty(place);
         self.arena.next_clock(client)

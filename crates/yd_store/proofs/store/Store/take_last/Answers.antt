@@ -21,7 +21,7 @@ pub invariant_of-self : goal.invariant_of-self
 invariant_of-self c =
     let old : Stored = record { placed = c.self.inside.arena; marks = c.self.inside.marks; contents = c.self.inside.contents } in
     let new : Stored = record { placed = c.take_last-place.new.self; marks = c.self.inside.marks; contents = c.empty.new.self } in
-    store_taken old new c.args.client.0 c.take_last-place.result c.args.clock c.self.invariant c.seek.ensures.arena c.seek.ensures.lists c.take_last-place.ensures.done refl
+    store_taken old new c.args.client.0 c.take_last-place.result c.args.clock c.self.invariant c.is_sound.ensures.arena c.is_sound.ensures.lists c.take_last-place.ensures.done refl
     (told_empty c.self.inside.contents c.empty.new.self c.take_last-place.result c.empty.ensures.rows)
     (rw (← c.self.view_is) at c.requires.border) (rw (← c.self.view_is) at c.requires.high) (rw (← c.self.view_is) at c.requires.dead) refl
 
@@ -33,7 +33,7 @@ returns-clause-above c =
       arith,
       c.next_clock.ensures.value,
       c.take_last-place.ensures.done.next,
-      begins_above old new c.args.client.0 c.take_last-place.result c.args.clock c.self.invariant c.seek.ensures.arena c.seek.ensures.lists c.take_last-place.ensures.done refl
+      begins_above old new c.args.client.0 c.take_last-place.result c.args.clock c.self.invariant c.is_sound.ensures.arena c.is_sound.ensures.lists c.take_last-place.ensures.done refl
           (told_empty c.self.inside.contents c.empty.new.self c.take_last-place.result c.empty.ensures.rows)
           (rw (← c.self.view_is) at c.requires.border) (rw (← c.self.view_is) at c.requires.high) (rw (← c.self.view_is) at c.requires.dead),
     )
@@ -47,13 +47,13 @@ returns-clause-taken c =
     let old : Stored = record { placed = c.self.inside.arena; marks = c.self.inside.marks; contents = c.self.inside.contents } in
     let new : Stored = record { placed = c.take_last-place.new.self; marks = c.self.inside.marks; contents = c.empty.new.self } in
     rw (← c.self.view_is) (subst (λ n. TakesBack old new c.args.client.0 n) (sym (c.next_clock.ensures.value ∙ c.take_last-place.ensures.done.next))
-    (takes_back old new c.args.client.0 c.take_last-place.result c.seek.ensures.arena c.self.invariant.told c.seek.ensures.lists c.take_last-place.ensures.done refl
+    (takes_back old new c.args.client.0 c.take_last-place.result c.is_sound.ensures.arena c.self.invariant.told c.is_sound.ensures.lists c.take_last-place.ensures.done refl
     (told_empty c.self.inside.contents c.empty.new.self c.take_last-place.result c.empty.ensures.rows)))
 
 pub returns-clause-dead : goal.returns-clause-dead
 returns-clause-dead c =
     let old : Stored = record { placed = c.self.inside.arena; marks = c.self.inside.marks; contents = c.self.inside.contents } in
     let new : Stored = record { placed = c.take_last-place.new.self; marks = c.self.inside.marks; contents = c.empty.new.self } in
-    still_dead old new c.args.client.0 c.take_last-place.result c.args.clock c.self.invariant c.seek.ensures.arena c.seek.ensures.lists c.take_last-place.ensures.done refl
+    still_dead old new c.args.client.0 c.take_last-place.result c.args.clock c.self.invariant c.is_sound.ensures.arena c.is_sound.ensures.lists c.take_last-place.ensures.done refl
     (told_empty c.self.inside.contents c.empty.new.self c.take_last-place.result c.empty.ensures.rows)
     (rw (← c.self.view_is) at c.requires.border) (rw (← c.self.view_is) at c.requires.high) (rw (← c.self.view_is) at c.requires.dead)
