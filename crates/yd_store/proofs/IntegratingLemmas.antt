@@ -1,5 +1,5 @@
 -- Where runs are cut at its origins, a run can be added; and what the cuts and the addition do together.
-use Rattle.std.proofs.Common.{◌≡◌, ◌≢◌, Bool, false, ℕ, suc, ◌+◌, ◌-◌, ◌<◌, ◌≤◌, inl, inr, List, [], ◌∷◌, ◌++◌, Option, Some, None, length, refl, sym, ap, ap₂, ◌∙◌, subst, arith, true≢false}
+use Rattle.std.proofs.Common.{◌≡◌, ◌≢◌, ℕ, suc, ◌+◌, ◌-◌, ◌<◌, ◌≤◌, inl, inr, List, [], ◌∷◌, Option, Some, None, length, refl, sym, ap, ap₂, ◌∙◌, subst, arith}
 use Rattle.std.proofs.lemmas.List.{length-append, get_or_at}
 use Rattle.std.specs.Prelude.{IfSome, IfOk, Result, Ok, Err, OnOk, OnErr}
 use Rattle.yd_ids.specs.declared.id.Id.{Id}

@@ -87,9 +87,8 @@ impl Store {
             });
         }
         let place = self.part_front(id)?;
-        // The cut can have given the left origin's unit to another run.
         Ok(Origins {
-            left: self.place_of(left),
+            left: self.place_of(left, after),
             right: place,
         })
     }
@@ -161,11 +160,17 @@ impl Store {
         Ok(place)
     }
 
-    /// The place of the run with a unit, if there is one.
-    fn place_of(&self, id: Option<Id>) -> Option<usize>
+    /// The place of the run with a unit, if there is one: mostly the one that it had before a cut.
+    fn place_of(&self, id: Option<Id>, before: Option<usize>) -> Option<usize>
         ensures { IsPlaceOf self.now.placed id result }
     {
-        let found = self.find(id?)?;
+        let id = id?;
+        if let Some(place) = before
+            && self.has_unit(place, id)
+        {
+            return Some(place);
+        }
+        let found = self.find(id)?;
         Some(found.place)
     }
 }

@@ -1,7 +1,8 @@
 //! Which right origin counts.
 
-ghost use Rattle.std.specs.Prelude.{◌≡◌, ◌<◌, true, false, length, IfSome};
+ghost use Rattle.std.specs.Prelude.{◌≡◌, ◌<◌, ◌-◌, true, false, length, IfSome};
 ghost use Rattle.yd_words.specs.Member.{IsIn};
+ghost use Rattle.yd_scan.specs.Stretches.{stretch_at};
 ghost use Rattle.yd_arena.specs.Arena.{count_of, runs_of, places_in, HasUnit};
 ghost use Rattle.yd_store.specs.Store.{IsKeptRight, StandsIn};
 ghost use Rattle.yd_store.specs.Integrating.{IsPlaceOf};
@@ -79,6 +80,19 @@ fn begins(lists: &Lists, place: usize, id: Id) -> bool
     }
     let run = lists.stretch(place);
     run.len > 0 && run.id.client.0 == id.client.0 && run.id.clock == id.clock
+}
+
+/// Whether there is a run at a place, and it has a unit.
+pub fn has_unit(arena: &Arena, place: usize, id: Id) -> bool
+    ensures { result ≡ true → HasUnit (runs_of arena.now) place
+        (id.clock - (stretch_at (runs_of arena.now) place).id.clock) id }
+{
+    let lists = arena.lists();
+    if place >= lists.len() {
+        return false;
+    }
+    let run = lists.stretch(place);
+    run.id.client.0 == id.client.0 && run.id.clock <= id.clock && id.clock - run.id.clock < run.len
 }
 
 /// Whether a unit stands in a list.

@@ -1,6 +1,6 @@
 //! What is known of a place already, and is not looked up again.
 
-ghost use Rattle.std.specs.Prelude.{◌≡◌, ◌<◌, ◌≤◌, ◌+◌, ℕ, length, IfSome, IfOk, IfErr, OnOk, OnErr, IsOk};
+ghost use Rattle.std.specs.Prelude.{◌≡◌, ◌<◌, ◌≤◌, ◌+◌, ◌-◌, ℕ, true, length, IfSome, IfOk, IfErr, OnOk, OnErr, IsOk};
 ghost use Rattle.yd_ids.specs.Id.{IsClock};
 ghost use Rattle.yd_words.specs.Member.{IsIn};
 ghost use Rattle.yd_ops.specs.Value.{len_of};
@@ -14,7 +14,7 @@ ghost use Rattle.yd_store.specs.Integrating.{IsPlaceOf};
 use crate::counted::counts;
 use crate::fault::Unplaced;
 use crate::parts::{is_sound, reserve_parts};
-use crate::rights::{kept_at, next_begun};
+use crate::rights::{has_unit, kept_at, next_begun};
 use crate::store::Store;
 use yd_arena::{Found, Mark};
 use yd_ids::Id;
@@ -127,5 +127,13 @@ impl Store {
         ensures begins { IfSome result (λ place. HasUnit (runs_of self.now.placed) place 0 id) }
     {
         next_begun(&self.arena, after, id)
+    }
+
+    /// Whether there is a run at a place, and it has a unit.
+    pub(crate) fn has_unit(&self, place: usize, id: Id) -> bool
+        ensures { result ≡ true → HasUnit (runs_of self.now.placed) place
+            (id.clock - (stretch_at (runs_of self.now.placed) place).id.clock) id }
+    {
+        has_unit(&self.arena, place, id)
     }
 }

@@ -1,4 +1,4 @@
-use Rattle.std.proofs.Common.{◌∙◌, ◌++◌, ◌∷◌, [], ap, arith}
+use Rattle.std.proofs.Common.{◌∙◌, ◌++◌, ◌∷◌, [], ap}
 use Rattle.yd_arena.specs.Arena.{runs_of}
 use Rattle.yd_arena.specs.Marks.{mark_at}
 use Rattle.yd_store.proofs.StoreLemmas.{can_cut, store_cut}
