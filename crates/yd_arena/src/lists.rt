@@ -22,6 +22,9 @@ use yd_scan::{Finds, Stretch, scan};
 /// The greatest number of runs, 2^53 - 1, which no machine reaches. A growth past it finds no memory.
 pub const MOST: usize = 9007199254740991;
 
+/// For how many runs there are places and marks at once. No contract rests on it.
+const AHEAD: usize = 64;
+
 /// Runs at places, as stretches, and lists of them that are kept by links. A run is in one list at
 /// most, and one that is in no list need not have units.
 ///
@@ -161,19 +164,13 @@ impl Lists {
         if more > MOST - len {
             return Err(AllocError);
         }
-        if more
-            <= self
-                .marks
-                .len()
-                .min(self.chains.len())
-                .min(self.stretches.capacity())
-                - len
-        {
+        let places = self.marks.len().min(self.chains.len());
+        if more <= places.min(self.stretches.capacity()) - len {
             return Ok(());
         }
         self.stretches.reserve(more)?;
-        // As many places and marks as there is memory for runs, so that the next calls find them.
-        let most = self.stretches.capacity().min(MOST);
+        // Some more places and marks, so that the next calls find them.
+        let most = len + more.max(AHEAD);
         grow_marks(&mut self.marks, most)?;
         grow_places(&mut self.chains, most)?;
         Ok(())
