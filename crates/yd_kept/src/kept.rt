@@ -12,7 +12,7 @@ ghost use Rattle.yd_store.specs.Store.{AreTold};
 use std::alloc::Global;
 use std::marker::Model;
 use yd_ids::{Id, Span};
-use yd_names::Names;
+use yd_names::ItemNames;
 use yd_ops::{List, Parent};
 use yd_store::Store;
 
@@ -22,7 +22,7 @@ use yd_store::Store;
 #[derive(Drop)]
 pub struct Kept {
     pub(crate) store: Store,
-    pub(crate) names: Names,
+    pub(crate) names: ItemNames,
 }
 
 impl Model for Kept {
@@ -50,7 +50,7 @@ impl Kept {
     {
         Kept {
             store: Store::new(alloc),
-            names: Names::new(alloc),
+            names: ItemNames::new(alloc),
         }
     }
 
@@ -92,7 +92,7 @@ impl Kept {
         self.names.last_of(parent, before)
     }
 
-    /// The first item of a span that has a list, as `Names::first_item` finds it.
+    /// The first item of a span that has a list, as `ItemNames::first_item` finds it.
     pub fn first_item(&self, span: Span) -> Option<Id>
         requires { IsSpan span }
         ensures { IsFirstItem self.now.names span result }

@@ -27,26 +27,16 @@ use Rattle.yd_names.proofs.NamesLemmas.{got_in_front}
 
 -- ---- names that come and go
 
-pushed_items : (names : List DocList) (name : DocList) (old new : BTreeSet ℕ) → HasItems names old →
-    ((code : ℕ) → contains nat_cmp old code ≡ true → contains nat_cmp new code ≡ true) →
-    IfSome (item_of_parent name.parent) (λ id. contains nat_cmp new (code_of_item id) ≡ true) → HasItems (names ++ name ∷ []) new
-pushed_items names name old new has kept added = λ item h. elim (got_before name names h.number h.list h.there) [
-  | inl e ↦ kept (code_of_item item) (has item (record { number = h.number; list = h.list; there = e; own = h.own }))
-  | inr (e, same) ↦ subst (λ z. IfSome z (λ id. contains nat_cmp new (code_of_item id) ≡ true)) (ap item_of_list same ∙ h.own) added
-]
-
 pushed_codes : (f : DocList → ℕ) (names : List DocList) (name : DocList) (old new : List ℕ) (code : ℕ) → old ≡ map f names → code ≡ f name → new ≡ old ++ code ∷ [] →
     new ≡ map f (names ++ name ∷ [])
 pushed_codes f names name old new code e same more = more ∙ ap (λ cs. cs ++ code ∷ []) e ∙ ap (λ c. map f names ++ c ∷ []) same ∙ sym (map-append f names (name ∷ []))
 
-pub pushed_coded : (names : List DocList) (name : DocList) (codes more_codes parents more_parents : List ℕ) (items more_items : BTreeSet ℕ) (code own : ℕ) →
-    AreCoded names codes parents items → code ≡ code_of_list name → own ≡ code_of_own name → more_codes ≡ codes ++ code ∷ [] → more_parents ≡ parents ++ own ∷ [] →
-    ((code : ℕ) → contains nat_cmp items code ≡ true → contains nat_cmp more_items code ≡ true) →
-    IfSome (item_of_parent name.parent) (λ id. contains nat_cmp more_items (code_of_item id) ≡ true) → AreCoded (names ++ name ∷ []) more_codes more_parents more_items
-pushed_coded names name codes more_codes parents more_parents items more_items code own coded e f g h kept added = record {
+pub pushed_coded : (names : List DocList) (name : DocList) (codes more_codes parents more_parents : List ℕ) (code own : ℕ) →
+    AreCoded names codes parents → code ≡ code_of_list name → own ≡ code_of_own name → more_codes ≡ codes ++ code ∷ [] → more_parents ≡ parents ++ own ∷ [] →
+    AreCoded (names ++ name ∷ []) more_codes more_parents
+pushed_coded names name codes more_codes parents more_parents code own coded e f g h = record {
   names_are = pushed_codes code_of_list names name codes more_codes code coded.names_are e g;
   parents_are = pushed_codes code_of_own names name parents more_parents own coded.parents_are f h;
-  items_are = pushed_items names name items more_items coded.items_are kept added;
 }
 
 popped_codes : (f : DocList → ℕ) (names : List DocList) (old new : List ℕ) → old ≡ map f names → new ≡ take (length old - 1) old → new ≡ map f (take (length names - 1) names)
@@ -70,14 +60,12 @@ without_last {X = X} xs ys (Some x) e some = sym (ap (λ zs. take (length zs - 1
         go (z ∷ zs) = ap (λ l. z ∷ l) (go zs)
 
 -- what is known of names is known of those but the last
-pub popped_coded : (names fewer : List DocList) (codes less_codes parents less_parents : List ℕ) (items : BTreeSet ℕ) → AreCoded names codes parents items →
+pub popped_coded : (names fewer : List DocList) (codes less_codes parents less_parents : List ℕ) → AreCoded names codes parents →
     fewer ≡ take (length names - 1) names → less_codes ≡ take (length codes - 1) codes → less_parents ≡ take (length parents - 1) parents →
-    AreCoded fewer less_codes less_parents items
-popped_coded names fewer codes less_codes parents less_parents items coded e f g = subst (λ ns. AreCoded ns less_codes less_parents items) (sym e) (record {
+    AreCoded fewer less_codes less_parents
+popped_coded names fewer codes less_codes parents less_parents coded e f g = subst (λ ns. AreCoded ns less_codes less_parents) (sym e) (record {
   names_are = popped_codes code_of_list names codes less_codes coded.names_are f;
   parents_are = popped_codes code_of_own names parents less_parents coded.parents_are g;
-  items_are = λ item h. coded.items_are item
-      (record { number = h.number; list = h.list; there = got_in_front (length names - 1) names h.number h.list h.there; own = h.own });
 })
 
 take_less : {X : Type 0} (m n : ℕ) (xs : List X) → m ≤ n → take m (take n xs) ≡ take m xs

@@ -2,19 +2,16 @@
 use Rattle.std.specs.Prelude.{◌≡◌, ◌≢◌, ◌<◌, ℕ, List, Option, Some, None, length, map, slice_get}
 use Rattle.yd_ops.specs.declared.lists.List.{List as DocList}
 use Rattle.yd_ops.specs.declared.lists.Parent.{Parent}
-use Rattle.std.specs.BTreeSet.{BTreeSet}
-use Rattle.yd_names.specs.Items.{HasItems}
 use Rattle.yd_names.specs.Coding.{code_of_parent, code_of_list}
 
 -- the code of the parent of a list
 abbrev pub code_of_own : DocList → ℕ
 code_of_own list = code_of_parent list.parent
 
--- the names are found by their codes, and by those of their parents, and so are the items that have lists
-pub record AreCoded (names : List DocList) (codes parents : List ℕ) (items : BTreeSet ℕ) : Type 0 where
+-- the names are found by their codes, and by those of their parents
+pub record AreCoded (names : List DocList) (codes parents : List ℕ) : Type 0 where
   pub names_are : codes ≡ map code_of_list names
   pub parents_are : parents ≡ map code_of_own names
-  pub items_are : HasItems names items
 
 -- the list with a number is one of the parent's
 pub record IsOf (names : List DocList) (parent : Parent) (number : ℕ) : Type 0 where

@@ -1,20 +1,15 @@
 //! Names of lists, by their numbers.
 
-ghost use Rattle.std.specs.Prelude.{◌≡◌, ◌≢◌, true, false, ◌++◌, ◌∷◌, [], ℕ, Some, length, map, take, slice_get, IfSome, IfNone, OnOk, OnErr};
+ghost use Rattle.std.specs.Prelude.{◌≡◌, ◌≢◌, ◌++◌, ◌∷◌, [], ℕ, Some, length, map, take, slice_get, IfSome, IfNone, OnOk, OnErr};
 ghost use Rattle.yd_names.specs.Coding.{code_of_parent};
 ghost use Rattle.yd_names.specs.Codes.{last_place};
-ghost use Rattle.yd_ids.specs.Id.{IsSpan};
-ghost use Rattle.yd_names.specs.Items.{HasList, IsFirstItem};
 ghost use Rattle.yd_names.specs.Names.{code_of_own, IsOf, IsLastOf, top_of};
 
 use crate::codes::Codes;
 use crate::coding::{code_of_list, code_of_parent};
-use crate::items::{add_item, first_clock, span_behind};
 use crate::same::{is_same_list, is_same_parent};
 use std::alloc::Global;
-use std::collections::BTreeSet;
 use std::marker::Model;
-use yd_ids::{Id, Span};
 use yd_ops::{List, NoMemory, Parent};
 
 /// The names of lists, each under the number of its place.
@@ -23,7 +18,6 @@ pub struct Names {
     names: Vec<List>,
     codes: Codes,
     parents: Codes,
-    items: BTreeSet<u128>,
 }
 
 impl Model for Names {
@@ -35,7 +29,7 @@ impl Model for Names {
 
     ghost view = { λ it. it.names.items };
 
-    ghost invariant = { λ it. AreCoded it.names.items it.codes it.parents it.items };
+    ghost invariant = { λ it. AreCoded it.names.items it.codes it.parents };
 }
 
 impl Names {
@@ -47,7 +41,6 @@ impl Names {
             names: Vec::new(alloc),
             codes: Codes::new(alloc),
             parents: Codes::new(alloc),
-            items: BTreeSet::new(alloc),
         }
     }
 
@@ -110,42 +103,12 @@ impl Names {
         }
     }
 
-    /// The first item of a span that has a list. So all items of a span that have lists are found from
-    /// its front on, and no id between them is looked at. It takes time with the logarithm of how many
-    /// items have lists, and a look-up for each whose lists were dropped.
-    pub fn first_item(&self, span: Span) -> Option<Id>
-        requires { IsSpan span }
-        ensures { IsFirstItem self.now span result }
-    {
-        let mut rest = span;
-        while let Some(clock) = first_clock(&self.items, rest) {
-            let item = Id {
-                client: rest.client,
-                clock,
-            };
-            if self.has_list(item) {
-                return Some(item);
-            }
-            rest = span_behind(rest, clock);
-        }
-        None
-    }
-
-    /// The item has a list.
-    fn has_list(&self, item: Id) -> bool
-        ensures here { result ≡ true → HasList self.now item }
-        ensures other { result ≡ false → HasList self.now item → ⊥ }
-    {
-        self.last_of(&Parent::Item(item), None).is_some()
-    }
-
     /// One name more, which gets the next number.
     pub fn push(&mut self, name: List) -> Result<(), NoMemory>
         ensures pushed { OnOk result (self.new ≡ self.old ++ name ∷ []) }
         ensures unchanged { OnErr result (self.new ≡ self.old) }
     {
         self.names.reserve(1)?;
-        add_item(&mut self.items, &name.parent)?;
         self.codes.push(code_of_list(&name))?;
         if self.parents.push(code_of_parent(&name.parent)).is_err() {
             self.codes.pop();

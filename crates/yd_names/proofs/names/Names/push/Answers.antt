@@ -5,10 +5,10 @@ use Rattle.yd_names.proofs.names.Names.push.Goals as goal
 
 pub invariant_of-self-2 : goal.invariant_of-self-2
 invariant_of-self-2 c =
-    subst (λ names. AreCoded names c.push.new.self c.push-2.new.self c.add_item.new.items) (sym names)
+    subst (λ names. AreCoded names c.push.new.self c.push-2.new.self) (sym names)
     (pushed_coded c.self.inside.names.items c.args.name c.self.inside.codes c.push.new.self c.self.inside.parents c.push-2.new.self
-    c.self.inside.items c.add_item.new.items c.code_of_list.result c.code_of_parent.result c.self.invariant c.code_of_list.ensures c.code_of_parent.ensures.code
-    c.in_ok-push.ensures.pushed (on_success c.push-2.result c.if-is_err.ensures.negation c.push-2.ensures.pushed) c.add_item.ensures.kept c.in_ok-add_item.ensures.added)
+    c.code_of_list.result c.code_of_parent.result c.self.invariant c.code_of_list.ensures c.code_of_parent.ensures.code
+    c.in_ok-push.ensures.pushed (on_success c.push-2.result c.if-is_err.ensures.negation c.push-2.ensures.pushed))
   where
     names : c.push-3.new.self.items ≡ c.self.inside.names.items ++ c.args.name ∷ []
     names = c.in_ok-push-2.ensures.items ∙ ap (λ ns. ns ++ c.args.name ∷ []) c.reserve.ensures.items

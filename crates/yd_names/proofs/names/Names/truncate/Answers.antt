@@ -7,7 +7,7 @@ loop-self-preserved c = (
   front_stays c.args.len c.loop-self.self-inside.names.items c.pop.new.self.items (omega (arith, c.len.ensures, c.loop-self-test.true)) less ∙ c.loop-self.invariant.0,
   popped_coded c.loop-self.self-inside.names.items c.pop.new.self.items c.loop-self.self-inside.codes c.pop-in-loop-self.new.self
       c.loop-self.self-inside.parents c.pop-in-loop-self-2.new.self
-      c.loop-self.self-inside.items c.loop-self.invariant.1 less c.pop-in-loop-self.ensures c.pop-in-loop-self-2.ensures,
+      c.loop-self.invariant.1 less c.pop-in-loop-self.ensures c.pop-in-loop-self-2.ensures,
 )
   where
     less : c.pop.new.self.items ≡ take (length c.loop-self.self-inside.names.items - 1) c.loop-self.self-inside.names.items

@@ -1,6 +1,6 @@
 use Rattle.std.proofs.Common.{length, ◌∙◌, sym}
 use Rattle.yd_names.proofs.ItemsLemmas.{list_here, list_nowhere}
-use Rattle.yd_names.proofs.names.Names.has_list.Goals as goal
+use Rattle.yd_names.proofs.item_names.ItemNames.has_list.Goals as goal
 
 pub returns-clause-here : goal.returns-clause-here
 returns-clause-here c = λ e. list_here c.args.self.now c.args.item (length c.args.self.now) c.last_of.result c.last_of.ensures (sym c.is_some.ensures ∙ e)

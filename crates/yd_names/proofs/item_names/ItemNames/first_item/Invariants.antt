@@ -1,8 +1,8 @@
 use Rattle.yd_names.specs.Items.{IsLookedThrough}
-use Rattle.yd_names.proofs.names.Names.first_item.Given as goal
+use Rattle.yd_names.proofs.item_names.ItemNames.first_item.Given as goal
 
 abbrev pub invariant-loop-clock : goal.invariant-loop-clock
-invariant-loop-clock l = IsLookedThrough l.self-inside.names.items l.fn.span l.rest
+invariant-loop-clock l = IsLookedThrough l.self-inside.names l.fn.span l.rest
 
 abbrev pub decreases-loop-clock : goal.decreases-loop-clock
 decreases-loop-clock l = l.rest.len
