@@ -18,12 +18,10 @@ use Rattle.std.specs.Option.{is_some}
 use Rattle.yd_ops.specs.declared.lists.Parent.{Parent}
 use Rattle.yd_ops.specs.declared.lists.Parent.TheVariants.{Root, Item}
 use Rattle.yd_ops.specs.declared.lists.List.{List as DocList}
-use Rattle.yd_meaning.specs.Names.{item_of_list, item_of_parent}
+use Rattle.yd_meaning.specs.Names.{item_of_parent}
 use Rattle.yd_names.specs.Coding.{code_of_list}
 use Rattle.yd_names.specs.Items.{code_of_item, HasList, HasItems, IsFirstItem, IsFirstClock, IsLookedThrough, span_behind}
 use Rattle.yd_names.specs.Names.{code_of_own, AreCoded, IsLastOf}
-use Rattle.yd_names.proofs.CodesLemmas.{got_before}
-use Rattle.yd_names.proofs.NamesLemmas.{got_in_front}
 
 -- ---- names that come and go
 

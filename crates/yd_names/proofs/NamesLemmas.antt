@@ -5,11 +5,7 @@ use Rattle.std.specs.Option.{option_map}
 use Rattle.std.proofs.lemmas.Option.{slice_get-map}
 use Rattle.yd_words.proofs.OptionLemmas.{some_is}
 use Rattle.yd_names.specs.Codes.{one_later, place_or, last_place}
-
--- a place, and all before it, can still be the one that is looked for
-abbrev pub bound_of : Option ℕ → ℕ
-bound_of None = 0
-bound_of (Some n) = suc n
+use Rattle.yd_names.specs.Slots.{bound_of}
 
 -- ---- the last place of a code
 
@@ -32,7 +28,7 @@ small : (b : Bool) → bound_of (cond b (Some 0) None) ≤ 1
 small true = omega arith
 small false = omega arith
 
-looked : (code : ℕ) (cs : List ℕ) (m : ℕ) → slice_get cs m ≡ Some code → m < bound_of (last_place code cs)
+pub looked : (code : ℕ) (cs : List ℕ) (m : ℕ) → slice_get cs m ≡ Some code → m < bound_of (last_place code cs)
 looked code [] m e = absurd cc
 looked code (c ∷ cs) zero e = first_below (last_place code cs) (cond (nat_eq c code) (Some 0) None)
     (ap (λ b. cond b (Some 0) None) (ap (λ d. nat_eq d code) (some_is c code e) ∙ is_equal code))
@@ -42,7 +38,7 @@ within : (code : ℕ) (cs : List ℕ) → bound_of (last_place code cs) ≤ leng
 within code [] = omega arith
 within code (c ∷ cs) = later_within (last_place code cs) (cond (nat_eq c code) (Some 0) None) (length cs) (within code cs) (small (nat_eq c code))
 
-has_code : (code : ℕ) (cs : List ℕ) → IfSome (last_place code cs) (λ n. slice_get cs n ≡ Some code)
+pub has_code : (code : ℕ) (cs : List ℕ) → IfSome (last_place code cs) (λ n. slice_get cs n ≡ Some code)
 has_code code [] = cc
 has_code code (c ∷ cs) = later (last_place code cs) (nat_eq c code) refl (has_code code cs)
   where
@@ -63,13 +59,13 @@ got_in_front (suc k) [] n x e = absurd cc
 got_in_front (suc k) (y ∷ ys) zero x e = e
 got_in_front (suc k) (y ∷ ys) (suc n) x e = got_in_front k ys n x e
 
-front_has : {X : Type 0} (k : ℕ) (xs : List X) (n : ℕ) → n < k → slice_get (take k xs) n ≡ slice_get xs n
+pub front_has : {X : Type 0} (k : ℕ) (xs : List X) (n : ℕ) → n < k → slice_get (take k xs) n ≡ slice_get xs n
 front_has zero xs n lt = absurd (omega arith)
 front_has (suc k) [] n lt = refl
 front_has (suc k) (y ∷ ys) zero lt = refl
 front_has (suc k) (y ∷ ys) (suc n) lt = front_has k ys n (omega arith)
 
-front_long : (k : ℕ) (cs : List ℕ) → length (take k cs) ≤ k
+pub front_long : (k : ℕ) (cs : List ℕ) → length (take k cs) ≤ k
 front_long zero cs = omega arith
 front_long (suc k) [] = omega arith
 front_long (suc k) (c ∷ cs) = let le = front_long k cs in omega arith

@@ -1,4 +1,6 @@
 pub mod Codes
 pub mod Coding
+pub mod Groups
 pub mod Items
 pub mod Names
+pub mod Slots

@@ -1,31 +1,30 @@
 //! A list of codes that knows where each of them stands.
 
-ghost use Rattle.std.specs.Prelude.{◌≡◌, ◌<◌, ◌-◌, ◌++◌, ◌∷◌, [], ℕ, Some, length, take, slice_get, IsSome, IfSome, OnOk, OnErr, nat_eq, if◌then◌else◌};
-ghost use Rattle.std.specs.HashMap.{get};
+ghost use Rattle.std.specs.Prelude.{◌≡◌, ◌<◌, ◌-◌, ◌++◌, ◌∷◌, [], ℕ, map, length, take, slice_get, IfSome, IfOk, OnOk, OnErr};
 ghost use Rattle.yd_names.specs.Codes.{last_place};
+ghost use Rattle.yd_names.specs.Slots.{slot_of, AreSlots, AreFound, IsSearched};
 
+use crate::slots::{Slots, place_of, slot_of};
 use std::alloc::Global;
-use std::collections::HashMap;
 use std::marker::Model;
 use yd_ops::NoMemory;
 
 /// Codes in a row. A code may stand there more than once.
 #[derive(Drop)]
 pub struct Codes {
-    codes: Vec<u64>,
-    last: HashMap<u64, usize>,
-    before: Vec<Option<usize>>,
+    codes: Vec<u32>,
+    slots: Slots,
 }
 
 impl Model for Codes {
     ghost use Rattle.std.specs.Prelude.{ℕ, List};
-    ghost use Rattle.yd_names.specs.Codes.{AreFound};
+    ghost use Rattle.yd_names.specs.Slots.{AreFound};
 
     ghost Value = { List ℕ };
 
     ghost view = { λ it. it.codes.items };
 
-    ghost invariant = { λ it. AreFound it.codes.items it.last it.before.items };
+    ghost invariant = { λ it. AreFound it.codes.items it.slots.heads.items it.slots.before.items };
 }
 
 impl Codes {
@@ -35,23 +34,23 @@ impl Codes {
     {
         Codes {
             codes: Vec::new(alloc),
-            last: HashMap::new(alloc),
-            before: Vec::new(alloc),
+            slots: Slots {
+                heads: Vec::new(alloc),
+                before: Vec::new(alloc),
+            },
         }
     }
 
-    /// How many codes there are.
-    pub fn len(&self) -> usize
-        ensures { result ≡ length self.now }
-    {
-        self.codes.len()
-    }
-
     /// The last place of a code.
-    pub fn last_of(&self, code: u64) -> Option<usize>
+    pub fn last_of(&self, code: u32) -> Option<usize>
         ensures { result ≡ last_place code self.now }
     {
-        self.last.get(&code).copied()
+        let size = self.slots.heads.len();
+        if size == 0 {
+            return None;
+        }
+        let from = self.slots.heads[slot_of(size, code)];
+        search(&self.codes, &self.slots.before, code, from)
     }
 
     /// The last place before another with the same code.
@@ -60,20 +59,21 @@ impl Codes {
         ensures { IfSome (slice_get self.now place)
             (λ code. result ≡ last_place code (take place self.now)) }
     {
-        self.before[place]
+        let code = self.codes[place];
+        let from = self.slots.before[place];
+        search(&self.codes, &self.slots.before, code, from)
     }
 
     /// One code more, at the end.
-    pub fn push(&mut self, code: u64) -> Result<(), NoMemory>
+    pub fn push(&mut self, code: u32) -> Result<(), NoMemory>
         ensures pushed { OnOk result (self.new ≡ self.old ++ code ∷ []) }
         ensures unchanged { OnErr result (self.new ≡ self.old) }
     {
-        let place = self.len();
         self.codes.reserve(1)?;
-        self.before.reserve(1)?;
-        let was = self.last.insert(code, place)?;
+        make_room(&self.codes, &mut self.slots)?;
+        let slot = slot_of(self.slots.heads.len(), code);
+        self.slots.push(slot)?;
         self.codes.push(code)?;
-        self.before.push(was)?;
         Ok(())
     }
 
@@ -81,30 +81,54 @@ impl Codes {
     pub fn pop(&mut self)
         ensures { self.new ≡ take (length self.old - 1) self.old }
     {
-        let Some(code) = self.codes.pop() else {
-            return;
-        };
-        let Some(was) = self.before.pop() else {
-            unreachable!()
-        };
-        put_back(&mut self.last, code, was);
+        let size = self.slots.heads.len();
+        if let Some(code) = self.codes.pop() {
+            self.slots.pop(slot_of(size, code));
+        }
     }
 }
 
-/// Puts back the place where a code stood last before.
-fn put_back(last: &mut HashMap<u64, usize>, code: u64, was: Option<usize>)
-    requires { IsSome (get nat_eq last.old code) }
-    ensures { (other : ℕ) → get nat_eq last.new other
-        ≡ (if nat_eq code other then was else get nat_eq last.old other) }
+/// The last place of a code, where the number of the last one that can be it is known.
+fn search(codes: &[u32], before: &[u32], code: u32, from: u32) -> Option<usize>
+    requires { IsSearched codes.now before.now code from }
+    ensures { (it : IsSearched codes.now before.now code from) →
+        result ≡ last_place code (take it.top codes.now) }
 {
-    match was {
-        Some(place) => {
-            if let Some(last) = last.get_mut(&code) {
-                *last = place;
-            }
+    let mut next = place_of(from);
+    while let Some(place) = next {
+        if codes[place] == code {
+            return Some(place);
         }
-        None => {
-            last.remove(&code);
-        }
+        next = place_of(before[place]);
     }
+    None
+}
+
+/// More slots than codes, where there were as many or more.
+fn make_room(codes: &[u32], slots: &mut Slots) -> Result<(), NoMemory>
+    requires { AreFound codes.now slots.old.heads.items slots.old.before.items }
+    ensures found { AreFound codes.now slots.new.heads.items slots.new.before.items }
+    ensures room { OnOk result (length codes.now < length slots.new.heads.items) }
+{
+    if codes.len() < slots.heads.len() {
+        return Ok(());
+    }
+    let alloc = *slots.heads.allocator();
+    *slots = in_slots(alloc, codes, codes.len().max(4) * 2)?;
+    Ok(())
+}
+
+/// Codes in so many slots.
+fn in_slots(alloc: Global, codes: &[u32], size: usize) -> Result<Slots, NoMemory>
+    requires { 0 < size }
+    ensures slots { IfOk result (λ slots.
+        AreSlots (map (slot_of size) codes.now) slots.heads.items slots.before.items) }
+    ensures size { IfOk result (λ slots. length slots.heads.items ≡ size) }
+{
+    let mut slots = Slots::new(alloc, size)?;
+    slots.before.reserve(size)?;
+    for code in codes {
+        slots.push(slot_of(size, *code))?;
+    }
+    Ok(slots)
 }

@@ -10,31 +10,31 @@ use yd_ops::{List, Parent};
 const BOUND: u64 = 4294967291;
 
 /// The code of a list, in time with the length of its name.
-pub(crate) fn code_of_list(list: &List) -> u64
+pub(crate) fn code_of_list(list: &List) -> u32
     ensures { result ≡ code_of_list list.now }
 {
     code_with_key(code_of_parent(&list.parent), &list.key)
 }
 
 /// The code of a parent: of the name of a root, or of the id of an item.
-pub(crate) fn code_of_parent(parent: &Parent) -> u64
+pub(crate) fn code_of_parent(parent: &Parent) -> u32
     ensures code { result ≡ code_of_parent parent.now }
     ensures low { result < bound }
 {
     match parent {
-        Parent::Root(name) => code_of_bytes(7, name.as_str().as_bytes()),
-        Parent::Item(id) => code_with(id.client.0 % BOUND, id.clock % BOUND),
+        Parent::Root(name) => code_of_bytes(7, name.as_str().as_bytes()) as u32,
+        Parent::Item(id) => code_with(id.client.0 % BOUND, id.clock % BOUND) as u32,
     }
 }
 
 /// The code with that of a key, where there is one.
-fn code_with_key(code: u64, key: &Option<Text>) -> u64
+pub(crate) fn code_with_key(code: u32, key: &Option<Text>) -> u32
     requires { code < bound }
     ensures { result ≡ code_with_key code key.now }
 {
     match key {
         None => code,
-        Some(key) => code_of_bytes(code_with(code, 1), key.as_str().as_bytes()),
+        Some(key) => code_of_bytes(code_with(code as u64, 1), key.as_str().as_bytes()) as u32,
     }
 }
 

@@ -15,10 +15,12 @@
 
 mod codes;
 mod coding;
+mod groups;
 mod item_names;
 mod items;
 mod names;
 mod same;
+mod slots;
 
 pub use item_names::ItemNames;
 pub use names::Names;

@@ -6,7 +6,8 @@ ghost use Rattle.yd_names.specs.Codes.{last_place};
 ghost use Rattle.yd_names.specs.Names.{code_of_own, IsOf, IsLastOf, top_of};
 
 use crate::codes::Codes;
-use crate::coding::{code_of_list, code_of_parent};
+use crate::coding::{code_of_list, code_of_parent, code_with_key};
+use crate::groups::Groups;
 use crate::same::{is_same_list, is_same_parent};
 use std::alloc::Global;
 use std::marker::Model;
@@ -17,7 +18,7 @@ use yd_ops::{List, NoMemory, Parent};
 pub struct Names {
     names: Vec<List>,
     codes: Codes,
-    parents: Codes,
+    parents: Groups,
 }
 
 impl Model for Names {
@@ -40,7 +41,7 @@ impl Names {
         Names {
             names: Vec::new(alloc),
             codes: Codes::new(alloc),
-            parents: Codes::new(alloc),
+            parents: Groups::new(alloc),
         }
     }
 
@@ -109,8 +110,9 @@ impl Names {
         ensures unchanged { OnErr result (self.new ≡ self.old) }
     {
         self.names.reserve(1)?;
-        self.codes.push(code_of_list(&name))?;
-        if self.parents.push(code_of_parent(&name.parent)).is_err() {
+        let own = code_of_parent(&name.parent);
+        self.codes.push(code_with_key(own, &name.key))?;
+        if self.parents.push(own).is_err() {
             self.codes.pop();
             return Err(NoMemory);
         }

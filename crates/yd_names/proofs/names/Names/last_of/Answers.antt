@@ -5,7 +5,8 @@ use Rattle.std.proofs.lemmas.List.{length-map}
 use Rattle.yd_names.specs.Codes.{last_place}
 use Rattle.yd_names.specs.Coding.{code_of_parent}
 use Rattle.yd_names.specs.Names.{code_of_own, IsLastOf, top_of}
-use Rattle.yd_names.proofs.NamesLemmas.{bound_of, begins_before, goes_on, goes_down}
+use Rattle.yd_names.specs.Slots.{bound_of}
+use Rattle.yd_names.proofs.NamesLemmas.{begins_before, goes_on, goes_down}
 use Rattle.yd_names.proofs.FindingLemmas.{IsOwn, OwnLookedFor, own_here, own_not_here, own_nowhere}
 use Rattle.yd_names.proofs.names.Names.last_of.Goals as goal
 

@@ -1,5 +1,5 @@
 use Rattle.yd_names.specs.Names.{top_of}
-use Rattle.yd_names.proofs.NamesLemmas.{bound_of}
+use Rattle.yd_names.specs.Slots.{bound_of}
 use Rattle.yd_names.proofs.FindingLemmas.{OwnLookedFor}
 use Rattle.yd_names.proofs.names.Names.last_of.Given as goal
 

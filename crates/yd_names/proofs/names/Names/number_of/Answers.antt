@@ -2,7 +2,8 @@ use Rattle.std.proofs.Common.{◌≡◌, ◌∙◌, ◌<◌, IfSome, sym, ap, ma
 use Rattle.std.specs.Prelude.{slice_get}
 use Rattle.yd_names.specs.Codes.{last_place}
 use Rattle.yd_names.specs.Coding.{code_of_list}
-use Rattle.yd_names.proofs.NamesLemmas.{bound_of, begins, goes_on, goes_down}
+use Rattle.yd_names.specs.Slots.{bound_of}
+use Rattle.yd_names.proofs.NamesLemmas.{begins, goes_on, goes_down}
 use Rattle.yd_names.proofs.FindingLemmas.{IsName, NameLookedFor, found_here, not_here}
 use Rattle.yd_names.proofs.names.Names.number_of.Goals as goal
 

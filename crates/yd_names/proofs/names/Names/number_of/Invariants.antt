@@ -1,4 +1,4 @@
-use Rattle.yd_names.proofs.NamesLemmas.{bound_of}
+use Rattle.yd_names.specs.Slots.{bound_of}
 use Rattle.yd_names.proofs.FindingLemmas.{NameLookedFor}
 use Rattle.yd_names.proofs.names.Names.number_of.Given as goal
 
