@@ -1,5 +1,5 @@
 -- Which items have lists, found by spans of ids (own).
-use Rattle.std.specs.Prelude.{◌≡◌, ◌≤◌, ◌<◌, ℕ, ◌-◌, ◌+◌, ◌*◌, true, List, Option, Some, None, slice_get}
+use Rattle.std.specs.Prelude.{◌≡◌, ◌≤◌, ◌<◌, ◌⊎◌, ℕ, ◌-◌, ◌+◌, ◌*◌, min, true, List, Option, Some, None, slice_get}
 use Rattle.std.specs.Ordering.{nat_cmp}
 use Rattle.std.specs.BTreeSet.{BTreeSet, contains}
 use Rattle.yd_ids.specs.declared.id.Id.{Id}
@@ -20,9 +20,29 @@ pub record HasList (names : List DocList) (item : Id) : Type 0 where
   pub there : slice_get names number ≡ Some list
   pub own : item_of_list list ≡ Some item
 
+-- each code is greater than those before it
+abbrev pub IsRising : List ℕ → Type 0
+IsRising codes = (m n a b : ℕ) → m < n → slice_get codes m ≡ Some a → slice_get codes n ≡ Some b → a < b
+
+-- the code stands among these
+abbrev pub IsAt : List ℕ → ℕ → Type 0
+IsAt codes code = (n : ℕ) × (slice_get codes n ≡ Some code)
+
+abbrev pub IsOther : BTreeSet ℕ → ℕ → Type 0
+IsOther others code = contains nat_cmp others code ≡ true
+
+-- the code is known: it is among those that came in order, or one of the others
+abbrev pub IsKnown : List ℕ → BTreeSet ℕ → ℕ → Type 0
+IsKnown rising others code = IsAt rising code ⊎ IsOther others code
+
 -- each item that has a list is known by its code
-abbrev pub HasItems : List DocList → BTreeSet ℕ → Type 0
-HasItems names items = (item : Id) → HasList names item → contains nat_cmp items (code_of_item item) ≡ true
+abbrev pub HasItems : List DocList → (ℕ → Type 0) → Type 0
+HasItems names known = (item : Id) → HasList names item → known (code_of_item item)
+
+-- no code is as great as one, or the least that is
+abbrev pub IsFirstFrom : List ℕ → ℕ → Option ℕ → Type 0
+IsFirstFrom codes low None = (other : ℕ) → IsAt codes other → other < low
+IsFirstFrom codes low (Some first) = (low ≤ first) × IsAt codes first × ((other : ℕ) → IsAt codes other → low ≤ other → first ≤ other)
 
 -- no item of a span has a list, or the first that has one
 abbrev pub IsFirstItem : List DocList → Span → Option Id → Type 0
@@ -40,7 +60,13 @@ abbrev pub span_behind : Span → ℕ → Span
 span_behind span clock = record { client = span.client; clock = clock + 1; len = span.clock + span.len - (clock + 1) }
 
 -- no known item of a span is below a clock of it
-abbrev pub IsFirstClock : BTreeSet ℕ → Span → Option ℕ → Type 0
-IsFirstClock items span None = (item : Id) → contains nat_cmp items (code_of_item item) ≡ true → InSpan span item → ⊥
-IsFirstClock items span (Some clock) = (span.clock ≤ clock) × (clock < span.clock + span.len)
-    × ((item : Id) → contains nat_cmp items (code_of_item item) ≡ true → InSpan span item → clock ≤ item.clock)
+abbrev pub IsFirstClock : (ℕ → Type 0) → Span → Option ℕ → Type 0
+IsFirstClock known span None = (item : Id) → known (code_of_item item) → InSpan span item → ⊥
+IsFirstClock known span (Some clock) = (span.clock ≤ clock) × (clock < span.clock + span.len)
+    × ((item : Id) → known (code_of_item item) → InSpan span item → clock ≤ item.clock)
+
+-- the lesser of two clocks, where there is one
+abbrev pub earlier : Option ℕ → Option ℕ → Option ℕ
+earlier None other = other
+earlier (Some clock) None = Some clock
+earlier (Some clock) (Some other) = Some (min clock other)

@@ -5,10 +5,9 @@ ghost use Rattle.yd_ids.specs.Id.{IsSpan};
 ghost use Rattle.yd_names.specs.Items.{HasList, IsFirstItem};
 ghost use Rattle.yd_names.specs.Names.{IsOf, IsLastOf, top_of};
 
-use crate::items::{add_item, first_clock, span_behind};
+use crate::items::{Items, span_behind};
 use crate::names::Names;
 use std::alloc::Global;
-use std::collections::BTreeSet;
 use std::marker::Model;
 use yd_ids::{Id, Span};
 use yd_ops::{List, NoMemory, Parent};
@@ -17,19 +16,20 @@ use yd_ops::{List, NoMemory, Parent};
 #[derive(Drop)]
 pub struct ItemNames {
     names: Names,
-    items: BTreeSet<u128>,
+    items: Items,
 }
 
 impl Model for ItemNames {
     ghost use Rattle.std.specs.Prelude.{List};
     ghost use Rattle.yd_ops.specs.declared.lists.List.{List as DocList};
-    ghost use Rattle.yd_names.specs.Items.{HasItems};
+    ghost use Rattle.yd_names.specs.Items.{IsRising, IsKnown, HasItems};
 
     ghost Value = { List DocList };
 
     ghost view = { λ it. it.names };
 
-    ghost invariant = { λ it. HasItems it.names it.items };
+    ghost invariant = { λ it. HasItems it.names (IsKnown it.items.rising.items it.items.others)
+        × IsRising it.items.rising.items };
 }
 
 impl ItemNames {
@@ -39,7 +39,7 @@ impl ItemNames {
     {
         ItemNames {
             names: Names::new(alloc),
-            items: BTreeSet::new(alloc),
+            items: Items::new(alloc),
         }
     }
 
@@ -82,7 +82,7 @@ impl ItemNames {
         ensures { IsFirstItem self.now span result }
     {
         let mut rest = span;
-        while let Some(clock) = first_clock(&self.items, rest) {
+        while let Some(clock) = self.items.first_clock(rest) {
             let item = Id {
                 client: rest.client,
                 clock,
@@ -108,7 +108,7 @@ impl ItemNames {
         ensures pushed { OnOk result (self.new ≡ self.old ++ name ∷ []) }
         ensures unchanged { OnErr result (self.new ≡ self.old) }
     {
-        add_item(&mut self.items, &name.parent)?;
+        self.items.add(&name.parent)?;
         self.names.push(name)?;
         Ok(())
     }
