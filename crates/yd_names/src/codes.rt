@@ -73,7 +73,7 @@ impl Codes {
         make_room(&self.codes, &mut self.slots)?;
         let slot = slot_of(self.slots.heads.len(), code);
         self.slots.push(slot)?;
-        self.codes.push(code)?;
+        self.codes.push_reserved(code);
         Ok(())
     }
 

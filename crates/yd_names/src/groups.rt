@@ -75,7 +75,7 @@ impl Groups {
         self.numbers.reserve(1)?;
         let number = number_for(&mut self.codes, &mut self.places.heads, code)?;
         self.places.push(number as usize)?;
-        self.numbers.push(number)?;
+        self.numbers.push_reserved(number);
         Ok(())
     }
 
@@ -103,7 +103,7 @@ fn number_for(codes: &mut Codes, heads: &mut Vec<u32>, code: u32) -> Result<u32,
     let number = narrowed(heads.len())?;
     heads.reserve(1)?;
     codes.push(code)?;
-    heads.push(0)?;
+    heads.push_reserved(0);
     Ok(number)
 }
 

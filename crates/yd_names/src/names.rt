@@ -116,7 +116,7 @@ impl Names {
             self.codes.pop();
             return Err(NoMemory);
         }
-        self.names.push(name)?;
+        self.names.push_reserved(name);
         Ok(())
     }
 

@@ -27,7 +27,7 @@ impl Slots {
         })
     }
 
-    /// One place more, which is the last of a slot. There are less than 4,294,967,295 places.
+    /// One place more, which is the last of a slot. There is no memory for more than 4,294,967,295.
     pub fn push(&mut self, slot: usize) -> Result<(), NoMemory>
         requires { slot < length self.old.heads.items }
         ensures pushed { OnOk result ((slots : List ℕ) →

@@ -15,7 +15,7 @@ returns-clause-number c = ap (λ cs. slice_get cs c.in_ok-number-2.number) c.in_
     ∙ got_last c.args.code c.args.codes.now c.in_ok-number-2.number (c.in_ok-number-2.ensures ∙ c.len.ensures ∙ c.args.heads.now.ok.0 ∙ c.requires)
 
 pub returns-clause-kept : goal.returns-clause-kept
-returns-clause-kept c = subst (λ cs. KeepsGroups c.args.codes.now cs c.args.heads.now.items c.push-2.new.self.items) (sym c.in_ok-push.ensures.pushed)
+returns-clause-kept c = subst (λ cs. KeepsGroups c.args.codes.now cs c.args.heads.now.items c.push_reserved.new.self.items) (sym c.in_ok-push.ensures.pushed)
     (subst (λ hs. KeepsGroups c.args.codes.now (c.args.codes.now ++ c.args.code ∷ []) c.args.heads.now.items hs)
-    (sym (c.in_ok-push-2.ensures.items ∙ ap (λ hs. hs ++ 0 ∷ []) c.reserve.ensures.items))
+    (sym (c.push_reserved.ensures.items ∙ ap (λ hs. hs ++ 0 ∷ []) c.reserve.ensures.items))
     (one_code c.args.codes.now c.args.heads.now.items c.args.code (sym c.last_of.ensures ∙ c.in_default.is)))

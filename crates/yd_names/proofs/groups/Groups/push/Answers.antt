@@ -6,7 +6,7 @@ use Rattle.yd_names.proofs.groups.Groups.push.Goals as goal
 pub invariant_of-self-2 : goal.invariant_of-self-2
 invariant_of-self-2 c =
     subst (λ ns. AreGrouped c.number_for.new.codes ns c.push.new.self.heads.items c.push.new.self.before.items)
-    (sym (c.in_ok-push-2.ensures.items ∙ ap (λ ns. ns ++ c.in_ok-number.number ∷ []) c.reserve.ensures.items))
+    (sym (c.push_reserved.ensures.items ∙ ap (λ ns. ns ++ c.in_ok-number.number ∷ []) c.reserve.ensures.items))
     (placed c.number_for.new.codes c.self.inside.numbers.items c.number_for.new.heads.items c.self.inside.places.before.items known.0
     c.args.code c.in_ok-number.number c.push.new.self.heads.items c.push.new.self.before.items c.in_ok-number.ensures.number c.push.ensures.size
     (c.in_ok-push.ensures.pushed c.self.inside.numbers.items known.0.places))
@@ -17,6 +17,6 @@ invariant_of-self-2 c =
 
 pub returns-clause-pushed : goal.returns-clause-pushed
 returns-clause-pushed c =
-    ap (λ ns. codes_of c.number_for.new.codes ns) (c.in_ok-push-2.ensures.items ∙ ap (λ ns. ns ++ c.in_ok-number.number ∷ []) c.reserve.ensures.items)
+    ap (λ ns. codes_of c.number_for.new.codes ns) (c.push_reserved.ensures.items ∙ ap (λ ns. ns ++ c.in_ok-number.number ∷ []) c.reserve.ensures.items)
     ∙ placed_codes c.number_for.new.codes c.self.inside.numbers.items c.args.code c.in_ok-number.number c.in_ok-number.ensures.number
     ∙ ap (λ cs. cs ++ c.args.code ∷ []) ((c.number_for.ensures.kept c.self.inside.numbers.items c.self.inside.places.before.items c.self.invariant).1 ∙ c.self.view_is)

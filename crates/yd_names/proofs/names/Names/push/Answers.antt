@@ -12,5 +12,5 @@ invariant_of-self-2 c =
     c.code_of_parent-own.ensures.code
     c.in_ok-push.ensures.pushed (on_success c.push-2.result c.if-is_err.ensures.negation c.push-2.ensures.pushed))
   where
-    names : c.push-3.new.self.items ≡ c.self.inside.names.items ++ c.args.name ∷ []
-    names = c.in_ok-push-2.ensures.items ∙ ap (λ ns. ns ++ c.args.name ∷ []) c.reserve.ensures.items
+    names : c.push_reserved.new.self.items ≡ c.self.inside.names.items ++ c.args.name ∷ []
+    names = c.push_reserved.ensures.items ∙ ap (λ ns. ns ++ c.args.name ∷ []) c.reserve.ensures.items
