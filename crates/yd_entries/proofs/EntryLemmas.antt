@@ -1,10 +1,10 @@
 -- Entries in the order of writing: where an id goes among them, and which ids they have.
-use Rattle.std.proofs.Common.{◌≡◌, ℕ, zero, suc, ◌+◌, ◌-◌, ◌<◌, ◌≤◌, true, false, List, [], ◌∷◌, length, get_or, take, drop, min, None, inl, inr, refl, sym, ap, ◌∙◌, subst, arith, tests}
+use Rattle.std.proofs.Common.{◌≡◌, ℕ, zero, suc, ◌+◌, ◌-◌, ◌<◌, ◌≤◌, Bool, true, false, List, [], ◌∷◌, length, get_or, take, drop, min, None, inl, inr, refl, sym, ap, ◌∙◌, subst, arith, tests, true≢false}
 use Rattle.std.specs.List.Sorted.{IsPartitionedBy}
 use Rattle.std.proofs.lemmas.Bool.{cases_lt, or_left, or_right}
-use Rattle.std.proofs.lemmas.List.{get_or_default, take_all, take-append-drop}
+use Rattle.std.proofs.lemmas.List.{get_or_default, take-append-drop}
 use Rattle.yd_words.specs.Each.{Each}
-use Rattle.yd_words.proofs.EachLemmas.{each_weaker, each_append, each_at, each_take}
+use Rattle.yd_words.proofs.EachLemmas.{each_weaker, each_append, each_at, each_take, each_drop}
 use Rattle.yd_ids.specs.declared.id.Id.{Id}
 use Rattle.yd_ids.proofs.IdLemmas.{same_client}
 use Rattle.yd_ops.specs.Operation.{later_id}
@@ -66,11 +66,21 @@ entries_parted xs id o i j d le lt t = elim (cases_lt i j) [
   | inr ge ↦ let same : i ≡ j = omega arith in rw same t
 ]
 
--- where the last one ends by an id, all do
-pub all_end : (xs : List Entry) (id : Id) (d : Entry) → AreInOrder xs → 0 < length xs → ends_by id (get_or xs (length xs - 1) d) ≡ true → Each (EndsBy id) xs
-all_end xs id d o some e = subst (Each (EndsBy id)) (take_all (length xs) xs (omega arith)) (each_take (EndsBy id) xs (length xs) (λ k c low lt. ends_true id (get_or xs k c)
-    (entries_parted xs id o k (length xs - 1) c (omega (arith, lt)) (omega (arith, some))
-    (subst (λ t. ends_by id t ≡ true) (get_or_default xs (length xs - 1) d c (omega (arith, some))) e))))
+-- where the last of the first n ends by an id, all of them do
+pub ends_before : (xs : List Entry) (id : Id) (n : ℕ) (d : Entry) → AreInOrder xs → 0 < n → n ≤ length xs → ends_by id (get_or xs (n - 1) d) ≡ true → Each (EndsBy id) (take n xs)
+ends_before xs id n d o some le e = each_take (EndsBy id) xs n (λ k c low lt. ends_true id (get_or xs k c)
+    (entries_parted xs id o k (n - 1) c (omega (arith, low)) (omega (arith, some))
+    (subst (λ t. ends_by id t ≡ true) (get_or_default xs (n - 1) d c (omega (arith, some))) e)))
+
+-- where it does not, none from it on does
+pub ends_behind : (xs : List Entry) (id : Id) (n : ℕ) (d : Entry) → AreInOrder xs → 0 < n → n ≤ length xs → ends_by id (get_or xs (n - 1) d) ≡ false →
+    (0 < n) × Each (EndsBehind id) (drop (n - 1) xs)
+ends_behind xs id n d o some le e = (some, each_drop (EndsBehind id) xs (n - 1) (λ k c low lt. ends_false id (get_or xs k c) (go k c low lt (ends_by id (get_or xs k c)) refl)))
+  where
+    go : (k : ℕ) (c : Entry) → n - 1 ≤ k → k < length xs → (b : Bool) → ends_by id (get_or xs k c) ≡ b → b ≡ false
+    go k c low lt false f = refl
+    go k c low lt true f = absurd (true≢false (sym (entries_parted xs id o (n - 1) k c low lt f)
+        ∙ subst (λ t. ends_by id t ≡ false) (get_or_default xs (n - 1) d c (omega (arith, some))) e))
 
 pub each_from : (P : Entry → Type 0) (xs : List Entry) (n : ℕ) (d : Entry) → Each P (drop n xs) → n < length xs → P (get_or xs n d)
 each_from P [] n d e lt = absurd (omega arith)

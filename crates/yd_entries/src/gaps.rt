@@ -1,6 +1,6 @@
 //! Which ids came before, looked up by bisection.
 
-ghost use Rattle.std.specs.Prelude.{◌≡◌, ◌≤◌, ◌<◌, ◌+◌, false, length, take, drop, IsTrue};
+ghost use Rattle.std.specs.Prelude.{◌≡◌, ◌≤◌, ◌<◌, ◌+◌, ◌-◌, false, length, take, drop};
 ghost use Rattle.std.specs.Bool.{OnTrue, OnFalse};
 ghost use Rattle.yd_words.specs.Each.{Each};
 ghost use Rattle.yd_ids.specs.Id.{IsClock};
@@ -86,20 +86,26 @@ pub(crate) fn place(taken: &[Entry], id: Id) -> usize
     ensures before { Each (EndsBy id) (take result taken.now) }
     ensures behind { Each (EndsBehind id) (drop result taken.now) }
 {
+    let count = taken.len();
     // What comes in order goes behind all others.
-    if is_behind(taken, id) {
-        return taken.len();
+    if is_behind(taken, count, id) {
+        return count;
+    }
+    // What was taken last is often the next to be looked for.
+    if is_behind(taken, count - 1, id) {
+        return count - 1;
     }
     taken.partition_point(|entry| ends_by(*entry, id))
 }
 
-/// The last entry is written wholly before the id.
-fn is_behind(taken: &[Entry], id: Id) -> bool
-    requires { AreInOrder taken.now }
-    ensures { IsTrue result → Each (EndsBy id) taken.now }
+/// So many entries from the first on are written wholly before the id, as the last of them tells.
+fn is_behind(taken: &[Entry], count: usize, id: Id) -> bool
+    requires in_order { AreInOrder taken.now }
+    requires bound { count ≤ length taken.now }
+    ensures all { OnTrue result (Each (EndsBy id) (take count taken.now)) }
+    ensures last { OnFalse result ((0 < count) × Each (EndsBehind id) (drop (count - 1) taken.now)) }
 {
-    let count = taken.len();
-    count > 0 && ends_by(taken[count - 1], id)
+    count == 0 || ends_by(taken[count - 1], id)
 }
 
 fn ends_by(entry: Entry, id: Id) -> bool

@@ -47,28 +47,40 @@ struct Bounds {
 }
 
 /// How many entries begin at the id or before it. It looks where the id would lie if clocks rose evenly,
-/// and every second time in the middle, so it takes time with the logarithm of how many there are.
+/// and then in the middle, so it takes time with the logarithm of how many there are.
 fn place(taken: &[Entry], id: Id) -> usize
     requires { AreInOrder taken.now }
     ensures bound { result ≤ length taken.now }
     ensures before { Each (λ t. begins_by t id ≡ true) (take result taken.now) }
     ensures behind { Each (λ t. begins_by t id ≡ false) (drop result taken.now) }
 {
-    let mut bounds = Bounds {
+    let mut bounds = guessed(taken, id);
+    while bounds.low < bounds.high {
+        let at = bounds.low + (bounds.high - bounds.low) / 2;
+        bounds = look(taken, bounds, at, id);
+    }
+    bounds.low
+}
+
+/// The bounds, once it is looked where the id would lie if clocks rose evenly.
+fn guessed(taken: &[Entry], id: Id) -> Bounds
+    requires { AreInOrder taken.now }
+    ensures part { PartsAt taken.now id result }
+    ensures within { (result.low ≤ result.high) × (result.high ≤ length taken.now) }
+{
+    let all = Bounds {
         low: 0,
         high: taken.len(),
     };
-    let mut is_even = true;
-    while bounds.low < bounds.high {
-        let at = probe(taken, bounds, id, is_even);
-        bounds = look(taken, bounds, at, id);
-        // Often the next one tells that it was the last.
-        if bounds.low < bounds.high {
-            bounds = look(taken, bounds, bounds.low, id);
-        }
-        is_even = !is_even;
+    if all.high == 0 {
+        return all;
     }
-    bounds.low
+    let bounds = look(taken, all, guess(taken, id), id);
+    if bounds.low == 0 || bounds.low == bounds.high {
+        return bounds;
+    }
+    // Often the next one tells that it was the last.
+    look(taken, bounds, bounds.low, id)
 }
 
 /// The bounds, once the entry at a place between them is looked at.
@@ -92,22 +104,19 @@ fn look(taken: &[Entry], bounds: Bounds, at: usize, id: Id) -> Bounds
     }
 }
 
-/// A place between the bounds: where the id would lie if clocks rose evenly, where that is wanted and the
-/// entries at the bounds are of its client, and else the one in the middle.
-fn probe(taken: &[Entry], bounds: Bounds, id: Id, is_even: bool) -> usize
-    requires some { bounds.low < bounds.high }
-    requires within { bounds.high ≤ length taken.now }
-    ensures { (bounds.low ≤ result) × (result < bounds.high) }
+/// The place where the id would lie if clocks rose evenly, where the first and the last entry are of its
+/// client, and else the one in the middle.
+fn guess(taken: &[Entry], id: Id) -> usize
+    requires { 0 < length taken.now }
+    ensures { result < length taken.now }
 {
-    let low = bounds.low;
-    let last = bounds.high - 1;
-    let first_id = taken[low].id;
+    let last = taken.len() - 1;
+    let first_id = taken[0].id;
     let last_id = taken[last].id;
-    let middle = low + (last - low) / 2;
-    if !is_even || first_id.client != id.client || last_id.client != id.client {
-        return middle;
+    if first_id.client.0 != id.client.0 || last_id.client.0 != id.client.0 {
+        return last / 2;
     }
-    low + share(first_id.clock, last_id.clock, id.clock, last - low).min(last - low)
+    share(first_id.clock, last_id.clock, id.clock, last).min(last)
 }
 
 /// As much of a count as a clock lies on the way from one to another. It chooses where to look alone.

@@ -1,7 +1,7 @@
 //! Units of a run that are taken together: whole pairs, or a half whose other half came before.
 
 ghost use Rattle.std.specs.Prelude.{◌≡◌, ◌↔◌, ◌≤◌, ◌<◌, ◌+◌, true, [], ◌∷◌, ◌++◌};
-ghost use Rattle.std.specs.Prelude.{IsTrue, IfOk, OnOk, length, take, drop, ℕ};
+ghost use Rattle.std.specs.Prelude.{IsTrue, IfOk, OnOk, OnErr, length, take, drop, ℕ};
 ghost use Rattle.yd_ids.specs.Id.{IsClock};
 ghost use Rattle.yd_ops.specs.declared.runs.Run.{Run};
 ghost use Rattle.yd_ops.specs.Operation.{later_id};
@@ -117,6 +117,23 @@ pub(crate) fn take_whole(
     ensures adds { OnlyAdds index taken.old.items taken.new.items }
 {
     let entry = entry_from(run, is_gone, index, from, len);
+    put_in(taken, at, entry)?;
+    Ok(())
+}
+
+/// Puts units at a place.
+fn put_in(taken: &mut Vec<Entry>, at: usize, entry: Entry) -> Result<(), NoMemory>
+    requires { at ≤ length taken.old.items }
+    ensures put { OnOk result (taken.new.items
+        ≡ take at taken.old.items ++ entry ∷ drop at taken.old.items) }
+    ensures unchanged { OnErr result (taken.new.items ≡ taken.old.items) }
+{
+    taken.reserve(1)?;
+    // Mostly they stand behind all others.
+    if at == taken.len() {
+        taken.push_reserved(entry);
+        return Ok(());
+    }
     taken.insert(at, entry)?;
     Ok(())
 }

@@ -67,8 +67,9 @@ fn add_whole(
 {
     let index = runs.len();
     let len = run.len();
+    runs.reserve(1)?;
     take_whole(taken, &run, is_gone, index, at, 0, len)?;
-    runs.push(run)?;
+    runs.push_reserved(run);
     Ok(())
 }
 

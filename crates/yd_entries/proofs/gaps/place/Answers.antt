@@ -1,9 +1,10 @@
 use Rattle.std.proofs.Common.{length, get_or, arith, rules, of_calls}
+use Rattle.std.proofs.lemmas.Bool.{OnTrue_at}
 use Rattle.std.proofs.lemmas.Fn.{always_returns_same}
-use Rattle.yd_words.proofs.EachLemmas.{each_at, each_take, each_drop}
+use Rattle.yd_words.proofs.EachLemmas.{each_take, each_drop}
 use Rattle.yd_entries.specs.declared.entry.Entry.{Entry}
 use Rattle.yd_entries.specs.Taking.{EndsBy, EndsBehind, ends_by}
-use Rattle.yd_entries.proofs.EntryLemmas.{ends_true, ends_false, entries_parted}
+use Rattle.yd_entries.proofs.EntryLemmas.{ends_true, ends_false, entries_parted, each_past}
 use Rattle.yd_entries.proofs.gaps.place.Goals as goal
 
 pub returns : goal.returns
@@ -18,10 +19,8 @@ returns c =
     }
 
 pub returns-then-is_behind : goal.returns-then-is_behind
-returns-then-is_behind c =
-    let taken = c.args.taken.now in
-    record {
-      bound = omega arith;
-      before = each_take (EndsBy c.args.id) taken (length taken) (λ k d low lt. each_at (EndsBy c.args.id) taken k d (c.is_behind.ensures c.if-is_behind.true) lt);
-      behind = each_drop (EndsBehind c.args.id) taken (length taken) (λ k d low lt. absurd (omega (arith, low, lt)));
-    }
+returns-then-is_behind c = record {
+  bound = omega arith;
+  before = OnTrue_at c.if-is_behind.true c.is_behind.ensures.all;
+  behind = each_past (EndsBehind c.args.id) c.args.taken.now (length c.args.taken.now) (omega arith);
+}
