@@ -21,6 +21,7 @@ pub mod PlacedLemmas
 pub mod ReadyLemmas
 pub mod RoundLemmas
 pub mod SingleLemmas
+pub mod StandLemmas
 pub mod StandingLemmas
 pub mod StillHeldLemmas
 pub mod TellingLemmas

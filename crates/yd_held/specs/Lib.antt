@@ -7,6 +7,7 @@ pub mod Numbered
 pub mod Numbering
 pub mod Placed
 pub mod Readiness
+pub mod Stand
 pub mod Telling
 pub mod Trying
 pub mod Turn

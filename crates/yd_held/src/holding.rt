@@ -10,11 +10,13 @@ ghost use Rattle.yd_held.specs.Readiness.{is_ready};
 ghost use Rattle.yd_held.specs.Turn.{HoldsInTurn};
 
 use crate::fault::NoMemory;
+use crate::finding::Near;
 use crate::noting::wake;
 use crate::parts::HeldParts;
 use crate::placing::place_for;
 use crate::trying::next_ready;
 use yd_ids::Client;
+use yd_received::Entry;
 
 /// Holds what can be held, where these clients are to be tried, and gives the numbers of the entries
 /// that became held, in the order in which they did. Where memory ends, names may have been added and
@@ -31,16 +33,32 @@ pub(crate) fn hold_all(held: &mut HeldParts, tries: Vec<Client>) -> Result<Vec<u
 {
     let mut tries = tries;
     let mut order = Vec::new(held.received.allocator());
-    while let Some(at) = next_ready(&held.received, &held.vector, &mut held.lacks, &mut tries)? {
+    let mut near = near_end(held.received.entries());
+    while let Some(at) = next_ready(
+        &held.received,
+        &held.vector,
+        &mut held.lacks,
+        &mut tries,
+        near,
+    )? {
         order.push(at)?;
-        hold_at(held, at)?;
+        hold_at(held, at, &mut near)?;
         wake(&mut held.lacks, &mut tries, held.received.entries()[at])?;
     }
     Ok(order)
 }
 
-/// Holds an entry that is ready.
-fn hold_at(held: &mut HeldParts, at: usize) -> Result<(), NoMemory>
+/// What comes one after another is next at the end, so this is near.
+fn near_end(entries: &[Entry]) -> Near {
+    let last = entries.len().saturating_sub(1);
+    Near {
+        first: last.saturating_sub(1),
+        second: last,
+    }
+}
+
+/// Holds an entry that is ready. Then it is near.
+fn hold_at(held: &mut HeldParts, at: usize, near: &mut Near) -> Result<(), NoMemory>
     requires holding { IsHolding (held_value held.old) }
     requires inside { at < length held.old.received.entries }
     requires ready { HoldsAt (λ t. is_ready held.old.vector held.old.received.runs t ≡ true)
@@ -58,9 +76,10 @@ fn hold_at(held: &mut HeldParts, at: usize) -> Result<(), NoMemory>
     ensures grows { GrowBy held.old.names held.new.names }
 {
     let entry = held.received.entries()[at];
-    let place = place_for(&held.received, &mut held.names, entry)?;
+    let place = place_for(&held.received, &mut held.names, entry, near)?;
     held.vector
         .raise(entry.id.client, entry.id.clock + entry.len)?;
     held.received.hold(at, place);
+    near.first = at;
     Ok(())
 }

@@ -15,6 +15,7 @@
 
 mod changing;
 mod fault;
+mod finding;
 mod held;
 mod holding;
 mod noting;

@@ -46,6 +46,11 @@ pub(crate) fn wake(
     ensures { OnOk result (Wakes held lacks.old.items lacks.new.items
         tries.old.items tries.new.items) }
 {
+    // Mostly nothing is lacked.
+    if lacks.is_empty() {
+        tries.push(held.id.client)?;
+        return Ok(());
+    }
     let end = Id {
         client: held.id.client,
         clock: held.id.clock + held.len,

@@ -12,46 +12,12 @@ use yd_names::Names;
 use yd_ops::{List, Run};
 use yd_received::{Entry, Place, Received};
 
-/// The number of the list of units whose origins are in lists: that of the left origin, else of the
-/// right origin, else the one that they carry. A list whose name is new is added at the end.
-pub(crate) fn number_for(
-    received: &Received,
+/// The number of the list that units without origins carry. One whose name is new is added at the end.
+pub(crate) fn number_carried(
+    runs: &[Run],
     names: &mut Names,
     entry: Entry,
 ) -> Result<usize, NoMemory>
-    requires entry { IsTakenOf received.now.runs entry }
-    requires told { entry.is_gone ≡ false }
-    requires left { IfSome entry.left
-        (λ y. is_some (number_of received.now.entries y) ≡ true) }
-    requires right { IfSome entry.right
-        (λ y. is_some (number_of received.now.entries y) ≡ true) }
-    ensures number { IfOk result (λ n. NumbersEntry received.now
-        names.old names.new entry n) }
-    ensures grows { GrowBy names.old names.new }
-{
-    if let Some(left) = entry.left {
-        return Ok(number_at(received, left));
-    }
-    if let Some(right) = entry.right {
-        return Ok(number_at(received, right));
-    }
-    let number = number_carried(received.runs(), names, entry)?;
-    Ok(number)
-}
-
-/// The number of the list in which an id is held.
-fn number_at(received: &Received, id: Id) -> usize
-    requires { is_some (number_of received.now.entries id) ≡ true }
-    ensures { number_of received.now.entries id ≡ Some result }
-{
-    match received.entries()[received.entry_of(id)].place {
-        Place::In(number) => number,
-        _ => unreachable!(),
-    }
-}
-
-/// The number of the list that units without origins carry.
-fn number_carried(runs: &[Run], names: &mut Names, entry: Entry) -> Result<usize, NoMemory>
     requires entry { IsTakenOf runs.now entry }
     requires told { entry.is_gone ≡ false }
     requires left { entry.left ≡ None }

@@ -13,6 +13,7 @@ ghost use Rattle.yd_words.specs.Member.{IsIn};
 ghost use Rattle.yd_held.specs.Trying.{StandsLast, Tries, IsNext, AreWaiting};
 
 use crate::fault::NoMemory;
+use crate::finding::{Near, find_start};
 use crate::noting::{Lack, note};
 use crate::readiness::lack_of;
 use std::alloc::Global;
@@ -76,12 +77,13 @@ fn is_last(clients: &[Client], client: Client) -> bool
 }
 
 /// The place of units that have all that they need, and are the next of a client that is to be tried.
-/// Those that lack something are noted by it.
+/// Those that lack something are noted by it. It looks behind the place that is near first.
 pub(crate) fn next_ready(
     received: &Received,
     vector: &Vector,
     lacks: &mut Vec<Lack>,
     tries: &mut Vec<Client>,
+    near: Near,
 ) -> Result<Option<usize>, NoMemory>
     requires waiting { AreWaiting vector.now received.now.entries }
     requires noted { AreNoted vector.now received.now.runs lacks.old.items tries.old.items
@@ -93,7 +95,7 @@ pub(crate) fn next_ready(
 {
     let entries = received.entries();
     while let Some(client) = tries.pop() {
-        if let Some(at) = next_of(received, vector, client) {
+        if let Some(at) = next_of(received, vector, client, near) {
             let entry = entries[at];
             match lack_of(received.runs(), vector, entry) {
                 None => return Ok(Some(at)),
@@ -105,8 +107,8 @@ pub(crate) fn next_ready(
 }
 
 /// The place of the units at the client's clock, and none where they were not received. It takes time
-/// with the logarithm of how many entries there are.
-fn next_of(received: &Received, vector: &Vector, client: Client) -> Option<usize>
+/// with the logarithm of how many entries there are, where they do not stand behind the place that is near.
+fn next_of(received: &Received, vector: &Vector, client: Client, near: Near) -> Option<usize>
     requires { Each (λ t. IsId t.id) received.now.entries }
     ensures { MatchOption result
         (Each (λ t. IsNext vector.now client t → ⊥) received.now.entries)
@@ -120,5 +122,5 @@ fn next_of(received: &Received, vector: &Vector, client: Client) -> Option<usize
         client,
         clock: vector.get(client),
     };
-    received.entry_at(id)
+    find_start(received, id, near)
 }

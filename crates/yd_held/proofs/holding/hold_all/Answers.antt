@@ -22,7 +22,7 @@ loop-order-preserved c =
     let lacks = c.next_ready.new.lacks.items in
     let tries = c.next_ready.new.tries.items in
     let woken = subst (λ (ls : Vec Lack). Wakes (get_or new.received.entries c.in-Some.at no_entry) ls.items c.wake.new.lacks.items tries c.wake.new.tries.items) c.in_ok-hold_at.ensures.lacks
-    (subst (λ us. Wakes (get_or us c.in-Some.at no_entry) new.lacks.items c.wake.new.lacks.items tries c.wake.new.tries.items) c.entries.ensures.entries c.in_ok-wake.ensures) in
+    (subst (λ us. Wakes (get_or us c.in-Some.at no_entry) new.lacks.items c.wake.new.lacks.items tries c.wake.new.tries.items) c.entries-in-Some.ensures.entries c.in_ok-wake.ensures) in
     round_then (held_value c.args.held.now) (held_value old) (held_value new) c.in-Some.at lacks tries
     (subst (Finds old.vector old.received.runs old.received.entries lacks tries) c.in-Some.is c.in_ok-at.ensures.finds) c.in_ok-hold_at.ensures.held c.in_ok-hold_at.ensures.runs
     c.in_ok-hold_at.ensures.grows c.wake.new.lacks.items c.wake.new.tries.items no_entry woken _ c.loop-order.order.items _ c.in_ok-push.ensures.items c.loop-order.invariant c.in_ok-at.ensures.missing

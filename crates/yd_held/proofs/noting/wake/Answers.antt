@@ -30,7 +30,7 @@ returns c =
           (rw c.deref.ensures.value at c.place-first.ensures.bound) (rw c.deref-2.ensures.value at c.place-last.ensures.bound)
           (rw (c.deref.ensures.value, c.first_lack.ensures) at c.place-first.ensures.before) (rw (c.deref.ensures.value, c.first_lack.ensures) at c.place-first.ensures.behind)
           (rw (c.deref-2.ensures.value, c.first_lack-2.ensures) at c.place-last.ensures.before) (rw (c.deref-2.ensures.value, c.first_lack-2.ensures) at c.place-last.ensures.behind));
-      tried = c.in_ok-push.ensures.items ∙ ap (λ tries. tries ++ c.args.held.id.client ∷ []) (c.in_ok-try_between.ensures
+      tried = c.in_ok-push-2.ensures.items ∙ ap (λ tries. tries ++ c.args.held.id.client ∷ []) (c.in_ok-try_between.ensures
           ∙ ap (λ ls. c.args.tries.now.items ++ map (λ (l : Lack). l.client) ls) (ap (λ ls. slice_range ls c.place-first.result c.place-last.result) c.deref-3.ensures.value
           ∙ sym (met_are c.args.held lacks c.place-first.result c.place-last.result
           (rw c.deref.ensures.value at c.place-first.ensures.bound) (rw c.deref-2.ensures.value at c.place-last.ensures.bound)

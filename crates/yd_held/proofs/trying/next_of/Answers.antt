@@ -2,4 +2,4 @@ use Rattle.yd_held.proofs.TryingLemmas.{next_is}
 use Rattle.yd_held.proofs.trying.next_of.Goals as goal
 
 pub returns : goal.returns
-returns c = next_is c.args.vector.now c.args.client c.get.result c.args.received.now.entries c.entry_at.result c.get.ensures.reached c.entry_at.ensures.found c.entry_at.ensures.none
+returns c = next_is c.args.vector.now c.args.client c.get.result c.args.received.now.entries c.find_start.result c.get.ensures.reached c.find_start.ensures.found c.find_start.ensures.none
