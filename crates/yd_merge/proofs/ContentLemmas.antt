@@ -63,6 +63,11 @@ before_all (embed t) = refl
 before_all (format key t) = refl
 before_all (nested kind) = refl
 
+-- as many units as there are, are the whole content
+pub all_part : (o n : ℕ) (content : ContentValue) → n ≡ len_of content → o + n ≤ len_of content → content ≡ content_part o n content
+all_part o n content all within = let none : 0 ≡ o = omega (arith, all, within) in
+    before_all content ∙ ap (content_before (len_of content)) (behind_none content) ∙ (λ i. content_before (sym all i) (content_behind (none i) content))
+
 -- a part has the units from the offset on, so many
 pub part-units : (o n : ℕ) (content : ContentValue) → 0 < n → o + n ≤ len_of content → units_of_content (content_part o n content) ≡ take n (drop o (units_of_content content))
 part-units o n (string units) some le = sym (ap (take n) (drop-map text_unit o units) ∙ take-map text_unit n (drop o units))

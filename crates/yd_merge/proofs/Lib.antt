@@ -1,6 +1,7 @@
 pub mod ContentLemmas
 pub mod CutEntriesLemmas
 pub mod CuttingLemmas
+pub mod JoiningLemmas
 pub mod LeavingLemmas
 pub mod LentCutLemmas
 pub mod MergingLemmas

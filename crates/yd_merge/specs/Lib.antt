@@ -1,4 +1,5 @@
 pub mod Cutting
+pub mod Joining
 pub mod Lending
 pub mod Named
 pub mod Reaching

@@ -7,7 +7,8 @@
 //! into a `yd_building::Builder`, whose update is the grouping of it. [`vector_of`] tells of each
 //! client the smallest clock that an update does not have, and [`vector_of_all`] that of a merge,
 //! without merging. [`are_apart`] tells that no two structs have a unit with one id. [`group_of`]
-//! copies what an entry of a `Received` has.
+//! copies what an entry of a `Received` has. [`join_runs`] joins the runs of one update that go on with
+//! one another, in its own order.
 //!
 //! ```rust
 //! let merged = merge(alloc, &[first, second])?;
@@ -18,6 +19,7 @@
 
 mod cutting;
 mod fault;
+mod joining;
 mod lending;
 mod lent_cutting;
 mod merging;
@@ -29,6 +31,7 @@ mod writing;
 
 pub use cutting::{cut, write_cut};
 pub use fault::NoMemory;
+pub use joining::join_runs;
 pub use lending::are_apart;
 pub use merging::merge;
 pub use parts::group_of;

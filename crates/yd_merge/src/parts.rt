@@ -71,6 +71,11 @@ fn copied(alloc: Global, content: &Content, offset: u64, len: u64) -> Result<Con
     ensures { IfOk result (λ part. content_value part
         ≡ content_part offset len (content_value content.now)) }
 {
+    if len == content.len() {
+        // All of it is copied at once.
+        let copy = content.copy()?;
+        return Ok(copy);
+    }
     match content {
         Content::Str(units) => {
             let units = copied_units(alloc, units, offset, len)?;
