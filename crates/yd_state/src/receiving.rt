@@ -10,17 +10,17 @@ ghost use Rattle.yd_state.specs.State.{received_in, IsSound};
 use crate::fault::NoMemory;
 use crate::state::State;
 use std::alloc::Global;
-use yd_merge::merge;
-use yd_ops::{Block, Struct, Update};
+use yd_merge::{join_runs, merge};
+use yd_ops::Update;
 
 /// So many blocks are put in order fast enough while they are taken.
 const FEW_BLOCKS: usize = 64;
 
 impl State {
     /// The state that received these updates, one after another. They are merged first, so that what is
-    /// held and what is deleted is found once, and each unit is placed once; one alone that a merge would
-    /// hardly change is not. It takes the time of `merge` and of one update that says all of it. The
-    /// updates are dropped once they are merged.
+    /// held and what is deleted is found once, and each unit is placed once; of one alone with few blocks
+    /// the runs are joined where they are. It takes the time of `merge` and of one update that says all
+    /// of it. The updates are dropped once they are merged.
     pub fn of_updates(alloc: Global, updates: Vec<Update>) -> Result<State, NoMemory>
         requires { Each IsValidUpdate (map update_value updates.items) }
         ensures received { IfOk result (λ state.
@@ -34,8 +34,8 @@ impl State {
     }
 }
 
-/// One update that says what the updates say: their merge, or the one that is alone, where a merge
-/// would hardly change it.
+/// One update that says what the updates say: their merge, or the one that is alone with its runs
+/// joined, where a merge would hardly change it else.
 fn one_of(alloc: Global, updates: Vec<Update>) -> Result<Update, NoMemory>
     requires { Each IsValidUpdate (map update_value updates.items) }
     ensures same { IfOk result (λ update.
@@ -48,42 +48,20 @@ fn one_of(alloc: Global, updates: Vec<Update>) -> Result<Update, NoMemory>
     }
     let mut updates = updates;
     match updates.pop() {
-        Some(update) => Ok(update),
+        Some(update) => {
+            let joined = join_runs(alloc, update)?;
+            Ok(joined)
+        }
         None => unreachable!(),
     }
 }
 
-/// There is one update alone, which a merge would hardly change.
+/// There is one update alone, with few blocks.
 fn is_alone(updates: &[Update]) -> bool
     ensures { IsTrue result → length updates.now ≡ 1 }
 {
     match updates {
-        [update] => is_compact(update.blocks.as_slice()),
+        [update] => update.blocks.as_slice().len() <= FEW_BLOCKS,
         _ => false,
     }
-}
-
-/// The blocks are few, and no struct joins the one before it. This chooses the faster way alone.
-fn is_compact(blocks: &[Block]) -> bool {
-    if blocks.len() > FEW_BLOCKS {
-        return false;
-    }
-    for block in blocks {
-        if has_joins(block.structs.as_slice()) {
-            return false;
-        }
-    }
-    true
-}
-
-/// A run among the structs joins the one before it. This chooses the faster way alone.
-fn has_joins(structs: &[Struct]) -> bool {
-    for at in 1..structs.len() {
-        if let (Struct::Item(run), Struct::Item(next)) = (&structs[at - 1], &structs[at]) {
-            if run.joins(next) {
-                return true;
-            }
-        }
-    }
-    false
 }
