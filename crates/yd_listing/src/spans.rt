@@ -32,6 +32,16 @@ pub(crate) fn span_at(store: &Store, place: usize) -> Span
     }
 }
 
+/// The first id of a span.
+fn first_id(span: Span) -> Id
+    ensures { result ≡ record { client = span.client; clock = span.clock } }
+{
+    Id {
+        client: span.client,
+        clock: span.clock,
+    }
+}
+
 /// The last id of a span.
 pub(crate) fn last_id(span: Span) -> Id
     requires is_span { IsSpan span }
@@ -83,18 +93,23 @@ pub(crate) fn has_span(alloc: Global, set: &IdSet, span: Span) -> Result<bool, N
     requires { IsSpan span }
     ensures { IfOk result (λ has. has ≡ true → (x : Id) → InSpan span x → HasId set.now x) }
 {
+    if span.len > 0 && !set.has(first_id(span)) {
+        return Ok(false);
+    }
     let mut one = IdSet::new(alloc);
     one.insert(span)?;
     Ok(set.has_all(&one))
 }
 
-/// Adds the ids of a span.
+/// Adds the ids of a span. One without ids is not put there.
 pub(crate) fn add_span(spans: &mut Vec<Span>, span: Span) -> Result<(), NoMemory>
     requires { IsSpan span }
     ensures adds { OnOk result (Adds (InSpan span) spans.old.items spans.new.items) }
     ensures all { OnOk result ((x : Id) → InSpan span x → HasId spans.new.items x) }
 {
-    spans.push(span)?;
+    if span.len > 0 {
+        spans.push(span)?;
+    }
     Ok(())
 }
 
