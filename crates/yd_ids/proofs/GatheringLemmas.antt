@@ -6,12 +6,12 @@ use Rattle.yd_words.specs.Each.{Each}
 use Rattle.yd_words.proofs.EachLemmas.{each_weaker, each_at}
 use Rattle.yd_ids.specs.declared.id.Id.{Id}
 use Rattle.yd_ids.specs.declared.id.Span.{Span}
-use Rattle.yd_ids.specs.Gathering.{AreOrdered}
+use Rattle.yd_ids.specs.Gathering.{AreOrdered, IsApart}
 use Rattle.yd_ids.specs.Id.{IsSpan}
 use Rattle.yd_ids.specs.Set.{HasId, HaveSameIds, AreMaximal}
-use Rattle.yd_ids.specs.Span.{InSpan, BeginsBy}
+use Rattle.yd_ids.specs.Span.{InSpan, BeginsBy, EndsBefore}
 use Rattle.yd_ids.specs.Uniting.{with_last}
-use Rattle.yd_ids.proofs.SpanLemmas.{span_cmp, by_order, by_both}
+use Rattle.yd_ids.proofs.SpanLemmas.{span_cmp, by_order, by_both, through}
 use Rattle.yd_ids.proofs.UnitingLemmas.{AllBy, with_maximal, with_has, has_with, next_order, none_before}
 use Rattle.yd_ids.proofs.InsertingLemmas.{regroup}
 
@@ -28,6 +28,23 @@ from_neighbours (x ∷ y ∷ xs) h =
 -- spans that are sorted are in the order in which they begin
 pub sorted_ordered : (xs : List Span) → IsSorted span_cmp xs → AreOrdered xs
 sorted_ordered xs h = from_neighbours xs (λ k d lt. by_order (get_or xs k d) (get_or xs (suc k) d) (subst (λ n. is_lt (span_cmp (get_or xs n d) (get_or xs k d)) ≡ false) (add-one k) (h k d (omega arith) (omega arith))))
+
+-- ---- maximal already
+
+-- a span that stands before maximal ones
+apart_front : (x : Span) (rest : List Span) → IsSpan x → IsApart (x ∷ rest) → AreMaximal rest → AreMaximal (x ∷ rest)
+apart_front x [] is apart m = (is, apart, tt, tt)
+apart_front x (y ∷ ys) is apart m = (is, apart.0, (apart.1, each_weaker (EndsBefore y) (EndsBefore x) (λ u b. through x y u apart.1 b) ys m.2), m)
+
+-- one span more is looked at, from the last one on
+pub apart_more : (spans : List Span) (at n : ℕ) → Each IsSpan spans → at ≡ n + 1 → at ≤ length spans → IsApart (drop n spans) → AreMaximal (drop at spans) → AreMaximal (drop n spans)
+apart_more [] at n are next le apart m = absurd (omega (arith, next, le))
+apart_more (d ∷ ds) at n are next le apart m =
+    let spans = d ∷ ds in
+    let lt : n < length spans = omega (arith, next, le) in
+    let here = drop_more spans n d lt in
+    subst AreMaximal (sym here)
+    (apart_front (get_or spans n d) (drop (n + 1) spans) (each_at IsSpan spans n d are lt) (subst IsApart here apart) (subst (λ k. AreMaximal (drop k spans)) next m))
 
 -- ---- one after another
 

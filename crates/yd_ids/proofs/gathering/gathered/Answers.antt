@@ -10,13 +10,13 @@ use Rattle.yd_ids.proofs.gathering.gathered.Goals as goal
 
 pub of_ordered-requires-clause-spans : goal.of_ordered-requires-clause-spans
 of_ordered-requires-clause-spans c =
-    subst (Each IsSpan) (sym c.deref.ensures.value) (each_permuted IsSpan c.args.spans.items c.sort_unstable.new.self.items c.sort_unstable.ensures.permutation c.requires)
+    subst (Each IsSpan) (sym c.deref-2.ensures.value) (each_permuted IsSpan c.args.spans.items c.sort_unstable.new.self.items c.sort_unstable.ensures.permutation c.requires)
 
 pub of_ordered-requires-clause-ordered : goal.of_ordered-requires-clause-ordered
-of_ordered-requires-clause-ordered c = subst AreOrdered (sym c.deref.ensures.value) (sorted_ordered c.sort_unstable.new.self.items c.sort_unstable.ensures.sorted)
+of_ordered-requires-clause-ordered c = subst AreOrdered (sym c.deref-2.ensures.value) (sorted_ordered c.sort_unstable.new.self.items c.sort_unstable.ensures.sorted)
 
 pub returns-clause-ids : goal.returns-clause-ids
 returns-clause-ids c =
     same_through c.in_ok-set.set.items c.sort_unstable.new.self.items c.args.spans.items
-    (subst (HaveSameIds c.in_ok-set.set.items) c.deref.ensures.value c.in_ok-set.ensures.ids)
+    (subst (HaveSameIds c.in_ok-set.set.items) c.deref-2.ensures.value c.in_ok-set.ensures.ids)
     (same_back c.args.spans.items c.sort_unstable.new.self.items (permuted_same c.args.spans.items c.sort_unstable.new.self.items c.sort_unstable.ensures.permutation))
