@@ -11,16 +11,16 @@ use crate::fault::NoMemory;
 use crate::state::State;
 use std::alloc::Global;
 use yd_merge::{join_runs, merge};
-use yd_ops::Update;
+use yd_ops::{Block, Update};
 
-/// So many blocks are put in order fast enough while they are taken.
+/// More blocks than these may have runs that go on with those of others, which a merge joins.
 const FEW_BLOCKS: usize = 64;
 
 impl State {
     /// The state that received these updates, one after another. They are merged first, so that what is
     /// held and what is deleted is found once, and each unit is placed once; of one alone with few blocks
-    /// the runs are joined where they are. It takes the time of `merge` and of one update that says all
-    /// of it. The updates are dropped once they are merged.
+    /// in order the runs are joined where they stand. It takes the time of `merge` and of one update that
+    /// says all of it. The updates are dropped once they are merged.
     pub fn of_updates(alloc: Global, updates: Vec<Update>) -> Result<State, NoMemory>
         requires { Each IsValidUpdate (map update_value updates.items) }
         ensures received { IfOk result (λ state.
@@ -35,7 +35,7 @@ impl State {
 }
 
 /// One update that says what the updates say: their merge, or the one that is alone with its runs
-/// joined, where a merge would hardly change it else.
+/// joined, where its blocks are few and in order.
 fn one_of(alloc: Global, updates: Vec<Update>) -> Result<Update, NoMemory>
     requires { Each IsValidUpdate (map update_value updates.items) }
     ensures same { IfOk result (λ update.
@@ -56,12 +56,26 @@ fn one_of(alloc: Global, updates: Vec<Update>) -> Result<Update, NoMemory>
     }
 }
 
-/// There is one update alone, with few blocks.
+/// There is one update alone, of which the blocks stand well.
 fn is_alone(updates: &[Update]) -> bool
     ensures { IsTrue result → length updates.now ≡ 1 }
 {
     match updates {
-        [update] => update.blocks.as_slice().len() <= FEW_BLOCKS,
+        [update] => are_in_turn(update.blocks.as_slice()),
         _ => false,
     }
+}
+
+/// The blocks are few, and greater clients stand first, as they are kept. This chooses the faster way
+/// alone.
+fn are_in_turn(blocks: &[Block]) -> bool {
+    if blocks.len() > FEW_BLOCKS {
+        return false;
+    }
+    for at in 1..blocks.len() {
+        if blocks[at - 1].client.0 < blocks[at].client.0 {
+            return false;
+        }
+    }
+    true
 }
