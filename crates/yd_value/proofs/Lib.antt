@@ -1,3 +1,4 @@
-pub mod ElementLemmas
 pub mod MakingLemmas
 pub mod ShownLists
+pub mod TextLemmas
+pub mod WritingLemmas

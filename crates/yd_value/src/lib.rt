@@ -14,6 +14,8 @@
 mod fault;
 mod of_any;
 mod of_json;
+mod plain;
+mod printer;
 mod printing;
 mod shown;
 mod writing;
