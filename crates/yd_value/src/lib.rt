@@ -14,6 +14,7 @@
 mod fault;
 mod of_any;
 mod of_json;
+mod page;
 mod plain;
 mod printer;
 mod printing;

@@ -6,6 +6,7 @@ ghost use Rattle.json.specs.Print.{escape, quoted};
 ghost use Rattle.yd_value.specs.Texts.{Appends, comma_if, enclosed};
 
 use crate::fault::NoMemory;
+use crate::page::Page;
 use crate::plain::is_plain;
 use itoa::Buffer;
 use json::Writer;
@@ -15,7 +16,7 @@ use std::mem;
 /// Takes the text of a value, a piece at a time.
 #[derive(Drop)]
 pub struct Printer {
-    bytes: Vec<u8>,
+    page: Page,
     // Where the text begins.
     start: usize,
     // One text with its quotes and escapes.
@@ -28,9 +29,9 @@ impl Model for Printer {
 
     ghost Value = { Printing };
 
-    ghost view = { λ p. record { before = take p.start p.bytes.items; text = drop p.start p.bytes.items } };
+    ghost view = { λ p. record { before = take p.start p.page; text = drop p.start p.page } };
 
-    ghost invariant = { λ p. p.start ≤ length p.bytes.items };
+    ghost invariant = { λ p. p.start ≤ length p.page };
 }
 
 impl Printer {
@@ -42,7 +43,7 @@ impl Printer {
         let alloc = *bytes.allocator();
         let start = bytes.len();
         Printer {
-            bytes,
+            page: Page::new(bytes),
             start,
             escaped: Vec::new(alloc),
         }
@@ -52,8 +53,8 @@ impl Printer {
     pub fn into_bytes(self) -> Vec<u8>
         ensures { result.items ≡ self.before ++ self.text }
     {
-        let Printer { bytes, .. } = self;
-        bytes
+        let Printer { page, .. } = self;
+        page.into_bytes()
     }
 
     /// Appends these bytes as they are.
@@ -61,7 +62,7 @@ impl Printer {
     pub fn put(&mut self, piece: &[u8]) -> Result<(), NoMemory>
         ensures { Appends result self.old self.new piece.now }
     {
-        self.bytes.extend_from_slice(piece)?;
+        self.page.put(piece)?;
         Ok(())
     }
 
@@ -71,7 +72,7 @@ impl Printer {
         ensures { Appends result self.old self.new (comma_if after) }
     {
         if after {
-            self.bytes.push(b',')?;
+            self.page.put(b",")?;
         }
         Ok(())
     }
@@ -102,7 +103,7 @@ impl Printer {
         self.escaped.clear();
         quote(text, &mut self.escaped)?;
         let end = self.escaped.len() - 1;
-        self.bytes.extend_from_slice(&self.escaped[1..end])?;
+        self.page.put(&self.escaped[1..end])?;
         Ok(())
     }
 }
