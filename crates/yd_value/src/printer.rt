@@ -85,6 +85,7 @@ impl Printer {
     }
 
     /// Appends a text with its escapes, between what opens and what closes it.
+    #[inline(always)]
     pub fn enclose(&mut self, opening: &[u8], text: &str, closing: &[u8]) -> Result<(), NoMemory>
         ensures { Appends result self.old self.new (enclosed opening.now text.now closing.now) }
     {
