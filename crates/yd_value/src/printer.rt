@@ -109,7 +109,7 @@ impl Printer {
     }
 }
 
-/// Fills a vector that is empty with a text in quotes.
+/// Fills an empty vector with a text in quotes.
 #[tactic(auto, unfolding(json::specs::Print::print_from))]
 fn quote(text: &str, out: &mut Vec<u8>) -> Result<(), NoMemory>
     requires { out.old.items ≡ [] }
