@@ -3,6 +3,7 @@ mod DroppingLemmas
 mod NotingLemmas
 mod OpeningLemmas
 mod OutlivingLemmas
+mod OwnLemmas
 mod QueueLemmas
 mod RunLemmas
 mod TakingLemmas

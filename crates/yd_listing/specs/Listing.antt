@@ -5,6 +5,7 @@ use Rattle.yd_words.specs.Member.{IsIn}
 use Rattle.yd_ids.specs.declared.id.Id.{Id}
 use Rattle.yd_ids.specs.Id.{IsClient, IsClock}
 use Rattle.yd_ops.specs.declared.lists.List.{List as DocList}
+use Rattle.yd_ops.specs.declared.lists.Parent.{Parent}
 use Rattle.yd_ops.specs.Operation.{Operation}
 use Rattle.yd_meaning.specs.Document.{Document}
 use Rattle.yd_store.specs.Units.{HasMarked}
@@ -26,6 +27,10 @@ lent_units document list = map (λ (o : Operation). lent (document.deleted o.id)
 abbrev pub units_to_come : Option Walk → List Lent
 units_to_come None = []
 units_to_come (Some walk) = units_left walk
+
+-- the name of a parent's own list, which is under no key
+abbrev pub own_name : Parent → DocList
+own_name parent = record { parent = parent; key = None }
 
 -- some units stand behind others, and are the last of all
 abbrev pub EndIn : List Lent → List Lent → Type 0

@@ -1,6 +1,6 @@
 //! The units of a list with a name, lent in order.
 
-ghost use Rattle.std.specs.Prelude.{◌≡◌, ◌++◌, ◌<◌, [], Some, IfSome, IfNone, MatchOption, slice_get};
+ghost use Rattle.std.specs.Prelude.{◌≡◌, ◌++◌, ◌<◌, [], Some, IfSome, IfNone, MatchOption, length, slice_get};
 ghost use Rattle.yd_ops.specs.declared.lists.List.{List as DocList};
 ghost use Rattle.yd_ops.specs.View.{content_value};
 ghost use Rattle.yd_ops.specs.Value.{len_of};
@@ -8,16 +8,18 @@ ghost use Rattle.yd_meaning.specs.Document.{Document};
 ghost use Rattle.yd_arena.specs.Arena.{count_of};
 ghost use Rattle.yd_listing.specs.Lending.{units_of_run, units_left};
 ghost use Rattle.yd_listing.specs.Falling.{IsTold};
-ghost use Rattle.yd_listing.specs.Listing.{Tells, lent_units, units_to_come, EndIn, IsFrom, IsAround};
+ghost use Rattle.yd_names.specs.Names.{IsLastOf};
+ghost use Rattle.yd_listing.specs.Listing.{Tells, lent_units, own_name, units_to_come, EndIn, IsFrom, IsAround};
 ghost use Rattle.yd_listing.specs.Listing.{AreInRange, IsInRange};
 
+use crate::own::own_number;
 use crate::standing::{place_before, place_in};
-use crate::walking::walk_from;
-use crate::{LentRun, ListWalk, walk};
+use crate::walking::{walk_from, whole_walk};
+use crate::{LentRun, ListWalk};
 use std::marker::Model;
 use yd_ids::Id;
 use yd_kept::Kept;
-use yd_ops::List;
+use yd_ops::{List, Parent};
 
 /// The units of a list in order, seen as those that are still to come.
 #[derive(Drop)]
@@ -55,6 +57,21 @@ pub fn list<'a>(kept: &'a Kept, name: &List) -> ListView<'a>
     }
 }
 
+/// The units of a parent's own list, in order, deleted ones too, where the last of the parent's lists
+/// is known. It looks at the lists of this parent alone, and takes no look-up by a hash.
+pub fn own_list<'a>(kept: &'a Kept, parent: &Parent, last: Option<usize>) -> ListView<'a>
+    requires told { IsTold kept.now }
+    requires last { IsLastOf kept.now.names parent.now (length kept.now.names) last }
+    requires within { IfSome last (λ n. n < count_of kept.now.store.placed) }
+    ensures { (document : Document) → Tells kept.now document →
+        units_to_come result ≡ lent_units document (own_name parent.now) }
+{
+    match own_number(kept, parent, last) {
+        Some(number) => list_at(kept, number),
+        None => ListView { walk: None },
+    }
+}
+
 /// The units of the list with a number, in order, deleted ones too. It takes a few steps.
 pub fn list_at(kept: &Kept, n: usize) -> ListView<'_>
     requires told { IsTold kept.now }
@@ -64,7 +81,7 @@ pub fn list_at(kept: &Kept, n: usize) -> ListView<'_>
         units_to_come result ≡ lent_units document name }
 {
     ListView {
-        walk: Some(walk(kept.store(), n)),
+        walk: Some(whole_walk(kept.store(), n)),
     }
 }
 

@@ -4,7 +4,10 @@ ghost use Rattle.std.specs.Prelude.{◌≡◌, ◌++◌, ◌<◌, List, [], IfSo
 ghost use Rattle.yd_ops.specs.View.{content_value};
 ghost use Rattle.yd_ops.specs.Value.{len_of};
 ghost use Rattle.yd_words.specs.Member.{IsIn};
-ghost use Rattle.yd_arena.specs.Arena.{count_of, places_in};
+ghost use Rattle.yd_arena.specs.Lists.{AreLists};
+ghost use Rattle.yd_arena.specs.Arena.{runs_of, count_of, places_in};
+ghost use Rattle.yd_store.specs.Contents.{told_of};
+ghost use Rattle.yd_store.specs.Store.{AreTold};
 ghost use Rattle.yd_listing.specs.Lending.{Lent, HasNoGone, units_of_run, lent_in, lent_from_place, units_left};
 
 use crate::lent::{LentRun, lent_run};
@@ -46,6 +49,18 @@ pub fn walk(store: &Store, list: usize) -> ListWalk<'_>
     ensures { units_left result ≡ lent_in store.now list }
 {
     store.is_sound();
+    whole_walk(store, list)
+}
+
+/// The units of a list, of which none is gone, where the store is known to be sound. It takes a few
+/// loads.
+pub(crate) fn whole_walk(store: &Store, list: usize) -> ListWalk<'_>
+    requires list { list < count_of store.now.placed }
+    requires gone { HasNoGone store.now list }
+    requires lists { AreLists store.now.placed.linked }
+    requires told { AreTold (runs_of store.now.placed) (told_of store.now.contents) }
+    ensures { units_left result ≡ lent_in store.now list }
+{
     ListWalk {
         store,
         list,
