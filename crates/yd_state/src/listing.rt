@@ -4,7 +4,7 @@ ghost use Rattle.std.specs.Prelude.{◌≡◌, ◌++◌, [], ◌<◌, List, Some
 ghost use Rattle.yd_ops.specs.Value.{len_of};
 ghost use Rattle.yd_ops.specs.View.{content_value};
 ghost use Rattle.yd_listing.specs.Lending.{units_of_run};
-ghost use Rattle.yd_listing.specs.Listing.{EndIn, IsInRange};
+ghost use Rattle.yd_listing.specs.Listing.{EndIn, IsInRange, units_to_come};
 ghost use Rattle.yd_state.specs.Lent.{Lent, units_left, units_of_view, IsWithin};
 
 use std::marker::Model;
@@ -48,6 +48,13 @@ impl<'a> Model for ListView<'a> {
 }
 
 impl<'a> ListView<'a> {
+    /// The units that a store lends of a list.
+    pub fn of_lent(units: yd_listing::ListView<'a>) -> ListView<'a>
+        ensures { units_left result ≡ units_to_come units.entry }
+    {
+        ListView { units }
+    }
+
     /// The next units, at least one, or none where no unit is left. It takes no memory, and a few
     /// steps.
     pub fn next(&mut self) -> Option<RunView<'a>>
