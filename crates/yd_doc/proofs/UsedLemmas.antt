@@ -1,5 +1,5 @@
 -- Whether a list is one of a parent's and has a unit.
-use Rattle.std.proofs.Common.{◌≡◌, ◌≢◌, ℕ, zero, suc, ◌+◌, ◌-◌, ◌<◌, ◌≤◌, ◌⊎◌, inl, inr, Bool, true, false, ◌&&◌, List, [], ◌∷◌, ◌++◌, Option, Some, None, map, length, take, drop, refl, sym, ap, ◌∙◌, arith, length-append, length-drop}
+use Rattle.std.proofs.Common.{◌≡◌, ◌≢◌, ℕ, zero, suc, ◌+◌, ◌-◌, ◌<◌, ◌≤◌, ◌⊎◌, inl, inr, Bool, true, false, ◌&&◌, List, [], ◌∷◌, ◌++◌, Option, Some, None, map, length, take, drop, refl, sym, ap, ◌∙◌, subst, arith, length-append, length-drop}
 use Rattle.std.specs.Prelude.{slice_get, IfSome, IfNone, is_some, if◌then◌else◌}
 use Rattle.std.proofs.lemmas.List.{length-take-le, length-map}
 use Rattle.yd_ids.specs.declared.id.Id.{Id}
@@ -9,7 +9,11 @@ use Rattle.yd_ops.specs.Operation.{UnitContent, Operation, later_id, units_of_co
 use Rattle.yd_ops.specs.View.{content_value}
 use Rattle.yd_ops.proofs.OperationLemmas.{length-units_of_content}
 use Rattle.yd_meaning.specs.Names.{same_parent}
-use Rattle.yd_meaning.specs.Document.{Document, with_key_of}
+use Rattle.yd_meaning.specs.Document.{Document, with_key, with_key_of}
+use Rattle.yd_words.specs.Member.{IsIn}
+use Rattle.yd_kept.specs.Kept.{KeptValue}
+use Rattle.yd_listing.specs.Listing.{Tells}
+use Rattle.yd_listing.proofs.LawLemmas.{find_name}
 use Rattle.yd_state.specs.declared.listing.RunView.{RunView}
 use Rattle.yd_state.specs.Lent.{Lent, lent, lent_from, lent_units, units_of_view, IsWithin}
 use Rattle.yd_words.proofs.OptionLemmas.{some_is}
@@ -49,8 +53,31 @@ used_then d p name None left same lends none last one within = sym (ap (λ t. t 
 used_then d p name (Some view) left same lends none (front, e) one within = sym (ap (λ t. t && has_some (d.units name)) same ∙ some_there (d.units name)
     (omega (arith, length-map (d.units name) (lent d.deleted), ap length (sym lends ∙ e), length-append front (units_of_view view), one_lent view within one)))
 
-pub used_else : (d : Document) (p : Parent) (name : DocList) (same : Bool) → same ≡ same_parent name.parent p → same ≡ false → same ≡ is_used d p name
-used_else d p name same e none = none ∙ sym (ap (λ t. t && has_some (d.units name)) (sym e ∙ none))
+-- a list under no key adds none
+pub with_none : (d : Document) (p : Parent) (name : DocList) (ks : List (List ℕ)) → name.key ≡ None → ks ≡ with_name d p name ks
+with_none d p name ks none = go (is_used d p name) ∙ ap (λ k. if is_used d p name then with_key_of k ks else ks) (sym none)
+  where
+    go : (t : Bool) → ks ≡ (if t then ks else ks)
+    go true = refl
+    go false = refl
+
+-- nor does one without a unit
+pub with_unused : (d : Document) (p : Parent) (name : DocList) (ks : List (List ℕ)) → is_used d p name ≡ false → ks ≡ with_name d p name ks
+with_unused d p name ks unused = sym (ap (λ t. if t then with_key_of name.key ks else ks) unused)
+
+-- one with a unit adds its key
+pub with_used : (d : Document) (p : Parent) (name : DocList) (key : List ℕ) (ks : List (List ℕ)) → name.key ≡ Some key → is_used d p name ≡ true →
+    with_key key ks ≡ with_name d p name ks
+with_used d p name key ks under used = ap (λ k. with_key_of k ks) (sym under) ∙ sym (ap (λ t. if t then with_key_of name.key ks else ks) used)
+
+-- ---- all names
+
+-- each list that has a unit has a name in the store that tells the document
+pub all_named : (it : KeptValue) (d : Document) → Tells it d → (list : DocList) (o : Operation) → IsIn o (d.units list) → (n : ℕ) × (slice_get it.names n ≡ Some list)
+all_named it d tells list o i = elim (find_name it.names list) [
+  | inl found ↦ found
+  | inr none ↦ absurd (subst (IsIn o) (tells.lists.others list none) i)
+]
 
 -- ---- the lists of a parent, from the last one on
 
@@ -101,7 +128,7 @@ found_next d p names n name old new there made was = made ∙ ap (with_name d p 
     go (other ∷ names) zero e = ap (λ l. with_name d p l (with_names d p names [])) (sym (some_is other name e))
     go (other ∷ names) (suc n) e = go names n e
 
-is_own : (p : Parent) (names : List DocList) (top : ℕ) (next : Option ℕ) → IsLastOf names p top next → IfSome next (IsOf names p)
+pub is_own : (p : Parent) (names : List DocList) (top : ℕ) (next : Option ℕ) → IsLastOf names p top next → IfSome next (IsOf names p)
 is_own p names top None last = tt
 is_own p names top (Some n) last = last.0
 

@@ -1,7 +1,11 @@
 //! The keys of a parent.
 
 ghost use Rattle.std.specs.Prelude.{◌≡◌, ◌<◌, [], map, length, slice_get, string_bytes, IfOk, OnOk, IfSome};
-ghost use Rattle.yd_meaning.specs.Document.{with_key_of};
+ghost use Rattle.yd_names.specs.Names.{IsOf, IsLastOf};
+ghost use Rattle.yd_meaning.specs.Document.{Document, with_key};
+ghost use Rattle.yd_arena.specs.Arena.{count_of};
+ghost use Rattle.yd_listing.specs.Falling.{IsTold};
+ghost use Rattle.yd_listing.specs.Listing.{Tells};
 ghost use Rattle.yd_doc.specs.Kept.{own_document};
 ghost use Rattle.yd_doc.specs.Keys.{is_used, with_name, with_names};
 
@@ -11,78 +15,113 @@ use crate::replica::Replica;
 use std::alloc::Global;
 use std::collections::BTreeSet;
 use yd_any::Text;
-use yd_names::is_same_parent;
+use yd_kept::Kept;
+use yd_listing::list_at;
 use yd_ops::Parent;
 use yd_shown::law::keys_have_units;
+use yd_state::ListView;
 
 impl Replica {
-    /// The keys under which a parent has units, deleted or not, in the order of their bytes. It looks
-    /// at the lists of this parent alone, with a look-up for each.
+    /// The keys under which a parent has units, deleted or not, in the order of their bytes. It takes a
+    /// look-up by a hash, and looks at the lists of this parent alone.
     pub fn keys(&self, alloc: Global, parent: &Parent) -> Result<Vec<Text>, NoMemory>
+        ensures { IfOk result (λ keys. keys.items ≡ (own_document self.now).keys parent.now) }
+    {
+        let kept = self.state.kept();
+        let last = kept.last_of(parent, None);
+        let keys = self.keys_from(alloc, kept, parent, last)?;
+        Ok(keys)
+    }
+
+    /// The keys of a parent, where the last of its lists is known.
+    pub(crate) fn keys_from(
+        &self,
+        alloc: Global,
+        kept: &Kept,
+        parent: &Parent,
+        last: Option<usize>,
+    ) -> Result<Vec<Text>, NoMemory>
+        requires tells { Tells kept.now (own_document self.now) }
+        requires told { IsTold kept.now }
+        requires last { IsLastOf kept.now.names parent.now (length kept.now.names) last }
+        requires within { IfSome last (λ n. n < count_of kept.now.store.placed) }
         ensures { IfOk result (λ keys. keys.items ≡ (own_document self.now).keys parent.now) }
     {
         own_document_is_replicas(self);
         keys_have_units();
-        // Each list that has a unit is named, and all keys are those of its names.
-        let _names = self.state.names();
-        let found = self.keys_found(alloc, parent)?;
+        let found = keys_found(alloc, kept, parent, last)?;
         let keys = in_order(alloc, found)?;
         Ok(keys)
     }
-
-    /// The keys of the lists that are the parent's and have a unit. No other list is looked at.
-    fn keys_found(&self, alloc: Global, parent: &Parent) -> Result<BTreeSet<String>, NoMemory>
-        ensures { IfOk result (λ found. map string_bytes found.keys
-            ≡ with_names (own_document self.now) parent.now self.now.state.held.names []) }
-    {
-        let mut found = BTreeSet::new(alloc);
-        let mut next = self.state.last_list_of(parent, None);
-        while let Some(n) = next {
-            self.add_used(alloc, &mut found, n, parent)?;
-            next = self.state.last_list_of(parent, Some(n));
-        }
-        Ok(found)
-    }
-
-    /// Adds the key of the list with a number, where it is the parent's and has a unit.
-    fn add_used(
-        &self,
-        alloc: Global,
-        found: &mut BTreeSet<String>,
-        n: usize,
-        parent: &Parent,
-    ) -> Result<(), NoMemory>
-        requires { n < length self.now.state.held.names }
-        ensures { OnOk result (IfSome (slice_get self.now.state.held.names n) (λ name.
-            map string_bytes found.new.keys ≡ with_name (own_document self.now) parent.now name
-            (map string_bytes found.old.keys))) }
-    {
-        if self.is_used(n, parent) {
-            add_key(alloc, found, &self.state.names()[n].key)?;
-        }
-        Ok(())
-    }
-
-    /// Whether the list with a number is the parent's and has a unit.
-    fn is_used(&self, n: usize, parent: &Parent) -> bool
-        requires { n < length self.now.state.held.names }
-        ensures { IfSome (slice_get self.now.state.held.names n)
-            (λ name. result ≡ is_used (own_document self.now) parent.now name) }
-    {
-        is_same_parent(&self.state.names()[n].parent, parent)
-            && self.state.list_at(n).last().is_some()
-    }
 }
 
-/// Adds the key, where there is one.
-fn add_key(alloc: Global, found: &mut BTreeSet<String>, key: &Option<Text>) -> Result<(), NoMemory>
-    ensures { OnOk result (map string_bytes found.new.keys
-        ≡ with_key_of key.now (map string_bytes found.old.keys)) }
+/// The keys of the lists that are the parent's and have a unit, where the last of the parent's lists is
+/// known. No other list is looked at.
+fn keys_found(
+    alloc: Global,
+    kept: &Kept,
+    parent: &Parent,
+    last: Option<usize>,
+) -> Result<BTreeSet<String>, NoMemory>
+    requires told { IsTold kept.now }
+    requires last { IsLastOf kept.now.names parent.now (length kept.now.names) last }
+    requires within { IfSome last (λ n. n < count_of kept.now.store.placed) }
+    ensures { IfOk result (λ found. (document : Document) → Tells kept.now document →
+        map string_bytes found.keys ≡ with_names document parent.now kept.now.names []) }
 {
-    if let Some(key) = key {
-        let key = String::from_str(alloc, key.as_str())?;
-        let _is_new = found.insert(key)?;
+    let mut found = BTreeSet::new(alloc);
+    let mut next = last;
+    while let Some(n) = next {
+        add_used(alloc, kept, &mut found, n, parent)?;
+        next = kept.last_of(parent, Some(n));
     }
+    Ok(found)
+}
+
+/// Adds the key of the parent's list with a number, where it is under one and has a unit.
+fn add_used(
+    alloc: Global,
+    kept: &Kept,
+    found: &mut BTreeSet<String>,
+    n: usize,
+    parent: &Parent,
+) -> Result<(), NoMemory>
+    requires told { IsTold kept.now }
+    requires own { IsOf kept.now.names parent.now n }
+    requires within { n < count_of kept.now.store.placed }
+    ensures { OnOk result ((document : Document) → Tells kept.now document →
+        IfSome (slice_get kept.now.names n) (λ name.
+        map string_bytes found.new.keys ≡ with_name document parent.now name
+        (map string_bytes found.old.keys))) }
+{
+    let Some(key) = &kept.names()[n].key else {
+        return Ok(());
+    };
+    if is_used(kept, n, parent) {
+        add_key(alloc, found, key)?;
+    }
+    Ok(())
+}
+
+/// Whether the parent's list with a number has a unit.
+fn is_used(kept: &Kept, n: usize, parent: &Parent) -> bool
+    requires told { IsTold kept.now }
+    requires own { IsOf kept.now.names parent.now n }
+    requires within { n < count_of kept.now.store.placed }
+    ensures { (document : Document) → Tells kept.now document →
+        IfSome (slice_get kept.now.names n)
+        (λ name. result ≡ is_used document parent.now name) }
+{
+    ListView::of_lent(list_at(kept, n)).last().is_some()
+}
+
+/// Adds a key.
+fn add_key(alloc: Global, found: &mut BTreeSet<String>, key: &Text) -> Result<(), NoMemory>
+    ensures { OnOk result (map string_bytes found.new.keys
+        ≡ with_key key.now (map string_bytes found.old.keys)) }
+{
+    let key = String::from_str(alloc, key.as_str())?;
+    let _is_new = found.insert(key)?;
     Ok(())
 }
 

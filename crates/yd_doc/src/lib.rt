@@ -21,11 +21,13 @@ mod keys;
 pub mod law;
 mod listing;
 mod opening;
+mod parents;
 mod replica;
 mod waiting;
 
 pub use fault::NoMemory;
 pub use indexing::counted_len;
+pub use parents::ParentLists;
 pub use replica::Replica;
 pub use waiting::Waiting;
 pub use yd_making::{EditFault, Step, StepList};
