@@ -17,8 +17,8 @@ use yd_state::State;
 
 impl Replica {
     /// A replica of this client that has received these updates, one after another: the way to open
-    /// a document that lies in many updates. They are merged first, unless it is one that a merge would
-    /// hardly change, and received at once. Where memory ends there is no replica.
+    /// a document that lies in many updates. They are merged first, and of one alone the runs that go on
+    /// with one another are joined; then all is received at once. Where memory ends there is no replica.
     pub fn of_updates(
         alloc: Global,
         client: Client,

@@ -5,7 +5,6 @@ ghost use Rattle.yd_ops.specs.Operation.{operations_of};
 ghost use Rattle.yd_ops.specs.Valid.{IsValidUpdate};
 ghost use Rattle.yd_ops.specs.View.{update_value};
 ghost use Rattle.yd_ops.specs.Received.{with_groups, groups_of};
-ghost use Rattle.yd_names.specs.Names.{IsOf, IsLastOf, top_of};
 ghost use Rattle.yd_received.specs.Received.{taken_of, LowersOne, IsSingleOf};
 ghost use Rattle.yd_entries.specs.Taking.{BringsOperation};
 ghost use Rattle.yd_held.specs.Changing.{KeepsNumbers, back_to};
@@ -20,7 +19,7 @@ use std::alloc::Global;
 use std::marker::Model;
 use yd_ids::Vector;
 use yd_names::Names;
-use yd_ops::{List, Parent, Update};
+use yd_ops::{List, Update};
 use yd_received::Received;
 
 /// What was received, and what is held of it: each unit that has all that it needs.
@@ -103,15 +102,6 @@ impl Held {
         ensures holds { HoldsAll self.now }
     {
         self.parts.names.as_slice()
-    }
-
-    /// The number of the last of a parent's lists, or of the last one before another of them. It takes a
-    /// look-up by a hash.
-    pub fn last_of(&self, parent: &Parent, before: Option<usize>) -> Option<usize>
-        requires { IfSome before (λ n. IsOf self.now.names parent.now n) }
-        ensures { IsLastOf self.now.names parent.now (top_of self.now.names before) result }
-    {
-        self.parts.names.last_of(parent, before)
     }
 
     /// Takes in the operations of an update, and holds what can be held then. What lacks something
