@@ -10,16 +10,14 @@ use Rattle.yd_any.specs.Same.{same_fields}
 use Rattle.yd_shown.specs.Pieces.{Piece, text_piece, value_piece, unit_before, with_attribute}
 use Rattle.yd_shown.specs.Cut.{BeginsApart}
 use Rattle.yd_any.proofs.SameLemmas.{fields_is, fields_itself}
-use Rattle.yd_modes.specs.declared.way.Way.{Way}
+use Rattle.yd_modes.specs.Roles.{Way, Delta, is_value, sets_attribute, is_idle, role_of, role_before, role_after, pieces_by, bare, joins_next, joins_last, whole_units, AreIdle}
 use Rattle.yd_view.specs.declared.halves.Seen.{Seen}
 use Rattle.yd_view.specs.declared.halves.Halves.{Halves}
 use Rattle.yd_modes.specs.declared.gathering.Gathering.{Gathering}
 use Rattle.yd_modes.specs.declared.piece.Piece.{Piece as MadePiece}
-use Rattle.yd_modes.specs.declared.way.Way.TheVariants.{Delta}
 use Rattle.yd_view.specs.Halves.{StepsBy, joins_after, shown_last, shown_seen, seen_of, text_unit_of}
 use Rattle.yd_modes.specs.Marks.{marks_fields}
-use Rattle.yd_modes.specs.Roles.{is_value, sets_attribute, is_idle, role_of, role_before, role_after, pieces_by, bare, joins_next, joins_last, whole_units, AreIdle}
-use Rattle.yd_modes.specs.Gathering.{Told, told, made, units_before, gathered, IsSilent, IsSettled, Gathers, Closes, Flushes, closed_text, live}
+use Rattle.yd_modes.specs.Gathering.{Told, told, made, units_before, parts, gathered, IsSilent, IsSettled, Gathers, Closes, Flushes, closed_text, live}
 use Rattle.yd_modes.proofs.RoleLemmas.{text_role, no_text_unit, no_next, no_before, last_first, by_other, by_idle}
 
 -- ---- text in front of pieces
@@ -56,10 +54,6 @@ units_before-append [] vs a ps = refl
 units_before-append (u ∷ us) vs a ps = ap (unit_before u a) (units_before-append us vs a ps)
 
 -- ---- what is gathered, by its parts
-
-abbrev pub parts : Way → (Operation → AnyTree) → List Told → List ℕ → Bool → Option Seen → AnyFields → AnyFields → List Lent → List Told
-parts way show pieces text joined last under marks us =
-    pieces ++ map told (units_before (text ++ shown_last joined last (joins_last last us) []) under (pieces_by way show marks (whole_units (joins_last last us) us)))
 
 -- a unit that is no text shows nothing
 silent_last : (joined joins : Bool) (s : Seen) → s.unit ≡ None → shown_last joined (Some s) joins [] ≡ []
@@ -152,9 +146,16 @@ parts_value way show pieces text joined last under others marks s id content val
     rest = pieces_by way show marks (whole_units false us)
 
 -- a last unit that is no text shows nothing
-silent_shown : (joined joins : Bool) (last : Option Seen) → IsSilent last → shown_last joined last joins [] ≡ []
+pub silent_shown : (joined joins : Bool) (last : Option Seen) → IsSilent last → shown_last joined last joins [] ≡ []
 silent_shown joined joins None silent = refl
 silent_shown joined joins (Some s) silent = silent_last joined joins s silent
+
+-- what is gathered behind a last unit that is no text
+pub parts_silent : (way : Way) (show : Operation → AnyTree) (pieces : List Told) (text : List ℕ) (joined : Bool) (last : Option Seen) (under marks : AnyFields) (us : List Lent) → IsSilent last →
+    parts way show pieces text joined last under marks us ≡ pieces ++ map told (units_before text under (pieces_by way show marks (whole_units false us)))
+parts_silent way show pieces text joined None under marks us silent =
+    ap (λ (l : List ℕ). pieces ++ map told (units_before l under (pieces_by way show marks (whole_units false us)))) (append-nil text)
+parts_silent way show pieces text joined (Some s) under marks us silent = parts_flushed way show pieces text joined s under marks us silent
 
 -- the open text is a piece where a text unit comes under other attributes
 pub parts_other : (way : Way) (show : Operation → AnyTree) (pieces : List Told) (text : List ℕ) (joined : Bool) (last : Option Seen) (under others marks : AnyFields) (id : Id) (unit : ℕ) (us : List Lent) →

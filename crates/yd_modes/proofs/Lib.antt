@@ -1,6 +1,7 @@
 pub mod FieldLemmas
 pub mod GatheringLemmas
 pub mod ListLemmas
+pub mod ListedLemmas
 pub mod MarkLemmas
 pub mod PlainLemmas
 pub mod RoleLemmas

@@ -1,5 +1,5 @@
 -- What is made of pieces: their values, and their objects.
-use Rattle.std.proofs.Common.{◌≡◌, ◌<◌, ℕ, false, List, [], ◌∷◌, map, length, refl, sym, ap, ◌∙◌, subst, arith, rules}
+use Rattle.std.proofs.Common.{◌≡◌, ◌<◌, ℕ, false, List, [], ◌∷◌, map, length, refl, ap, ◌∙◌, subst, arith, rules}
 use Rattle.std.specs.Bool.{◌==◌}
 use Rattle.std.proofs.lemmas.Result.{IfOk-weaker}
 use Rattle.std.specs.Prelude.{Result, IfOk, codes}
@@ -8,19 +8,20 @@ use Rattle.yd_value.specs.View.{shown_tree, shown_trees, shown_fields, entries_f
 use Rattle.yd_value.specs.declared.shown.Shown.{Shown, List as Listed, Fields, the_lemmas}
 use Rattle.yd_value.specs.declared.shown.ShownList.{ShownList}
 use Rattle.yd_value.specs.declared.shown.ShownFields.{ShownFields}
-use Rattle.yd_shown.specs.Pieces.{Piece, with_attributes, inserts_of, values_of}
+use Rattle.yd_shown.specs.Pieces.{Piece, with_attributes, inserts_of, list_pieces, values_of}
+use Rattle.yd_state.specs.Lent.{Lent, lent_units}
+use Rattle.yd_words.specs.Member.{IsIn}
+use Rattle.yd_ops.specs.ReceivedLaw.{ArePaired}
 use Rattle.yd_ops.specs.declared.lists.List.{List as DocList}
 use Rattle.yd_ops.specs.declared.lists.Parent.{Parent}
 use Rattle.yd_ops.specs.Operation.{Operation}
 use Rattle.yd_meaning.specs.Document.{Document}
 use Rattle.yd_shown.specs.Seen.{seen_units}
-use Rattle.yd_shown.specs.Shown.{own_list}
-use Rattle.yd_modes.specs.declared.way.Way.{Way}
-use Rattle.yd_modes.specs.declared.way.Way.TheVariants.{Delta, Values}
-use Rattle.yd_modes.specs.Modes.{shown_by}
-use Rattle.yd_modes.specs.Roles.{pieces_by}
+use Rattle.yd_shown.specs.Shown.{own_list, shown_delta, shown_list, map_fields, shown_tree as shown_element, value_within}
+use Rattle.yd_modes.specs.Roles.{Delta, Values, pieces_by, live_lent, whole_units}
 use Rattle.yd_modes.specs.Gathering.{Told, told, told_values, told_insert, told_inserts}
 use Rattle.yd_modes.proofs.RoleLemmas.{by_delta, by_list}
+use Rattle.yd_modes.proofs.SeenLemmas.{pieces_seen}
 
 -- ---- rows
 
@@ -81,18 +82,27 @@ with_some (x ∷ es) fs t e some = subst (λ gs. pairs (field (codes "attributes
 pub same_shown : {E : Type 0} (result : Result Shown E) (t u : AnyTree) → t ≡ u → IfOk result (λ shown. shown_tree shown ≡ t) → IfOk result (λ shown. shown_tree shown ≡ u)
 same_shown result t u same = IfOk-weaker result (λ shown. shown_tree shown ≡ t) (λ shown. shown_tree shown ≡ u) (λ shown is. is ∙ same)
 
-pub delta_of : (show : Operation → AnyTree) (d : Document) (p : Parent) (way : Way) (ts : List Told) (l : DocList) → way ≡ Delta → l ≡ own_list p →
-    ts ≡ map told (pieces_by way show no_fields (seen_units d l)) → list (told_inserts ts) ≡ shown_by way show d p
-delta_of show d p way ts l in_delta own e =
-    ap (λ us. list (told_inserts us)) (e ∙ (λ i. map told (pieces_by (in_delta i) show no_fields (seen_units d (own i)))))
+pub delta_of : (show : Operation → AnyTree) (d : Document) (p : Parent) (ts : List Told) (l : DocList) → l ≡ own_list p →
+    ts ≡ map told (pieces_by Delta show no_fields (seen_units d l)) → list (told_inserts ts) ≡ shown_delta show d p
+delta_of show d p ts l own e =
+    ap (λ us. list (told_inserts us)) (e ∙ ap (λ m. map told (pieces_by Delta show no_fields (seen_units d m))) own)
     ∙ ap list (inserts_told (pieces_by Delta show no_fields (seen_units d (own_list p))))
     ∙ ap (λ ps. list (inserts_of ps)) (by_delta show no_fields (seen_units d (own_list p)))
-    ∙ sym (ap (λ w. shown_by w show d p) in_delta)
 
-pub list_of : (show : Operation → AnyTree) (d : Document) (p : Parent) (way : Way) (ts : List Told) (l : DocList) → way ≡ Values → l ≡ own_list p →
-    ts ≡ map told (pieces_by way show no_fields (seen_units d l)) → list (told_values ts) ≡ shown_by way show d p
-list_of show d p way ts l in_list own e =
-    ap (λ us. list (told_values us)) (e ∙ (λ i. map told (pieces_by (in_list i) show no_fields (seen_units d (own i)))))
-    ∙ ap list (values_told (pieces_by Values show no_fields (seen_units d (own_list p))))
-    ∙ ap (λ ps. list (values_of ps)) (by_list show (seen_units d (own_list p)))
-    ∙ sym (ap (λ w. shown_by w show d p) in_list)
+-- the values of the units of a parent's own list, as they are lent, are its list
+pub list_of : (os : List Operation) (d : Document) (p : Parent) (l : DocList) (most : ℕ) (values : ShownList) (left : List Lent) → l ≡ own_list p → ArePaired os →
+    ((o : Operation) → IsIn o (d.units l) → IsIn o os) → left ≡ lent_units d l →
+    shown_trees values ≡ told_values (map told (pieces_by Values (value_within most d) no_fields (whole_units false (live_lent left)))) →
+    shown_tree (Listed values) ≡ shown_list (value_within most d) d p
+list_of os d p l most values left own paired received lends e =
+    shown_tree-List values
+    ∙ ap list (e ∙ ap (λ us. told_values (map told (pieces_by Values (value_within most d) no_fields (whole_units false (live_lent us))))) lends)
+    ∙ ap (λ ps. list (told_values (map told ps))) (pieces_seen os d l paired received Values most no_fields)
+    ∙ ap list (values_told (pieces_by Values (value_within most d) no_fields (seen_units d l)))
+    ∙ ap (λ ps. list (values_of ps)) (by_list (value_within most d) (seen_units d l))
+    ∙ ap (λ m. list (values_of (list_pieces (value_within most d) (seen_units d m)))) own
+
+-- an element or a tree has its fields, its list and what else there is
+pub tree_of : (show : Operation → AnyTree) (d : Document) (p : Parent) (more entries : AnyFields) (children : AnyTree) → entries ≡ map_fields show d p → children ≡ shown_list show d p →
+    pairs (field (codes "attributes") (pairs entries) (field (codes "children") children more)) ≡ shown_element show d p more
+tree_of show d p more entries children of_map of_list = λ i. pairs (field (codes "attributes") (pairs (of_map i)) (field (codes "children") (of_list i) more))

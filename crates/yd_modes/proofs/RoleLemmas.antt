@@ -10,11 +10,9 @@ use Rattle.yd_ops.specs.Operation.{UnitContent, text_unit, any_unit, json_unit, 
 use Rattle.yd_ops.specs.Pairs.{is_high, is_low}
 use Rattle.yd_state.specs.Lent.{Lent}
 use Rattle.yd_shown.specs.Pieces.{Piece, unit_before, value_piece, attributes_after, delta_before, delta_pieces, value_before, list_pieces}
-use Rattle.yd_modes.specs.declared.way.Way.{Way}
-use Rattle.yd_modes.specs.declared.way.Way.TheVariants.{Delta, Values}
+use Rattle.yd_modes.specs.Roles.{Way, Delta, Values, Role, is_text, is_value, sets_attribute, is_idle, role_of, role_before, role_after, pieces_by, bare, joins_next, joins_last, whole_content, whole_units, AreIdle, ArePlainValues, AreIdleUnits, IsOther, are_values}
 use Rattle.yd_view.specs.declared.halves.Seen.{Seen}
 use Rattle.yd_view.specs.Halves.{is_unit_and, joins, joins_after, text_unit_of, seen_of}
-use Rattle.yd_modes.specs.Roles.{Role, is_text, is_value, sets_attribute, is_idle, role_of, role_before, role_after, pieces_by, bare, joins_next, joins_last, whole_content, whole_units, AreIdle, ArePlainValues, AreIdleUnits, IsOther, are_values}
 
 -- ---- deltas and lists
 

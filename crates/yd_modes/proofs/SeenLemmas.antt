@@ -17,9 +17,8 @@ use Rattle.yd_state.specs.Lent.{lent, lent_units}
 use Rattle.yd_shown.specs.Pieces.{Piece, unit_before, value_piece}
 use Rattle.yd_shown.specs.Seen.{without_lone, seen_units}
 use Rattle.yd_shown.specs.Shown.{value_of_content, shown_type, too_deep, value_within}
-use Rattle.yd_modes.specs.declared.way.Way.{Way}
+use Rattle.yd_modes.specs.Roles.{Way, Role, is_text, is_value, sets_attribute, is_idle, role_of, role_before, role_after, pieces_by, bare, joins_next, whole_content, whole_units, live_lent, is_nested, plain_value, ShowsPlain}
 use Rattle.yd_view.specs.Halves.{joins, seen_of}
-use Rattle.yd_modes.specs.Roles.{Role, is_text, is_value, sets_attribute, is_idle, role_of, role_before, role_after, pieces_by, bare, joins_next, whole_content, whole_units, live_lent, is_nested, plain_value, ShowsPlain}
 use Rattle.yd_view.proofs.ShownLemmas.{partners_join}
 
 -- ---- origins do not count

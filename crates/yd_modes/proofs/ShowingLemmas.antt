@@ -1,7 +1,6 @@
 -- Showing a parent: pieces that are lent, the last unit under a key, and types inside one another.
 use Rattle.std.proofs.Common.{◌≡◌, ◌≢◌, ℕ, zero, suc, ◌+◌, ◌-◌, ◌<◌, ◌≤◌, Bool, true, false, ◌&&◌, not, List, [], ◌∷◌, ◌++◌, Some, None, map, length, take, drop, get_or, option_map, refl, sym, ap, ◌∙◌, subst, arith}
 use Rattle.std.specs.Prelude.{slice_get, if◌then◌else◌}
-use Rattle.std.proofs.lemmas.Option.{slice_get-get_or}
 use Rattle.yd_any.specs.Tree.{AnyTree, AnyTrees, no_trees, tree}
 use Rattle.yd_any.specs.AnyView.{any_trees}
 use Rattle.yd_ids.specs.declared.id.Id.{Id}
@@ -15,16 +14,15 @@ use Rattle.yd_ops.specs.Operation.{UnitContent, text_unit, any_unit, json_unit, 
 use Rattle.yd_ops.specs.View.{content_value, unit_value}
 use Rattle.yd_meaning.specs.Document.{Document}
 use Rattle.yd_state.specs.declared.listing.RunView.{RunView}
-use Rattle.yd_state.specs.Lent.{Lent, lent, lent_from, lent_units, units_of_view, IsWithin}
+use Rattle.yd_state.specs.Lent.{Lent, lent_from, lent_units, units_of_view, IsWithin}
 use Rattle.yd_doc.specs.Last.{unit_of_view}
-use Rattle.yd_doc.proofs.LastLemmas.{IsLast, last_is_lent, none_lent, view_one, unit_got}
+use Rattle.yd_doc.proofs.LastLemmas.{IsLast, last_is_lent, none_lent, unit_got}
 use Rattle.yd_shown.specs.Shown.{is_counted, last_unit, if_shown, value_under, key_list, shown_type, value_within}
 use Rattle.yd_modes.specs.declared.gathering.Gathering.{Gathering}
-use Rattle.yd_modes.specs.declared.way.Way.{Way}
-use Rattle.yd_modes.specs.declared.way.Way.TheVariants.{Delta, Values}
-use Rattle.yd_modes.specs.Roles.{role_of, is_value, bare, live_lent, are_counted, is_nested}
+use Rattle.yd_modes.specs.Roles.{Way, Delta, Values, role_of, is_value, bare, live_lent, are_counted, is_nested}
 use Rattle.yd_modes.specs.Gathering.{gathered, live, Gathers}
-use Rattle.yd_ops.proofs.OperationLemmas.{length-units_of_content}
+use Rattle.yd_modes.specs.declared.listed.Listed.{Listed}
+use Rattle.yd_modes.specs.Listed.{listed, Lists}
 
 -- ---- pieces that are lent
 
@@ -60,6 +58,10 @@ deleted_view view e =
 pub piece_gathered : (way : Way) (show : Operation → AnyTree) (a b : Gathering) (view : RunView) (old new : List Lent) → old ≡ units_of_view view ++ new →
     Gathers way show a b (live_lent (units_of_view view)) → gathered way show b (live_lent new) ≡ gathered way show a (live_lent old)
 piece_gathered way show a b view old new e gathers = gathers.pieces (live_lent new) ∙ ap (gathered way show a) (sym (ap live_lent e ∙ live-append (units_of_view view) new))
+
+pub piece_listed : (show : Operation → AnyTree) (a b : Listed) (view : RunView) (old new : List Lent) → old ≡ units_of_view view ++ new →
+    Lists show a b (live_lent (units_of_view view)) → listed show b (live_lent new) ≡ listed show a (live_lent old)
+piece_listed show a b view old new e lists = lists (live_lent new) ∙ ap (listed show a) (sym (ap live_lent e ∙ live-append (units_of_view view) new))
 
 pub nested_role : (way : Way) (kind : Kind) → role_of way (nested_type kind) ≡ is_value
 nested_role Delta kind = refl

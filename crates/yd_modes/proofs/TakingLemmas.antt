@@ -16,8 +16,7 @@ use Rattle.yd_ops.specs.View.{content_value}
 use Rattle.yd_state.specs.declared.listing.RunView.{RunView}
 use Rattle.yd_state.specs.Lent.{Lent, lent_from, units_of_view, IsWithin}
 use Rattle.yd_modes.specs.declared.gathering.Gathering.{Gathering}
-use Rattle.yd_modes.specs.declared.way.Way.{Way}
-use Rattle.yd_modes.specs.Roles.{role_of, is_idle, AreIdle, AreIdleUnits, IsOther, live_lent}
+use Rattle.yd_modes.specs.Roles.{Way, role_of, is_idle, AreIdle, AreIdleUnits, IsOther, live_lent}
 use Rattle.yd_modes.specs.Gathering.{gathered, live, IsSettled, Gathers}
 
 -- ---- one after another
@@ -50,12 +49,12 @@ pub unit_there : (us : List UnitContent) (offset len i : ℕ) (d : UnitContent) 
     slice_get us (offset + i) ≡ Some (get_or (drop offset us) i d)
 unit_there us offset len i d within less = slice_get-get_or us (offset + i) d (omega arith) ∙ ap (λ x. Some x) (sym (get_or-drop offset us i d))
 
--- one more of a part
-pub gathers_more : (way : Way) (show : Operation → AnyTree) (a b c : Gathering) (id : Id) (us : List UnitContent) (offset len i : ℕ) (d : UnitContent) → offset + len ≤ length us → i < len →
-    Gathers way show a b (lent_from id false (take i (drop offset us))) → Gathers way show b c (live (later_id id i) (get_or (drop offset us) i d) ∷ []) →
-    Gathers way show a c (lent_from id false (take (i + 1) (drop offset us)))
-gathers_more way show a b c id us offset len i d within less first second =
-    subst (Gathers way show a c) (sym more) (gathers_both way show a b c (lent_from id false (take i xs)) (live (later_id id i) (get_or xs i d) ∷ []) first second)
+-- one more of a part, behind the others
+pub from_more : (id : Id) (us : List UnitContent) (offset len i : ℕ) (d : UnitContent) → offset + len ≤ length us → i < len →
+    lent_from id false (take (i + 1) (drop offset us)) ≡ lent_from id false (take i (drop offset us)) ++ live (later_id id i) (get_or (drop offset us) i d) ∷ []
+from_more id us offset len i d within less =
+    ap (lent_from id false) (take_more xs i d inside) ∙ from-append id (take i xs) (get_or xs i d ∷ [])
+    ∙ ap (λ n. lent_from id false (take i xs) ++ live (later_id id n) (get_or xs i d) ∷ []) many
   where
     xs : List UnitContent
     xs = drop offset us
@@ -66,9 +65,12 @@ gathers_more way show a b c id us offset len i d within less first second =
     many : length (take i xs) ≡ i
     many = length-take-le i xs (omega (arith, inside))
 
-    more : lent_from id false (take (i + 1) xs) ≡ lent_from id false (take i xs) ++ live (later_id id i) (get_or xs i d) ∷ []
-    more = ap (lent_from id false) (take_more xs i d inside) ∙ from-append id (take i xs) (get_or xs i d ∷ [])
-        ∙ ap (λ n. lent_from id false (take i xs) ++ live (later_id id n) (get_or xs i d) ∷ []) many
+pub gathers_more : (way : Way) (show : Operation → AnyTree) (a b c : Gathering) (id : Id) (us : List UnitContent) (offset len i : ℕ) (d : UnitContent) → offset + len ≤ length us → i < len →
+    Gathers way show a b (lent_from id false (take i (drop offset us))) → Gathers way show b c (live (later_id id i) (get_or (drop offset us) i d) ∷ []) →
+    Gathers way show a c (lent_from id false (take (i + 1) (drop offset us)))
+gathers_more way show a b c id us offset len i d within less first second =
+    subst (Gathers way show a c) (sym (from_more id us offset len i d within less))
+    (gathers_both way show a b c (lent_from id false (take i (drop offset us))) (live (later_id id i) (get_or (drop offset us) i d) ∷ []) first second)
 
 -- ---- units that do nothing
 

@@ -1,5 +1,5 @@
 -- What is gathered of a list so far, and the pieces that it makes with what comes.
-use Rattle.std.specs.Prelude.{◌≡◌, ◌⊎◌, ℕ, false, List, [], ◌∷◌, ◌++◌, Option, Some, None, map}
+use Rattle.std.specs.Prelude.{◌≡◌, ◌⊎◌, ℕ, Bool, false, List, [], ◌∷◌, ◌++◌, Option, Some, None, map}
 use Rattle.yd_units.specs.Text.{text_of}
 use Rattle.yd_any.specs.Tree.{AnyTree, AnyTrees, AnyFields, str, no_trees, tree}
 use Rattle.yd_ids.specs.declared.id.Id.{Id}
@@ -8,13 +8,11 @@ use Rattle.yd_state.specs.Lent.{Lent}
 use Rattle.yd_value.specs.View.{shown_tree, shown_fields}
 use Rattle.yd_shown.specs.Pieces.{Piece, unit_before, value_of_piece, attributes_of_piece, with_attributes}
 use Rattle.yd_view.specs.declared.halves.Seen.{Seen}
-use Rattle.yd_view.specs.declared.halves.Halves.{Halves}
 use Rattle.yd_modes.specs.declared.gathering.Gathering.{Gathering}
 use Rattle.yd_modes.specs.declared.piece.Piece.{Piece as MadePiece}
-use Rattle.yd_modes.specs.declared.way.Way.{Way}
+use Rattle.yd_modes.specs.Roles.{Way, pieces_by, joins_last, whole_units}
 use Rattle.yd_view.specs.Halves.{shown_last}
 use Rattle.yd_modes.specs.Marks.{marks_fields}
-use Rattle.yd_modes.specs.Roles.{pieces_by, joins_last, whole_units}
 
 -- ---- pieces as they are told
 
@@ -37,16 +35,15 @@ units_before (unit ∷ units) attributes ps = unit_before unit attributes (units
 
 -- ---- what is gathered
 
--- the unit that came last, where it is text, as it is shown before what comes
-abbrev pub last_shown : Halves → List Lent → List ℕ
-last_shown halves us = shown_last halves.joined halves.last (joins_last halves.last us) []
+-- pieces, and behind them those of an open text with its last unit and of the units that come
+abbrev pub parts : Way → (Operation → AnyTree) → List Told → List ℕ → Bool → Option Seen → AnyFields → AnyFields → List Lent → List Told
+parts way show pieces text joined last under marks us =
+    pieces ++ map told (units_before (text ++ shown_last joined last (joins_last last us) []) under (pieces_by way show marks (whole_units (joins_last last us) us)))
 
 -- the pieces of what is gathered and of the units that come
 abbrev pub gathered : Way → (Operation → AnyTree) → Gathering → List Lent → List Told
 gathered way show g us =
-    map made g.pieces.items
-    ++ map told (units_before (g.halves.shown.items ++ last_shown g.halves us) (marks_fields g.under.items)
-    (pieces_by way show (marks_fields g.marks.items) (whole_units (joins_last g.halves.last us) us)))
+    parts way show (map made g.pieces.items) g.halves.shown.items g.halves.joined g.halves.last (marks_fields g.under.items) (marks_fields g.marks.items) us
 
 -- no text unit came last
 abbrev pub IsSilent : Option Seen → Type 0

@@ -1,23 +1,24 @@
 -- What live units give of a delta and of a list, one after another: in one way of words for both (own).
-use Rattle.std.specs.Prelude.{◌≡◌, ℕ, Bool, get_or, true, false, ◌&&◌, ◌||◌, not, List, [], ◌∷◌, Option, Some, None, if◌then◌else◌}
+use Rattle.std.specs.Prelude.{◌≡◌, ℕ, Bool, true, false, ◌&&◌, ◌||◌, not, List, [], ◌∷◌, Option, Some, None, if◌then◌else◌}
 use Rattle.yd_words.specs.Each.{Each}
 use Rattle.yd_any.specs.Tree.{AnyTree, AnyFields, undefined, no_fields, field}
 use Rattle.yd_ids.specs.declared.id.Id.{Id}
 use Rattle.yd_ops.specs.declared.contents.Content.{Content}
 use Rattle.yd_ops.specs.declared.contents.Content.TheVariants.{Json, Binary, Str, Embed, Format, Nested, Any, Deleted}
-use Rattle.yd_ops.specs.Operation.{UnitContent, text_unit, any_unit, json_unit, bytes, embedded, mark, nested_type, deleted_unit, gone_unit, Operation, units_of_content}
-use Rattle.yd_ops.specs.View.{content_value}
-use Rattle.yd_state.specs.declared.listing.RunView.{RunView}
+use Rattle.yd_ops.specs.Operation.{UnitContent, text_unit, any_unit, json_unit, bytes, embedded, mark, nested_type, deleted_unit, gone_unit, Operation}
 use Rattle.yd_ops.specs.Pairs.{is_high, is_low}
 use Rattle.yd_state.specs.Lent.{Lent}
 use Rattle.yd_shown.specs.Pieces.{Piece, value_piece, with_attribute, unit_before}
 use Rattle.yd_shown.specs.Shown.{value_of_content}
-use Rattle.yd_modes.specs.declared.way.Way.{Way}
-use Rattle.yd_modes.specs.declared.way.Way.TheVariants.{Delta, Values}
 use Rattle.yd_view.specs.declared.halves.Seen.{Seen}
 use Rattle.yd_view.specs.Halves.{joins, seen_of}
 
 -- ---- roles
+
+-- in which way units are gathered: as a delta, text, embeds and types under the attributes that marks set, or as a list, text and all values
+pub data Way : Type 0 where
+  Delta : Way
+  Values : Way
 
 -- what a unit does among others: it is text, or a value, or sets an attribute, or does nothing
 pub data Role : Type 0 where

@@ -6,11 +6,9 @@ ghost use Rattle.yd_any.specs.JsonView.{json_tree};
 ghost use Rattle.yd_ops.specs.Operation.{UnitContent, text_unit, mark as mark_unit, Operation};
 ghost use Rattle.yd_state.specs.Lent.{Lent};
 ghost use Rattle.yd_value.specs.View.{shown_tree};
-ghost use Rattle.yd_modes.specs.declared.way.Way.{Way as Ways};
-ghost use Rattle.yd_modes.specs.declared.way.Way.TheVariants.{Delta};
+ghost use Rattle.yd_modes.specs.Roles.{Way, Delta, role_of, is_value, pieces_by, bare, whole_units, AreIdle};
 ghost use Rattle.yd_modes.specs.Marks.{marks_fields};
-ghost use Rattle.yd_modes.specs.Roles.{role_of, is_value, pieces_by, bare, whole_units, AreIdle};
-ghost use Rattle.yd_modes.specs.Gathering.{told, made, gathered, live, IsSettled, IsSilent, Gathers, Closes, Flushes};
+ghost use Rattle.yd_modes.specs.Gathering.{told, made, gathered, live, IsSettled, Gathers, Closes, Flushes};
 
 use crate::fault::NoMemory;
 use crate::marks::{Mark, are_same, copy_marks, fields_of, set_mark};
@@ -40,7 +38,7 @@ pub struct Gathering<'a> {
 impl<'a> Gathering<'a> {
     /// No unit came yet.
     pub fn new(alloc: Global) -> Gathering<'a>
-        ensures pieces { (way : Ways) (show : Operation → AnyTree) (us : List Lent)
+        ensures pieces { (way : Way) (show : Operation → AnyTree) (us : List Lent)
             → gathered way show result us
             ≡ map told (pieces_by way show no_fields (whole_units false us)) }
         ensures settled { IsSettled result }
@@ -61,7 +59,7 @@ impl<'a> Gathering<'a> {
     /// it is a piece, where its attributes are others.
     pub fn open(&mut self, alloc: Global) -> Result<(), NoMemory>
         requires { IsSettled self.old }
-        ensures pieces { OnOk result ((way : Ways) (show : Operation → AnyTree)
+        ensures pieces { OnOk result ((way : Way) (show : Operation → AnyTree)
             (id : Id) (unit : ℕ) (us : List Lent)
             → gathered way show self.new (live id (text_unit unit) ∷ us)
             ≡ gathered way show self.old (live id (text_unit unit) ∷ us)) }
@@ -79,7 +77,7 @@ impl<'a> Gathering<'a> {
     /// A text unit comes under the attributes of the open text.
     pub fn take_unit(&mut self, id: Id, unit: u16) -> Result<(), NoMemory>
         requires { marks_fields self.old.under.items ≡ marks_fields self.old.marks.items }
-        ensures gathers { OnOk result ((way : Ways) (show : Operation → AnyTree)
+        ensures gathers { OnOk result ((way : Way) (show : Operation → AnyTree)
             → Gathers way show self.old self.new (live id (text_unit unit) ∷ [])) }
         ensures open { OnOk result
             (marks_fields self.new.under.items ≡ marks_fields self.new.marks.items) }
@@ -93,7 +91,7 @@ impl<'a> Gathering<'a> {
 
     /// Units come that give nothing. One of them stands for all.
     pub fn take_idle(&mut self, id: Id) -> Result<(), NoMemory>
-        ensures { OnOk result ((way : Ways) (show : Operation → AnyTree) (came : List Lent)
+        ensures { OnOk result ((way : Way) (show : Operation → AnyTree) (came : List Lent)
             → 0 < length came → AreIdle way came → Gathers way show self.old self.new came) }
     {
         self.flush(id)
@@ -111,7 +109,7 @@ impl<'a> Gathering<'a> {
 
     /// A value comes.
     pub fn take_value(&mut self, alloc: Global, id: Id, value: Shown) -> Result<(), NoMemory>
-        ensures { OnOk result ((way : Ways) (show : Operation → AnyTree) (content : UnitContent)
+        ensures { OnOk result ((way : Way) (show : Operation → AnyTree) (content : UnitContent)
             → role_of way content ≡ is_value → shown_tree value ≡ show (bare id content)
             → Gathers way show self.old self.new (live id content ∷ [])) }
     {
@@ -127,7 +125,7 @@ impl<'a> Gathering<'a> {
 
     /// The pieces, where no more units come.
     pub fn finish(mut self, alloc: Global) -> Result<Vec<Piece>, NoMemory>
-        ensures { IfOk result (λ pieces. (way : Ways) (show : Operation → AnyTree)
+        ensures { IfOk result (λ pieces. (way : Way) (show : Operation → AnyTree)
             → map made pieces.items ≡ gathered way show self.entry []) }
     {
         self.flush(Id {

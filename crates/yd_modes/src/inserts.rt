@@ -1,10 +1,10 @@
-//! What pieces make: a delta, or a list.
+//! What pieces make, which is a delta, and how a map grows by a key.
 
 ghost use Rattle.std.specs.Prelude.{◌≡◌, IfOk, OnOk, map, option_map};
 ghost use Rattle.yd_any.specs.Tree.{AnyFields, list};
 ghost use Rattle.yd_shown.specs.Shown.{field_before};
 ghost use Rattle.yd_value.specs.View.{shown_fields, shown_tree};
-ghost use Rattle.yd_modes.specs.Gathering.{made, told_insert, told_inserts, told_values};
+ghost use Rattle.yd_modes.specs.Gathering.{made, told_insert, told_inserts};
 ghost use Rattle.yd_modes.specs.Roles.{joined_fields};
 
 use crate::fault::NoMemory;
@@ -27,20 +27,6 @@ pub fn delta_of(alloc: Global, pieces: Vec<Piece>) -> Result<Shown, NoMemory>
         inserts.push(insert)?;
     }
     Ok(Shown::List(inserts))
-}
-
-/// The list of pieces: the text or the value of each.
-pub fn list_of(alloc: Global, pieces: Vec<Piece>) -> Result<Shown, NoMemory>
-    ensures { IfOk result (λ shown. shown_tree shown
-        ≡ list (told_values (map made pieces.items))) }
-{
-    // As many pieces come as there are.
-    let _count = pieces.as_slice().len();
-    let mut values = ShownList::new(alloc);
-    for piece in pieces {
-        values.push(piece.insert)?;
-    }
-    Ok(Shown::List(values))
 }
 
 /// A piece as an object.

@@ -2,9 +2,9 @@
 //! it.
 //!
 //! [`show`] answers one value, just as `yd_shown` defines it of the replica's own document. Units
-//! are gathered into pieces in one pass over each list, with U+FFFD for a half whose partner is not
-//! beside it. Types inside one another are shown to a depth of 100, and no call nests deeper. Nothing
-//! is changed, and where a call finds no memory there is no value.
+//! are gathered in one pass over each list, with U+FFFD for a half whose partner is not beside it.
+//! Types inside one another are shown to a depth of 100, and no call nests deeper. Nothing is
+//! changed, and where a call finds no memory there is no value.
 //!
 //! ```rust
 //! let value = show(alloc, &replica, &Parent::Root(name), Mode::Delta)?;
@@ -15,6 +15,7 @@
 mod fault;
 mod gathering;
 mod inserts;
+mod listed;
 mod lists;
 mod marks;
 mod mode;
@@ -25,7 +26,7 @@ mod plain;
 mod showing;
 mod taking;
 mod texts;
-mod way;
+mod values;
 
 pub use fault::NoMemory;
 pub use mode::Mode;

@@ -5,17 +5,18 @@ ghost use Rattle.yd_any.specs.Tree.{no_fields};
 ghost use Rattle.yd_doc.specs.Kept.{own_document};
 ghost use Rattle.yd_shown.specs.Pieces.{delta_pieces};
 ghost use Rattle.yd_shown.specs.Seen.{seen_units};
-ghost use Rattle.yd_shown.specs.Shown.{most_types as types_shown, shown, value_within};
+ghost use Rattle.yd_shown.specs.Shown.{most_types as types_shown, shown, shown_tree as tree_shown, value_within};
 ghost use Rattle.yd_value.specs.View.{shown_tree};
 ghost use Rattle.yd_modes.specs.Gathering.{made, told};
 ghost use Rattle.yd_modes.specs.Modes.{mode_of};
 
 use crate::fault::NoMemory;
 use crate::mode::Mode;
-use crate::nesting::{gather, show_map, show_pieces, show_text};
+use crate::nesting::{
+    gather, gather_values, show_delta, show_keys, show_list, show_map, show_text,
+};
 use crate::objects::tree_of;
 use crate::piece::Piece;
-use crate::way::Way;
 use std::alloc::Global;
 use yd_doc::Replica;
 use yd_ops::{List, Parent};
@@ -39,15 +40,28 @@ pub fn show(
     let most = most_types();
     match mode {
         Mode::Text => show_text(alloc, replica, parent),
-        Mode::Delta => show_pieces(alloc, replica, parent, Way::Delta, most),
-        Mode::Array => show_pieces(alloc, replica, parent, Way::Values, most),
+        Mode::Delta => show_delta(alloc, replica, parent, most),
+        Mode::Array => show_list(alloc, replica, parent, most),
         Mode::Map => Ok(Shown::Fields(show_map(alloc, replica, parent, most)?)),
-        Mode::Tree => {
-            let attributes = show_map(alloc, replica, parent, most)?;
-            let children = show_pieces(alloc, replica, parent, Way::Values, most)?;
-            tree_of(alloc, attributes, children)
-        }
+        Mode::Tree => show_tree(alloc, replica, parent, most),
     }
+}
+
+/// The tree of a parent: its map and its list, which are found together.
+fn show_tree(
+    alloc: Global,
+    replica: &Replica,
+    parent: &Parent,
+    most: u64,
+) -> Result<Shown, NoMemory>
+    ensures { IfOk result (λ value. shown_tree value
+        ≡ tree_shown (value_within most (own_document replica.now)) (own_document replica.now)
+        parent.now no_fields) }
+{
+    let lists = replica.lists_of(alloc, parent)?;
+    let attributes = show_keys(alloc, replica, parent, lists.keys, most)?;
+    let children = gather_values(alloc, replica, lists.own, most)?;
+    tree_of(alloc, attributes, Shown::List(children))
 }
 
 /// The pieces of a list as a delta: text, embeds and types, each under the attributes that the
@@ -59,7 +73,7 @@ pub fn delta(alloc: Global, replica: &Replica, list: &List) -> Result<Vec<Piece>
         (seen_units (own_document replica.now) list.now))) }
 {
     let most = most_types();
-    let pieces = gather(alloc, replica, list, Way::Delta, most)?;
+    let pieces = gather(alloc, replica, list, most)?;
     Ok(pieces)
 }
 

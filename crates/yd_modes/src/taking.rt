@@ -2,23 +2,20 @@
 
 ghost use Rattle.std.specs.Prelude.{◌≡◌, ◌≢◌, ◌∷◌, [], ℕ, Some, slice_get, ◌+◌, ◌<◌, ◌≤◌, true, false, length, map, take, drop, OnOk};
 ghost use Rattle.yd_any.specs.Tree.{AnyTree};
-ghost use Rattle.yd_any.specs.JsonView.{json_tree};
 ghost use Rattle.yd_ids.specs.Id.{IsClock};
 ghost use Rattle.yd_ops.specs.declared.kinds.Kind.{Kind};
 ghost use Rattle.yd_ops.specs.declared.contents.Content.TheVariants.{Nested};
-ghost use Rattle.yd_ops.specs.Operation.{text_unit, mark as mark_unit, units_of_content, Operation};
+ghost use Rattle.yd_ops.specs.Operation.{text_unit, units_of_content, Operation};
 ghost use Rattle.yd_ops.specs.View.{content_value};
 ghost use Rattle.yd_state.specs.Lent.{lent_from, units_of_view, IsWithin};
-ghost use Rattle.yd_modes.specs.declared.way.Way.{Way as Ways};
+ghost use Rattle.yd_modes.specs.Roles.{Way, Delta, ShowsPlain, ArePlainValues, IsOther, are_values};
 ghost use Rattle.yd_modes.specs.Marks.{marks_fields};
-ghost use Rattle.yd_modes.specs.Roles.{ShowsPlain, ArePlainValues, IsOther, are_listed, are_values};
 ghost use Rattle.yd_modes.specs.Gathering.{live, IsSettled, Gathers};
 
 use crate::fault::NoMemory;
 use crate::gathering::Gathering;
 use crate::marks::Mark;
 use crate::plain::plain_at;
-use crate::way::Way;
 use std::alloc::Global;
 use yd_doc::RunView;
 use yd_ids::Id;
@@ -29,7 +26,6 @@ use yd_units::Units;
 pub fn take_piece<'a>(
     alloc: Global,
     gathering: &mut Gathering<'a>,
-    way: Way,
     piece: &RunView<'a>,
 ) -> Result<(), NoMemory>
     requires some { 0 < piece.now.len }
@@ -38,14 +34,12 @@ pub fn take_piece<'a>(
     requires plain { (kind : Kind) → piece.now.content.now ≢ Nested kind }
     requires settled { IsSettled gathering.old }
     ensures { OnOk result ((show : Operation → AnyTree) → ShowsPlain show
-        → Gathers way show gathering.old gathering.new (units_of_view piece.now)) }
+        → Gathers Delta show gathering.old gathering.new (units_of_view piece.now)) }
 {
     match piece.content {
         Content::Str(units) => take_text(alloc, gathering, piece, units),
-        Content::Format { key, value } => {
-            take_format(gathering, way, piece.id, Mark { key, value })
-        }
-        _ => take_others(alloc, gathering, way, piece),
+        Content::Format { key, value } => gathering.take_mark(piece.id, Mark { key, value }),
+        _ => take_others(alloc, gathering, piece),
     }
 }
 
@@ -60,7 +54,7 @@ fn take_text<'a>(
     requires within { piece.now.offset + piece.now.len ≤ length units.now }
     requires ids { IsClock (piece.now.id.clock + piece.now.len) }
     requires settled { IsSettled gathering.old }
-    ensures { OnOk result ((way : Ways) (show : Operation → AnyTree)
+    ensures { OnOk result ((way : Way) (show : Operation → AnyTree)
         → Gathers way show gathering.old gathering.new
         (lent_from piece.now.id false
         (take piece.now.len (drop piece.now.offset (map text_unit units.now))))) }
@@ -80,7 +74,7 @@ fn take_units(
     requires within { offset + len ≤ length units.now }
     requires ids { IsClock (id.clock + len) }
     requires open { marks_fields gathering.old.under.items ≡ marks_fields gathering.old.marks.items }
-    ensures { OnOk result ((way : Ways) (show : Operation → AnyTree)
+    ensures { OnOk result ((way : Way) (show : Operation → AnyTree)
         → Gathers way show gathering.old gathering.new
         (lent_from id false (take len (drop offset (map text_unit units.now))))) }
 {
@@ -104,7 +98,7 @@ fn take_unit_at(
     at: u64,
 ) -> Result<(), NoMemory>
     requires { marks_fields gathering.old.under.items ≡ marks_fields gathering.old.marks.items }
-    ensures gathers { OnOk result ((way : Ways) (show : Operation → AnyTree) (unit : ℕ)
+    ensures gathers { OnOk result ((way : Way) (show : Operation → AnyTree) (unit : ℕ)
         → slice_get units.now at ≡ Some unit
         → Gathers way show gathering.old gathering.new (live id (text_unit unit) ∷ [])) }
     ensures open { OnOk result (marks_fields gathering.new.under.items
@@ -116,28 +110,10 @@ fn take_unit_at(
     }
 }
 
-/// Takes a live mark: it sets an attribute of a delta, and nothing of a list.
-fn take_format<'a>(
-    gathering: &mut Gathering<'a>,
-    way: Way,
-    id: Id,
-    mark: Mark<'a>,
-) -> Result<(), NoMemory>
-    ensures { OnOk result ((show : Operation → AnyTree)
-        → Gathers way show gathering.old gathering.new
-        (live id (mark_unit mark.entry.key.now (json_tree mark.entry.value.now)) ∷ [])) }
-{
-    match way {
-        Way::Delta => gathering.take_mark(id, mark),
-        Way::Values => gathering.take_idle(id),
-    }
-}
-
 /// Takes live units that are no text, no mark and no type: each is a value, or none is.
 fn take_others(
     alloc: Global,
     gathering: &mut Gathering<'_>,
-    way: Way,
     piece: &RunView<'_>,
 ) -> Result<(), NoMemory>
     requires some { 0 < piece.now.len }
@@ -146,37 +122,21 @@ fn take_others(
     requires settled { IsSettled gathering.old }
     requires other { IsOther piece.now.content.now }
     ensures { OnOk result ((show : Operation → AnyTree) → ShowsPlain show
-        → Gathers way show gathering.old gathering.new (units_of_view piece.now)) }
+        → Gathers Delta show gathering.old gathering.new (units_of_view piece.now)) }
 {
-    if gives_values(way, piece.content) {
+    if gives_values(piece.content) {
         return take_values(alloc, gathering, piece);
     }
     gathering.take_idle(piece.id)
 }
 
-/// Whether the units of a content that are no text, no marks and no types are values.
-fn gives_values(way: Way, content: &Content) -> bool
-    ensures { result ≡ are_values way content.now }
+/// Whether the units of a content that are no text, no marks and no types are values of a delta.
+fn gives_values(content: &Content) -> bool
+    ensures { result ≡ are_values Delta content.now }
 {
     match content {
-        Content::Any(_) => is_list(way),
-        Content::Json(_) => is_list(way),
-        Content::Binary(_) => is_list(way),
         Content::Embed(_) => true,
-        Content::Str(_) => false,
-        Content::Format { .. } => false,
-        Content::Nested(_) => false,
-        Content::Deleted(_) => false,
-    }
-}
-
-/// Whether the units are gathered as a list.
-fn is_list(way: Way) -> bool
-    ensures { result ≡ are_listed way }
-{
-    match way {
-        Way::Delta => false,
-        Way::Values => true,
+        _ => false,
     }
 }
 
@@ -188,7 +148,7 @@ fn take_values(
 ) -> Result<(), NoMemory>
     requires within { IsWithin piece.now }
     requires settled { IsSettled gathering.old }
-    ensures { OnOk result ((way : Ways) (show : Operation → AnyTree) → ShowsPlain show
+    ensures { OnOk result ((way : Way) (show : Operation → AnyTree) → ShowsPlain show
         → ArePlainValues way (units_of_content (content_value piece.now.content.now))
         → Gathers way show gathering.old gathering.new (lent_from piece.now.id false
         (take piece.now.len (drop piece.now.offset

@@ -4,8 +4,7 @@ use Rattle.yd_doc.specs.Kept.{own_document}
 use Rattle.yd_shown.specs.Seen.{seen_units}
 use Rattle.yd_shown.specs.Shown.{most_types, value_within}
 use Rattle.yd_modes.specs.Gathering.{told}
-use Rattle.yd_modes.specs.Roles.{pieces_by}
-use Rattle.yd_modes.specs.declared.way.Way.TheVariants.{Delta}
+use Rattle.yd_modes.specs.Roles.{pieces_by, Delta}
 use Rattle.yd_modes.proofs.RoleLemmas.{by_delta}
 use Rattle.yd_modes.proofs.showing.delta.Goals as goal
 

@@ -5,6 +5,7 @@ use Rattle.yd_ops.specs.Value.{len_of}
 use Rattle.yd_ops.specs.Operation.{mark}
 use Rattle.yd_ops.specs.View.{content_value}
 use Rattle.yd_ops.specs.declared.contents.Content.TheVariants.{Str, Format}
+use Rattle.yd_modes.specs.Roles.{Delta}
 use Rattle.yd_modes.specs.Gathering.{Gathers}
 use Rattle.yd_modes.proofs.TakingLemmas.{view_is, one_view, is_other}
 use Rattle.yd_modes.proofs.taking.take_piece.Goals as goal
@@ -14,15 +15,15 @@ take_text-requires-clause-within c = subst (λ v. c.args.piece.now.offset + c.ar
 
 pub returns-in-Str : goal.returns-in-Str
 returns-in-Str c = on_ok_weaker c.take_text.result (λ gathers show plain.
-    subst (λ us. Gathers c.args.way show c.args.gathering.now c.take_text.new.gathering us) (sym (view_is c.args.piece.now (Str c.in-Str.units) c.requires.live c.in-Str.is))
-    (gathers c.args.way show)) c.take_text.ensures
+    subst (λ us. Gathers Delta show c.args.gathering.now c.take_text.new.gathering us) (sym (view_is c.args.piece.now (Str c.in-Str.units) c.requires.live c.in-Str.is))
+    (gathers Delta show)) c.take_text.ensures
 
 pub returns-in-Format : goal.returns-in-Format
-returns-in-Format c = on_ok_weaker c.take_format.result (λ gathers show plain.
+returns-in-Format c = on_ok_weaker c.take_mark.result (λ gathers show plain.
     let within = subst (λ v. c.args.piece.now.offset + c.args.piece.now.len ≤ len_of (content_value v)) c.in-Format.is c.requires.within.units in
-    subst (λ us. Gathers c.args.way show c.args.gathering.now c.take_format.new.gathering us)
+    subst (λ us. Gathers Delta show c.args.gathering.now c.take_mark.new.self us)
     (sym (one_view c.args.piece.now (Format c.in-Format.key c.in-Format.value) (mark c.in-Format.key (json_tree c.in-Format.value)) c.requires.live c.in-Format.is refl c.requires.some within))
-    (gathers show)) c.take_format.ensures
+    (gathers show)) c.take_mark.ensures
 
 pub take_others-requires-clause-other : goal.take_others-requires-clause-other
 take_others-requires-clause-other c = is_other c.args.piece.now.content.now c.in_default.not-Str c.in_default.not-Format c.requires.plain

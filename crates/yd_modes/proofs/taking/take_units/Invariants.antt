@@ -2,7 +2,7 @@ use Rattle.std.proofs.Common.{◌≡◌, false, map, take, drop}
 use Rattle.yd_any.specs.Tree.{AnyTree}
 use Rattle.yd_ops.specs.Operation.{text_unit, Operation}
 use Rattle.yd_state.specs.Lent.{lent_from}
-use Rattle.yd_modes.specs.declared.way.Way.{Way}
+use Rattle.yd_modes.specs.Roles.{Way}
 use Rattle.yd_modes.specs.Marks.{marks_fields}
 use Rattle.yd_modes.specs.Gathering.{Gathers}
 use Rattle.yd_modes.proofs.taking.take_units.Given as goal

@@ -3,8 +3,7 @@ use Rattle.yd_any.specs.Tree.{AnyTree}
 use Rattle.yd_ops.specs.Operation.{Operation, units_of_content}
 use Rattle.yd_ops.specs.View.{content_value}
 use Rattle.yd_state.specs.Lent.{lent_from}
-use Rattle.yd_modes.specs.declared.way.Way.{Way}
-use Rattle.yd_modes.specs.Roles.{ShowsPlain, ArePlainValues}
+use Rattle.yd_modes.specs.Roles.{Way, ShowsPlain, ArePlainValues}
 use Rattle.yd_modes.specs.Gathering.{Gathers}
 use Rattle.yd_modes.proofs.taking.take_values.Given as goal
 
