@@ -54,10 +54,12 @@ pub record AreFiled (links : List Link) (ends : List Ends) : Type 0 where
   pub filed : (i k : ℕ) → chain_of links i ≡ Some k → (k < length ends) × IsIn i (places_of links (ends_at ends k))
   pub loose : (i : ℕ) → chain_of links i ≡ None → (prev_of links i ≡ None) × (next_of links i ≡ None)
 
--- the links are chains of places, and each place names its own
-pub record AreLinked (links : List Link) (ends : List Ends) : Type 0 where
+-- the links are chains of places, each place names its own, and there are at most so many places and so many chains
+pub record AreLinked (links : List Link) (ends : List Ends) (most : ℕ) : Type 0 where
   pub chains : AreChains links ends
   pub filed : AreFiled links ends
+  pub few_places : length links ≤ most
+  pub few_chains : length ends ≤ most
 
 -- what a contract sees: how many places there are, and the places of each chain in order
 pub record Chained : Type 0 where

@@ -6,7 +6,8 @@ ghost use Rattle.yd_words.specs.Member.{IsIn};
 ghost use Rattle.yd_chains.specs.Chain.{first_of, last_of, behind, before, put_behind, without};
 
 use crate::linked::{chain_in, insert_in, next_in, prev_in, remove_in};
-use crate::links::{Ends, Link};
+use crate::links::{Ends, Link, no_ends, no_link};
+use crate::named::MOST;
 use std::alloc::{AllocError, Global};
 use std::marker::Model;
 
@@ -22,6 +23,7 @@ pub struct Chains {
 
 impl Model for Chains {
     ghost use Rattle.std.specs.Prelude.{length, map};
+    ghost use Rattle.yd_chains.specs.declared.named.TheConstants.{MOST};
     ghost use Rattle.yd_chains.specs.Link.{Chained, places_of, AreLinked};
 
     ghost Value = { Chained };
@@ -31,7 +33,7 @@ impl Model for Chains {
       chains = map (places_of it.links.items) it.ends.items;
     } };
 
-    ghost invariant = { λ it. AreLinked it.links.items it.ends.items };
+    ghost invariant = { λ it. AreLinked it.links.items it.ends.items MOST };
 }
 
 impl Chains {
@@ -66,7 +68,8 @@ impl Chains {
         chain_in(&self.links, &self.ends, place)
     }
 
-    /// One place more, in no chain. Its number is how many there were before.
+    /// One place more, in no chain. Its number is how many there were before. It finds no memory where
+    /// there are 2^32 - 1 places, which with their runs would take more than a terabyte.
     pub fn add_place(&mut self) -> Result<usize, AllocError>
         ensures place { IfOk result (λ place. place ≡ self.old.count) }
         ensures count { OnOk result (self.new.count ≡ self.old.count + 1) }
@@ -74,15 +77,15 @@ impl Chains {
         ensures chains { self.new.chains ≡ self.old.chains }
     {
         let place = self.links.len();
-        self.links.push(Link {
-            chain: None,
-            prev: None,
-            next: None,
-        })?;
+        if place >= MOST {
+            return Err(AllocError);
+        }
+        self.links.push(no_link())?;
         Ok(place)
     }
 
-    /// One chain more, which is empty. Its number is how many there were before.
+    /// One chain more, which is empty. Its number is how many there were before. It finds no memory
+    /// where there are 2^32 - 1 chains.
     pub fn add_chain(&mut self) -> Result<usize, AllocError>
         ensures chain { IfOk result (λ chain. chain ≡ length self.old.chains) }
         ensures chains { OnOk result (self.new.chains ≡ self.old.chains ++ [] ∷ []) }
@@ -90,11 +93,19 @@ impl Chains {
         ensures count { self.new.count ≡ self.old.count }
     {
         let chain = self.ends.len();
-        self.ends.push(Ends {
-            first: None,
-            last: None,
-        })?;
+        if chain >= MOST {
+            return Err(AllocError);
+        }
+        self.ends.push(no_ends())?;
         Ok(chain)
+    }
+
+    /// Takes memory ahead for so many places more. All places and chains stay, also where it finds none.
+    pub fn reserve(&mut self, more: usize) -> Result<(), AllocError>
+        ensures { self.new ≡ self.old }
+    {
+        self.links.reserve(more)?;
+        Ok(())
     }
 
     /// The first place of a chain, or None where it is empty.
@@ -103,7 +114,7 @@ impl Chains {
         ensures value { result ≡ first_of (chain_at self.now chain) }
         ensures sound { AreSound self.now }
     {
-        self.ends[chain].first
+        self.ends[chain].first.get()
     }
 
     /// The last place of a chain, or None where it is empty.
@@ -111,7 +122,7 @@ impl Chains {
         requires { chain < length self.now.chains }
         ensures { result ≡ last_of (chain_at self.now chain) }
     {
-        self.ends[chain].last
+        self.ends[chain].last.get()
     }
 
     /// The place behind another in its chain. None is at the end, and behind a place in no chain.

@@ -17,5 +17,6 @@ mod chains;
 mod linked;
 mod linking;
 mod links;
+mod named;
 
 pub use chains::Chains;

@@ -1,25 +1,28 @@
 //! Chains over links: their neighbours, and their changes.
 
-ghost use Rattle.std.specs.Prelude.{◌≡◌, ◌≢◌, ◌<◌, ℕ, None, Some, length, IfSome};
+ghost use Rattle.std.specs.Prelude.{◌≡◌, ◌≢◌, ◌<◌, ◌≤◌, ℕ, None, Some, length, IfSome};
 ghost use Rattle.yd_words.specs.Member.{IsIn};
 ghost use Rattle.yd_chains.specs.Chain.{first_of, last_of, behind, before, put_behind, without};
+ghost use Rattle.yd_chains.specs.declared.named.TheConstants.{MOST};
 ghost use Rattle.yd_chains.specs.Link.{next_of, prev_of, chain_of, places_at, widened, narrowed, IsChain, AreChains, AreFiled, IsLoose, Changes};
 
 use crate::linking::{clear, link_in, link_over};
 use crate::links::{Ends, Link};
+use crate::named::Named;
 
 /// The ends of a chain that gets one place more between two neighbours.
 fn widen(ends: Ends, before: Option<usize>, behind: Option<usize>, place: usize) -> Ends
+    requires { place < MOST }
     ensures { result ≡ widened ends before behind place }
 {
     Ends {
         first: if before.is_none() {
-            Some(place)
+            Named::some(place)
         } else {
             ends.first
         },
         last: if behind.is_none() {
-            Some(place)
+            Named::some(place)
         } else {
             ends.last
         },
@@ -27,12 +30,20 @@ fn widen(ends: Ends, before: Option<usize>, behind: Option<usize>, place: usize)
 }
 
 /// The ends of a chain that loses what stands between two neighbours.
-fn narrow(ends: Ends, before: Option<usize>, behind: Option<usize>) -> Ends
+fn narrow(ends: Ends, before: Named, behind: Named) -> Ends
     ensures { result ≡ narrowed ends before behind }
 {
     Ends {
-        first: if before.is_none() { behind } else { ends.first },
-        last: if behind.is_none() { before } else { ends.last },
+        first: if before.get().is_none() {
+            behind
+        } else {
+            ends.first
+        },
+        last: if behind.get().is_none() {
+            before
+        } else {
+            ends.last
+        },
     }
 }
 
@@ -44,7 +55,7 @@ fn next_after(links: &[Link], ends: &[Ends], chain: usize, after: Option<usize>)
     ensures { result ≡ first_of (behind after (places_at links.now ends.now chain)) }
 {
     match after {
-        None => ends[chain].first,
+        None => ends[chain].first.get(),
         Some(p) => next_of_link(links, p),
     }
 }
@@ -54,7 +65,7 @@ fn next_of_link(links: &[Link], at: usize) -> Option<usize>
     requires { at < length links.now }
     ensures { result ≡ next_of links.now at }
 {
-    links[at].next
+    links[at].next.get()
 }
 
 /// Links a loose place into a chain, behind a place of it or at the front.
@@ -71,6 +82,8 @@ pub fn insert_in(
     requires place { place < length links.old.items }
     requires loose { IsLoose links.old.items ends.old.items place }
     requires filed { AreFiled links.old.items ends.old.items }
+    requires few_places { length links.old.items ≤ MOST }
+    requires few_chains { length ends.old.items ≤ MOST }
     ensures changes { Changes links.old.items links.new.items ends.old.items ends.new.items chain
         (put_behind after place (places_at links.old.items ends.old.items chain)) }
     ensures filed { AreFiled links.new.items ends.new.items }
@@ -125,7 +138,7 @@ fn prev_of_link(links: &[Link], at: usize) -> Option<usize>
     requires { at < length links.now }
     ensures { result ≡ prev_of links.now at }
 {
-    links[at].prev
+    links[at].prev.get()
 }
 
 /// The chain that a place is in.
@@ -146,5 +159,5 @@ fn chain_of_link(links: &[Link], at: usize) -> Option<usize>
     requires { at < length links.now }
     ensures { result ≡ chain_of links.now at }
 {
-    links[at].chain
+    links[at].chain.get()
 }
