@@ -82,7 +82,7 @@ impl Kept {
         self.names.number_of(name)
     }
 
-    /// The last of a parent's lists, or the last one before another of them, as `Names::last_of`
+    /// The last of a parent's lists, or the last one before another of them, as `ItemNames::last_of`
     /// finds it.
     pub fn last_of(&self, parent: &Parent, before: Option<usize>) -> Option<usize>
         requires { IfSome before (λ n. IsOf self.now.names parent.now n) }

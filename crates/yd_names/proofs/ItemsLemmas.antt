@@ -20,10 +20,10 @@ use Rattle.yd_ops.specs.declared.lists.Parent.{Parent}
 use Rattle.yd_ops.specs.declared.lists.Parent.TheVariants.{Root, Item}
 use Rattle.yd_ops.specs.declared.lists.List.{List as DocList}
 use Rattle.yd_meaning.specs.Names.{item_of_list, item_of_parent}
-use Rattle.yd_names.specs.Coding.{code_of_list}
 use Rattle.yd_names.specs.Items.{code_of_item, HasList, HasItems, IsRising, IsAt, IsOther, IsFirstFrom, IsFirstItem, IsFirstClock, IsLookedThrough, earlier, span_behind}
-use Rattle.yd_names.specs.Names.{code_of_own, AreCoded, IsLastOf}
+use Rattle.yd_names.specs.Names.{IsLastOf}
 use Rattle.yd_names.proofs.CodesLemmas.{got_before}
+use Rattle.yd_names.proofs.NamesLemmas.{got_in_front}
 
 -- ---- names that come and go
 
@@ -35,19 +35,17 @@ pushed_items names more name old new e has kept added = subst (λ ns. HasItems n
   | inr (f, same) ↦ subst (λ z. IfSome z (λ id. new (code_of_item id))) (ap item_of_list same ∙ h.own) added
 ])
 
-pushed_codes : (f : DocList → ℕ) (names : List DocList) (name : DocList) (old new : List ℕ) (code : ℕ) → old ≡ map f names → code ≡ f name → new ≡ old ++ code ∷ [] →
+-- and those that stay are known as they were
+pub fewer_items : (names fewer : List DocList) (known : ℕ → Type 0) (len : ℕ) → fewer ≡ take len names → HasItems names known → HasItems fewer known
+fewer_items names fewer known len e has = subst (λ ns. HasItems ns known) (sym e)
+    (λ item h. has item (record { number = h.number; list = h.list; there = got_in_front len names h.number h.list h.there; own = h.own }))
+
+-- the codes of all names come and go with them
+pub pushed_codes : (f : DocList → ℕ) (names : List DocList) (name : DocList) (old new : List ℕ) (code : ℕ) → old ≡ map f names → code ≡ f name → new ≡ old ++ code ∷ [] →
     new ≡ map f (names ++ name ∷ [])
 pushed_codes f names name old new code e same more = more ∙ ap (λ cs. cs ++ code ∷ []) e ∙ ap (λ c. map f names ++ c ∷ []) same ∙ sym (map-append f names (name ∷ []))
 
-pub pushed_coded : (names : List DocList) (name : DocList) (codes more_codes parents more_parents : List ℕ) (code own : ℕ) →
-    AreCoded names codes parents → code ≡ code_of_list name → own ≡ code_of_own name → more_codes ≡ codes ++ code ∷ [] → more_parents ≡ parents ++ own ∷ [] →
-    AreCoded (names ++ name ∷ []) more_codes more_parents
-pushed_coded names name codes more_codes parents more_parents code own coded e f g h = record {
-  names_are = pushed_codes code_of_list names name codes more_codes code coded.names_are e g;
-  parents_are = pushed_codes code_of_own names name parents more_parents own coded.parents_are f h;
-}
-
-popped_codes : (f : DocList → ℕ) (names : List DocList) (old new : List ℕ) → old ≡ map f names → new ≡ take (length old - 1) old → new ≡ map f (take (length names - 1) names)
+pub popped_codes : (f : DocList → ℕ) (names : List DocList) (old new : List ℕ) → old ≡ map f names → new ≡ take (length old - 1) old → new ≡ map f (take (length names - 1) names)
 popped_codes f names old new e less = less ∙ ap (λ cs. take (length cs - 1) cs) e ∙ ap (λ n. take (n - 1) (map f names)) (length-map names f)
     ∙ take-map f (length names - 1) names
 
@@ -66,15 +64,6 @@ without_last {X = X} xs ys (Some x) e some = sym (ap (λ zs. take (length zs - 1
         go : (zs : List X) → take (length zs) (zs ++ x ∷ []) ≡ zs
         go [] = refl
         go (z ∷ zs) = ap (λ l. z ∷ l) (go zs)
-
--- what is known of names is known of those but the last
-pub popped_coded : (names fewer : List DocList) (codes less_codes parents less_parents : List ℕ) → AreCoded names codes parents →
-    fewer ≡ take (length names - 1) names → less_codes ≡ take (length codes - 1) codes → less_parents ≡ take (length parents - 1) parents →
-    AreCoded fewer less_codes less_parents
-popped_coded names fewer codes less_codes parents less_parents coded e f g = subst (λ ns. AreCoded ns less_codes less_parents) (sym e) (record {
-  names_are = popped_codes code_of_list names codes less_codes coded.names_are f;
-  parents_are = popped_codes code_of_own names parents less_parents coded.parents_are g;
-})
 
 take_less : {X : Type 0} (m n : ℕ) (xs : List X) → m ≤ n → take m (take n xs) ≡ take m xs
 take_less zero n xs le = refl

@@ -1,4 +1,4 @@
--- What contracts see of a `Names`: the names of lists, each under the number of its place (own).
+-- What contracts see of a `Names` and an `ItemNames`: the names of lists, each under the number of its place (own).
 use Rattle.std.specs.Prelude.{◌≡◌, ◌≢◌, ◌<◌, ℕ, List, Option, Some, None, length, map, slice_get}
 use Rattle.yd_ops.specs.declared.lists.List.{List as DocList}
 use Rattle.yd_ops.specs.declared.lists.Parent.{Parent}
@@ -8,10 +8,13 @@ use Rattle.yd_names.specs.Coding.{code_of_parent, code_of_list}
 abbrev pub code_of_own : DocList → ℕ
 code_of_own list = code_of_parent list.parent
 
--- the names are found by their codes, and by those of their parents
-pub record AreCoded (names : List DocList) (codes parents : List ℕ) : Type 0 where
-  pub names_are : codes ≡ map code_of_list names
-  pub parents_are : parents ≡ map code_of_own names
+-- the names are found by their codes
+abbrev pub AreCoded : List DocList → List ℕ → Type 0
+AreCoded names codes = codes ≡ map code_of_list names
+
+-- and by those of their parents
+abbrev pub AreOwned : List DocList → List ℕ → Type 0
+AreOwned names parents = parents ≡ map code_of_own names
 
 -- the list with a number is one of the parent's
 pub record IsOf (names : List DocList) (parent : Parent) (number : ℕ) : Type 0 where

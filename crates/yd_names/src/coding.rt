@@ -28,7 +28,7 @@ pub(crate) fn code_of_parent(parent: &Parent) -> u32
 }
 
 /// The code with that of a key, where there is one.
-pub(crate) fn code_with_key(code: u32, key: &Option<Text>) -> u32
+fn code_with_key(code: u32, key: &Option<Text>) -> u32
     requires { code < bound }
     ensures { result ≡ code_with_key code key.now }
 {

@@ -88,6 +88,15 @@ impl Groups {
             leave(&mut self.codes, &mut self.places.heads, number as usize);
         }
     }
+
+    /// Keeps the first codes alone, in time of what it drops.
+    pub fn truncate(&mut self, len: usize)
+        ensures { self.new ≡ take len self.old }
+    {
+        while self.numbers.len() > len {
+            self.pop();
+        }
+    }
 }
 
 /// The number of a code, which is added at the end where it is new.

@@ -13,7 +13,7 @@ loop-next-init c = subst (NameLookedFor c.self.inside.names.items c.args.name.no
   where
     found : c.last_of-next.result ≡ last_place (code_of_list c.args.name.now) (map code_of_list c.self.inside.names.items)
     found = c.last_of-next.ensures ∙ ap (λ code. last_place code c.self.inside.codes) c.code_of_list.ensures
-        ∙ ap (λ codes. last_place (code_of_list c.args.name.now) codes) c.self.invariant.names_are
+        ∙ ap (λ codes. last_place (code_of_list c.args.name.now) codes) c.self.invariant
 
 pub loop-next-preserved : goal.loop-next-preserved
 loop-next-preserved c = goes_on c.self.inside.names.items code_of_list (IsName c.args.name.now) (code_of_list c.args.name.now) (λ list e. ap code_of_list e)
@@ -21,7 +21,7 @@ loop-next-preserved c = goes_on c.self.inside.names.items code_of_list (IsName c
     (subst (NameLookedFor c.self.inside.names.items c.args.name.now) c.in-Some.is c.loop-next.invariant)
     (not_here c.self.inside.names.items c.args.name.now c.in-Some.number c.index.result.now c.index.ensures (sym c.if-is_same_list.ensures))
     (subst (λ codes. IfSome (slice_get codes c.in-Some.number) (λ code. c.before-next.result ≡ last_place code (take c.in-Some.number codes)))
-    c.self.invariant.names_are c.before-next.ensures)
+    c.self.invariant c.before-next.ensures)
 
 pub loop-next-smaller : goal.loop-next-smaller
 loop-next-smaller c = subst (λ o. bound_of c.before-next.result < bound_of o) (sym c.in-Some.is)
@@ -29,7 +29,7 @@ loop-next-smaller c = subst (λ o. bound_of c.before-next.result < bound_of o) (
     (length c.self.inside.names.items) c.in-Some.number c.before-next.result
     (subst (NameLookedFor c.self.inside.names.items c.args.name.now) c.in-Some.is c.loop-next.invariant)
     (subst (λ codes. IfSome (slice_get codes c.in-Some.number) (λ code. c.before-next.result ≡ last_place code (take c.in-Some.number codes)))
-    c.self.invariant.names_are c.before-next.ensures))
+    c.self.invariant c.before-next.ensures))
 
 pub returns-then-is_same_list-clause-there : goal.returns-then-is_same_list-clause-there
 returns-then-is_same_list-clause-there c = ap (λ names. slice_get names c.in-Some.number) (sym c.self.view_is)

@@ -1,13 +1,14 @@
-use Rattle.std.proofs.Common.{◌≡◌, ◌-◌, ◌∙◌, length, take, arith}
-use Rattle.yd_names.proofs.ItemsLemmas.{popped_coded, without_last, front_stays}
+use Rattle.std.proofs.Common.{◌≡◌, ◌-◌, ◌∙◌, length, take, sym, subst, arith}
+use Rattle.yd_names.specs.Coding.{code_of_list}
+use Rattle.yd_names.specs.Names.{AreCoded}
+use Rattle.yd_names.proofs.ItemsLemmas.{popped_codes, without_last, front_stays}
 use Rattle.yd_names.proofs.names.Names.truncate.Goals as goal
 
 pub loop-self-preserved : goal.loop-self-preserved
 loop-self-preserved c = (
   front_stays c.args.len c.loop-self.self-inside.names.items c.pop.new.self.items (omega (arith, c.len.ensures, c.loop-self-test.true)) less ∙ c.loop-self.invariant.0,
-  popped_coded c.loop-self.self-inside.names.items c.pop.new.self.items c.loop-self.self-inside.codes c.pop-in-loop-self.new.self
-      c.loop-self.self-inside.parents c.pop-in-loop-self-2.new.self
-      c.loop-self.invariant.1 less c.pop-in-loop-self.ensures c.pop-in-loop-self-2.ensures,
+  subst (λ names. AreCoded names c.pop-in-loop-self.new.self) (sym less)
+      (popped_codes code_of_list c.loop-self.self-inside.names.items c.loop-self.self-inside.codes c.pop-in-loop-self.new.self c.loop-self.invariant.1 c.pop-in-loop-self.ensures),
 )
   where
     less : c.pop.new.self.items ≡ take (length c.loop-self.self-inside.names.items - 1) c.loop-self.self-inside.names.items
