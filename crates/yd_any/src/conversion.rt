@@ -83,7 +83,7 @@ fn in_order(alloc: Global, found: BTreeMap<String, Json>) -> Result<JsonFields, 
 {
     let mut items = Vec::with_capacity(alloc, found.len())?;
     for (key, value) in found {
-        items.push((Text::of_string(key), value))?;
+        items.push((Text::of_string(key)?, value))?;
     }
     Ok(JsonFields { items })
 }

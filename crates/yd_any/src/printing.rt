@@ -22,7 +22,7 @@ pub fn text_of_json(alloc: Global, j: &Json) -> Result<Text, NoMemory>
 {
     let mut writer = Writer::new(Vec::new(alloc));
     write_json(j, &mut writer)?;
-    Ok(Text::of_bytes(writer.into_inner()))
+    Text::of_bytes(writer.into_inner())
 }
 
 /// Appends the text of an any-value, in which what JSON does not have is an object with one key.

@@ -6,19 +6,21 @@ ghost use Rattle.std.specs.Str.{IsUtf8};
 use crate::fault::NoMemory;
 use std::alloc::Global;
 use std::marker::Model;
+use std::rc::RcStr;
 
-/// UTF-8 text that owns its bytes.
+/// UTF-8 text that does not change. Copies share its bytes.
 #[derive(Debug, Drop)]
 pub struct Text {
-    text: String,
+    text: RcStr,
 }
 
 impl Model for Text {
-    ghost use Rattle.std.specs.Prelude.{List, ℕ, string_bytes};
+    ghost use Rattle.std.specs.Prelude.{List, ℕ};
+    ghost use Rattle.std.specs.Rc.{rc_str_bytes};
 
     ghost Value = { List ℕ };
 
-    ghost view = { λ t. string_bytes t.text };
+    ghost view = { λ t. rc_str_bytes t.text };
 }
 
 impl Text {
@@ -27,25 +29,25 @@ impl Text {
         ensures { IfOk result (λ t. t ≡ text.now) }
     {
         Ok(Text {
-            text: String::from_str(alloc, text)?,
+            text: RcStr::from_str(alloc, text)?,
         })
     }
 
     /// The text of a string.
-    pub(crate) fn of_string(text: String) -> Text
-        ensures { result ≡ string_bytes text }
+    pub(crate) fn of_string(text: String) -> Result<Text, NoMemory>
+        ensures { IfOk result (λ t. t ≡ string_bytes text) }
     {
-        Text { text }
+        Ok(Text {
+            text: RcStr::from_string(text)?,
+        })
     }
 
     /// The text that these bytes are.
-    pub(crate) fn of_bytes(bytes: Vec<u8>) -> Text
+    pub(crate) fn of_bytes(bytes: Vec<u8>) -> Result<Text, NoMemory>
         requires { IsUtf8 bytes.items }
-        ensures { result ≡ bytes.items }
+        ensures { IfOk result (λ t. t ≡ bytes.items) }
     {
-        Text {
-            text: String::from_utf8(bytes).unwrap(),
-        }
+        Text::of_string(String::from_utf8(bytes).unwrap())
     }
 
     /// The text as it is lent.
@@ -55,7 +57,8 @@ impl Text {
         self.text.as_str()
     }
 
-    /// The same text once more.
+    /// The same text once more. It takes no memory, and ends as without memory where a number of copies is
+    /// reached that no machine holds.
     pub fn copy(&self) -> Result<Text, NoMemory>
         ensures { IfOk result (λ t. t ≡ self.now) }
     {
