@@ -89,6 +89,16 @@ impl Received {
         *self.runs.allocator()
     }
 
+    /// Takes memory for so many runs and as many entries ahead, or finds none. It is for what comes
+    /// next: nothing changes that is told.
+    pub fn reserve(&mut self, more: usize) -> Result<(), NoMemory>
+        ensures { self.new ≡ self.old }
+    {
+        self.runs.reserve(more)?;
+        self.entries.reserve(more)?;
+        Ok(())
+    }
+
     /// Takes in the operations of an update, and answers what that did: an operation may have a new
     /// id, or say less than the one that was there. A run is kept as it is, where its units are new and
     /// go to one place; where only some of them are new, or go to many places, it is copied. For each
