@@ -121,6 +121,17 @@ impl Arena {
         self.index.reserve(client, more)
     }
 
+    /// Takes memory for so many runs ahead, of whichever clients, or finds none. It is for what comes
+    /// next: nothing changes that is told, and no room is lost. The index takes none ahead, since a long
+    /// piece of one makes cuts slow.
+    pub fn reserve_places(&mut self, more: usize) -> Result<(), AllocError>
+        ensures same { IsSame self.old self.new }
+        ensures lines { self.new.lines ≡ self.old.lines }
+        ensures kept { (client : ℕ) → room_for self.old client ≤ room_for self.new client }
+    {
+        self.lists.reserve_places(more)
+    }
+
     /// Cuts a run in two behind so many units. The second part goes behind the first in its list, if it
     /// is in one, and its place is answered.
     pub fn cut(&mut self, place: usize, n: u64) -> Result<usize, AllocError>

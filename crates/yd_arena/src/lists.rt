@@ -176,6 +176,19 @@ impl Lists {
         Ok(())
     }
 
+    /// Takes memory for so many runs ahead, or finds none. It is for what comes next: nothing changes
+    /// that is told, and no room is lost.
+    pub fn reserve_places(&mut self, more: usize) -> Result<(), AllocError>
+        ensures stretches { self.new.stretches ≡ self.old.stretches }
+        ensures lists { self.new.lists ≡ self.old.lists }
+        ensures kept { self.old.room ≤ self.new.room }
+    {
+        self.stretches.reserve(more)?;
+        self.marks.reserve(more)?;
+        self.chains.reserve(more)?;
+        Ok(())
+    }
+
     /// Adds a run to a list, behind a place of it or at the front, where there is room. Its place is
     /// answered. It takes no memory, and a few steps.
     pub fn add(&mut self, list: usize, after: Option<usize>, new: Stretch) -> usize

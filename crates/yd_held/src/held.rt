@@ -104,6 +104,15 @@ impl Held {
         self.parts.names.as_slice()
     }
 
+    /// Takes memory for so many runs and as many entries ahead, or finds none. It is for what comes
+    /// next: nothing changes that is told.
+    pub fn reserve(&mut self, more: usize) -> Result<(), NoMemory>
+        ensures { self.new ≡ self.old }
+    {
+        self.parts.received.reserve(more)?;
+        Ok(())
+    }
+
     /// Takes in the operations of an update, and holds what can be held then. What lacks something
     /// is noted by it, once for each client, and tried again as soon as that is held; then it is
     /// noted no more. So it takes some look-ups for each new run, for each entry that is held, and
