@@ -7,13 +7,14 @@ ghost use Rattle.yd_names.specs.Names.{IsOf, IsLastOf, top_of};
 ghost use Rattle.yd_arena.specs.Lists.{AreLists};
 ghost use Rattle.yd_arena.specs.Arena.{IsArena, runs_of, count_of, next_clock};
 ghost use Rattle.yd_store.specs.Contents.{told_of};
-ghost use Rattle.yd_store.specs.Store.{AreTold};
+ghost use Rattle.yd_store.specs.Store.{AreTold, IsKept};
+ghost use Rattle.yd_kept.specs.Kept.{KeepsHeld};
 
 use std::alloc::Global;
 use std::marker::Model;
 use yd_ids::{Id, Span};
 use yd_names::ItemNames;
-use yd_ops::{List, Parent};
+use yd_ops::{List, NoMemory, Parent};
 use yd_store::Store;
 
 /// The runs that are held, in lists that have names.
@@ -63,6 +64,16 @@ impl Kept {
     {
         self.store.is_sound();
         &self.store
+    }
+
+    /// Takes memory for so many runs ahead, in whichever lists, or finds none. It is for what comes
+    /// next: nothing changes that is told.
+    pub fn reserve_places(&mut self, more: usize) -> Result<(), NoMemory>
+        ensures same { IsKept self.old.store self.new.store }
+        ensures kept { KeepsHeld self.old self.new }
+        ensures names { self.new.names ≡ self.old.names }
+    {
+        self.store.reserve_places(more)
     }
 
     /// The names of the lists, by number.

@@ -36,6 +36,27 @@ pub fn reserve_parts(
     Ok(())
 }
 
+/// Takes memory in all parts for so many runs ahead, or finds none.
+pub fn reserve_ahead(
+    arena: &mut Arena,
+    marks: &mut Marks,
+    contents: &mut Contents,
+    more: usize,
+) -> Result<(), AllocError>
+    ensures kept { KeepsParts arena.old marks.old contents.old arena.new marks.new contents.new }
+    ensures rooms { (k : ℕ) → room_for arena.old k ≤ room_for arena.new k }
+    ensures marks_kept { marks.old.room ≤ marks.new.room }
+    ensures contents_kept { contents.old.room ≤ contents.new.room }
+    ensures lists { AreLists arena.old.linked }
+{
+    // What this reads is a fact for callers: no list has a place twice.
+    let _ = arena.lists();
+    arena.reserve_places(more)?;
+    marks.reserve(more)?;
+    contents.reserve(more)?;
+    Ok(())
+}
+
 /// Adds a list, without units, to the arena and to the counts, or to neither.
 pub fn add_list_parts(arena: &mut Arena, marks: &mut Marks) -> Result<usize, AllocError>
     ensures number { IfOk result (λ list. list ≡ count_of arena.old) }

@@ -22,7 +22,7 @@ mod telling;
 
 use crate::contents::Contents;
 use crate::fault::Unplaced;
-use crate::parts::{add_list_parts, is_sound, reserve_parts};
+use crate::parts::{add_list_parts, is_sound, reserve_ahead, reserve_parts};
 use crate::rights::{kept_right, stands_in};
 use std::alloc::Global;
 use std::marker::Model;
@@ -222,6 +222,16 @@ impl Store {
             client,
             more,
         )?;
+        Ok(())
+    }
+
+    /// Takes memory for so many runs ahead, of whichever clients, or finds none. It is for what comes
+    /// next: nothing changes that is told, and no spare is lost.
+    pub fn reserve_places(&mut self, more: usize) -> Result<(), NoMemory>
+        ensures kept { IsKept self.old self.new }
+        ensures spares { (client : ℕ) → spare_of self.old client ≤ spare_of self.new client }
+    {
+        reserve_ahead(&mut self.arena, &mut self.marks, &mut self.contents, more)?;
         Ok(())
     }
 
