@@ -8,7 +8,7 @@ ghost use Rattle.yd_reading.specs.ReadView.{blocks_value, no_blocks, no_structs,
 ghost use Rattle.yd_fields.specs.UpdatePlan.{block_plan, blocks_step, may_declare, still_declared, structs_step};
 
 use crate::struct_reading::read_struct;
-use std::alloc::Global;
+use crate::texts::Texts;
 use yd_fields::FieldReader;
 use yd_ids::{Client, Id};
 use yd_ops::{Block, BlockList, StructList};
@@ -30,7 +30,7 @@ pub struct BlocksRead {
 
 /// So many blocks, with so many structs in all where there is a limit.
 pub fn read_blocks<'a, R: FieldReader<'a>>(
-    alloc: Global,
+    texts: &mut Texts,
     reader: &mut R,
     count: u64,
     most: Option<u64>,
@@ -40,17 +40,17 @@ pub fn read_blocks<'a, R: FieldReader<'a>>(
 {
     let mut read = BlocksRead {
         most,
-        blocks: BlockList::new(alloc),
+        blocks: BlockList::new(texts.alloc()),
     };
     for _ in 0..count {
-        read_next_block(alloc, reader, &mut read)?;
+        read_next_block(texts, reader, &mut read)?;
     }
     Ok(read)
 }
 
 #[tactic(auto, using(crate::proofs::BlockPlanLemmas::next_block))]
 fn read_next_block<'a, R: FieldReader<'a>>(
-    alloc: Global,
+    texts: &mut Texts,
     reader: &mut R,
     read: &mut BlocksRead,
 ) -> Result<(), ReadError>
@@ -66,7 +66,7 @@ fn read_next_block<'a, R: FieldReader<'a>>(
             spot: reader.spot(),
         });
     }
-    let block = read_block(alloc, reader, count)?;
+    let block = read_block(texts, reader, count)?;
     read.most = still_declared(read.most, count);
     read.blocks.push(block)?;
     Ok(())
@@ -94,7 +94,7 @@ pub fn still_declared(most: Option<u64>, count: u64) -> Option<u64>
 
 #[tactic(auto, using(crate::proofs::BlockPlanLemmas::read_block_plan))]
 fn read_block<'a, R: FieldReader<'a>>(
-    alloc: Global,
+    texts: &mut Texts,
     reader: &mut R,
     count: u64,
 ) -> Result<Block, ReadError>
@@ -104,7 +104,7 @@ fn read_block<'a, R: FieldReader<'a>>(
     let client = reader.get_client()?;
     let client = Client(client);
     let clock = reader.get_number()?;
-    let read = read_structs(alloc, reader, Id { client, clock }, count)?;
+    let read = read_structs(texts, reader, Id { client, clock }, count)?;
     Ok(Block {
         client,
         clock,
@@ -113,7 +113,7 @@ fn read_block<'a, R: FieldReader<'a>>(
 }
 
 fn read_structs<'a, R: FieldReader<'a>>(
-    alloc: Global,
+    texts: &mut Texts,
     reader: &mut R,
     id: Id,
     count: u64,
@@ -123,17 +123,17 @@ fn read_structs<'a, R: FieldReader<'a>>(
 {
     let mut read = StructsRead {
         clock: id.clock,
-        structs: StructList::new(alloc),
+        structs: StructList::new(texts.alloc()),
     };
     for _ in 0..count {
-        read_next_struct(alloc, reader, id.client, &mut read)?;
+        read_next_struct(texts, reader, id.client, &mut read)?;
     }
     Ok(read)
 }
 
 #[tactic(auto, using(crate::proofs::BlockPlanLemmas::next_struct))]
 fn read_next_struct<'a, R: FieldReader<'a>>(
-    alloc: Global,
+    texts: &mut Texts,
     reader: &mut R,
     client: Client,
     read: &mut StructsRead,
@@ -145,7 +145,7 @@ fn read_next_struct<'a, R: FieldReader<'a>>(
         (structs_step client (structs_value read.old)) reader.old) }
 {
     let clock = read.clock;
-    let next = read_struct(alloc, reader, Id { client, clock })?;
+    let next = read_struct(texts, reader, Id { client, clock })?;
     let end = clock + next.len();
     read.structs.push(next)?;
     read.clock = end;

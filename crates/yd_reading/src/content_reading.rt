@@ -12,8 +12,9 @@ ghost use Rattle.yd_fields.specs.StructPlan.{content_plan, deleted_plan, nested_
 
 use crate::json_making::unit_of_text;
 use crate::list_reading::read_kind;
+use crate::texts::Texts;
 use std::alloc::Global;
-use yd_any::{Any, AnyList, Blob, Text};
+use yd_any::{Any, AnyList, Blob};
 use yd_fields::{ContentKind, FieldReader};
 use yd_ops::{Content, JsonUnits};
 use yd_parts::{Cause, ReadError, Spot};
@@ -34,7 +35,7 @@ pub fn read_any_field<'a, R: FieldReader<'a>>(
 #[inline(always)]
 #[tactic(auto, unfolding(yd_parts::specs::Plan::read_by, yd_fields::specs::StructPlan::content_plan))]
 pub fn read_content<'a, R: FieldReader<'a>>(
-    alloc: Global,
+    texts: &mut Texts,
     reader: &mut R,
     kind: ContentKind,
     begin: Spot,
@@ -44,30 +45,30 @@ pub fn read_content<'a, R: FieldReader<'a>>(
 {
     match kind {
         ContentKind::Deleted => read_deleted(reader, begin),
-        ContentKind::Json => read_units(alloc, reader, begin),
+        ContentKind::Json => read_units(texts.alloc(), reader, begin),
         ContentKind::Binary => {
             let bytes = reader.get_blob()?;
-            Ok(Content::Binary(Blob::copy_of(alloc, bytes)?))
+            Ok(Content::Binary(Blob::copy_of(texts.alloc(), bytes)?))
         }
         ContentKind::Str => {
             let text = reader.get_string()?;
             if text.is_empty() {
                 return Err(empty_struct(begin));
             }
-            Ok(Content::Str(Units::from_text(alloc, text)?))
+            Ok(Content::Str(Units::from_text(texts.alloc(), text)?))
         }
         ContentKind::Embed => {
-            let value = reader.get_json(alloc)?;
+            let value = reader.get_json(texts.alloc())?;
             Ok(Content::Embed(value))
         }
         ContentKind::Format => {
             let key = reader.get_key()?;
-            let value = reader.get_json(alloc)?;
-            let key = Text::copy_of(alloc, key)?;
+            let value = reader.get_json(texts.alloc())?;
+            let key = texts.text(key)?;
             Ok(Content::Format { key, value })
         }
-        ContentKind::Nested => read_nested(alloc, reader),
-        ContentKind::Any => read_values(alloc, reader, begin),
+        ContentKind::Nested => read_nested(texts, reader),
+        ContentKind::Any => read_values(texts.alloc(), reader, begin),
     }
 }
 
@@ -94,11 +95,14 @@ fn read_deleted<'a, R: FieldReader<'a>>(reader: &mut R, begin: Spot) -> Result<C
 }
 
 #[tactic(auto, using(crate::proofs::ContentPlanLemmas::read_nested_plan))]
-fn read_nested<'a, R: FieldReader<'a>>(alloc: Global, reader: &mut R) -> Result<Content, ReadError>
+fn read_nested<'a, R: FieldReader<'a>>(
+    texts: &mut Texts,
+    reader: &mut R,
+) -> Result<Content, ReadError>
     ensures { Gives content_value result reader.new
         (read_by R.field_at R.spot_of nested_plan reader.old) }
 {
-    let kind = read_kind(alloc, reader)?;
+    let kind = read_kind(texts, reader)?;
     Ok(Content::Nested(kind))
 }
 

@@ -13,7 +13,7 @@ ghost use Rattle.yd_units.specs.Text.{units_of};
 use crate::content_reading::empty_struct;
 use crate::list_reading::{read_carried, read_left, read_right};
 use crate::struct_reading::{read_kinded, refused};
-use std::alloc::Global;
+use crate::texts::Texts;
 use yd_fields::{
     ContentKind, FieldReader, LentRun, LentStruct, LentText, StructKind, has_key, has_left,
     has_right, kind_of_info,
@@ -25,7 +25,7 @@ use yd_parts::{Cause, ReadError, Spot};
 /// The struct of a client that begins at a clock. The text of a run is lent.
 #[tactic(auto, using(crate::proofs::StructPlanLemmas::read_struct_plan))]
 pub fn read_lent<'a, R: FieldReader<'a>>(
-    alloc: Global,
+    texts: &mut Texts,
     reader: &mut R,
     id: Id,
 ) -> Result<LentStruct<'a>, ReadError>
@@ -35,12 +35,12 @@ pub fn read_lent<'a, R: FieldReader<'a>>(
 {
     let info = reader.get_info()?;
     let begin = reader.spot();
-    read_lent_kinded(alloc, reader, id, info, begin)
+    read_lent_kinded(texts, reader, id, info, begin)
 }
 
 #[tactic(auto, unfolding(yd_fields::specs::StructPlan::kinded_plan))]
 fn read_lent_kinded<'a, R: FieldReader<'a>>(
-    alloc: Global,
+    texts: &mut Texts,
     reader: &mut R,
     id: Id,
     info: u8,
@@ -51,16 +51,16 @@ fn read_lent_kinded<'a, R: FieldReader<'a>>(
     ensures ends { IfOk result (λ s. id.clock + clocks_of (lent_struct s) < 2 ^ 53) }
 {
     if let StructKind::Item(ContentKind::Str) = kind_of_info(info) {
-        let run = read_lent_run(alloc, reader, id, info, begin)?;
+        let run = read_lent_run(texts, reader, id, info, begin)?;
         return Ok(LentStruct::Text(run));
     }
-    let entry = read_kinded(alloc, reader, id, info, begin)?;
+    let entry = read_kinded(texts, reader, id, info, begin)?;
     Ok(LentStruct::Made(entry))
 }
 
 #[tactic(auto, using(crate::proofs::ItemPlanLemmas::read_item_plan))]
 fn read_lent_run<'a, R: FieldReader<'a>>(
-    alloc: Global,
+    texts: &mut Texts,
     reader: &mut R,
     id: Id,
     info: u8,
@@ -73,7 +73,7 @@ fn read_lent_run<'a, R: FieldReader<'a>>(
 {
     let left = read_left(reader, has_left(info))?;
     let right = read_right(reader, has_right(info))?;
-    let list = read_carried(alloc, reader, has_key(info), left, right)?;
+    let list = read_carried(texts, reader, has_key(info), left, right)?;
     let text = read_text(reader, begin)?;
     if !ends_at_clock(id.clock, text.len()) {
         return Err(refused(Cause::ClockTooLarge, begin));

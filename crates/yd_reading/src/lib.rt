@@ -22,6 +22,7 @@ mod lent_reading;
 mod list_reading;
 mod struct_reading;
 mod taking;
+mod texts;
 mod update_reading;
 
 pub use content_reading::read_any_field;

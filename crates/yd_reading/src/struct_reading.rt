@@ -10,7 +10,7 @@ ghost use Rattle.yd_reading.specs.Judged.{clocks_at};
 
 use crate::content_reading::{empty_struct, read_content};
 use crate::list_reading::{read_carried, read_left, read_right};
-use std::alloc::Global;
+use crate::texts::Texts;
 use yd_fields::{ContentKind, FieldReader, StructKind, has_key, has_left, has_right, kind_of_info};
 use yd_ids::Id;
 use yd_ops::{Run, Struct, ends_at_clock};
@@ -19,7 +19,7 @@ use yd_parts::{Cause, ReadError, Spot};
 /// The struct of a client that begins at a clock.
 #[tactic(auto, using(crate::proofs::StructPlanLemmas::read_struct_plan))]
 pub fn read_struct<'a, R: FieldReader<'a>>(
-    alloc: Global,
+    texts: &mut Texts,
     reader: &mut R,
     id: Id,
 ) -> Result<Struct, ReadError>
@@ -29,14 +29,14 @@ pub fn read_struct<'a, R: FieldReader<'a>>(
 {
     let info = reader.get_info()?;
     let begin = reader.spot();
-    read_kinded(alloc, reader, id, info, begin)
+    read_kinded(texts, reader, id, info, begin)
 }
 
 /// The struct behind its info byte, which stands at a spot.
 #[inline(always)]
 #[tactic(auto, unfolding(yd_parts::specs::Plan::read_by, yd_fields::specs::StructPlan::kinded_plan))]
 pub fn read_kinded<'a, R: FieldReader<'a>>(
-    alloc: Global,
+    texts: &mut Texts,
     reader: &mut R,
     id: Id,
     info: u8,
@@ -48,7 +48,7 @@ pub fn read_kinded<'a, R: FieldReader<'a>>(
 {
     match kind_of_info(info) {
         StructKind::Gone => read_gone(reader, id.clock, begin),
-        StructKind::Item(kind) => read_item(alloc, reader, id, info, begin, kind),
+        StructKind::Item(kind) => read_item(texts, reader, id, info, begin, kind),
         StructKind::Subdocument => Err(refused(Cause::Subdocument, begin)),
         StructKind::Skip => read_skip(reader, id.clock, begin),
         StructKind::Unknown => Err(refused(Cause::BadInfo, begin)),
@@ -109,7 +109,7 @@ fn judge_clocks(clock: u64, count: u64, begin: Spot) -> Result<(), ReadError>
 #[inline(always)]
 #[tactic(auto, using(crate::proofs::ItemPlanLemmas::read_item_plan))]
 fn read_item<'a, R: FieldReader<'a>>(
-    alloc: Global,
+    texts: &mut Texts,
     reader: &mut R,
     id: Id,
     info: u8,
@@ -122,8 +122,8 @@ fn read_item<'a, R: FieldReader<'a>>(
 {
     let left = read_left(reader, has_left(info))?;
     let right = read_right(reader, has_right(info))?;
-    let list = read_carried(alloc, reader, has_key(info), left, right)?;
-    let content = read_content(alloc, reader, kind, begin)?;
+    let list = read_carried(texts, reader, has_key(info), left, right)?;
+    let content = read_content(texts, reader, kind, begin)?;
     if !ends_at_clock(id.clock, content.len()) {
         return Err(refused(Cause::ClockTooLarge, begin));
     }

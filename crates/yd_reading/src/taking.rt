@@ -16,6 +16,7 @@ ghost use Rattle.yd_reading.specs.Taking.{counted, headed, placed};
 use crate::block_reading::{may_declare, still_declared};
 use crate::delete_reading::read_deletes;
 use crate::lent_reading::read_lent;
+use crate::texts::Texts;
 use std::alloc::Global;
 use yd_fields::{FieldReader, LentStruct};
 use yd_ids::{Client, Id, IdSet};
@@ -70,14 +71,15 @@ pub fn take_update<'a, R: FieldReader<'a>, T: StructTaker>(
     let most = reader.most_structs();
     let count = reader.get_number()?;
     taker.begin(count)?;
-    take_blocks(alloc, reader, taker, count, most)?;
+    let mut texts = Texts::new(alloc);
+    take_blocks(&mut texts, reader, taker, count, most)?;
     let deletes = read_deletes(alloc, reader)?;
     Ok(deletes)
 }
 
 // So many blocks, with so many structs in all where there is a limit.
 fn take_blocks<'a, R: FieldReader<'a>, T: StructTaker>(
-    alloc: Global,
+    texts: &mut Texts,
     reader: &mut R,
     taker: &mut T,
     count: u64,
@@ -90,7 +92,7 @@ fn take_blocks<'a, R: FieldReader<'a>, T: StructTaker>(
 {
     let mut still = most;
     for _ in 0..count {
-        still = take_next_block(alloc, reader, taker, still)?;
+        still = take_next_block(texts, reader, taker, still)?;
     }
     Ok(())
 }
@@ -98,7 +100,7 @@ fn take_blocks<'a, R: FieldReader<'a>, T: StructTaker>(
 // The next block, and how many structs may be declared still, where there is a limit.
 #[tactic(auto, using(crate::proofs::BlockPlanLemmas::read_blocks_step))]
 fn take_next_block<'a, R: FieldReader<'a>, T: StructTaker>(
-    alloc: Global,
+    texts: &mut Texts,
     reader: &mut R,
     taker: &mut T,
     most: Option<u64>,
@@ -116,14 +118,14 @@ fn take_next_block<'a, R: FieldReader<'a>, T: StructTaker>(
             spot: reader.spot(),
         });
     }
-    take_block(alloc, reader, taker, count)?;
+    take_block(texts, reader, taker, count)?;
     Ok(still_declared(most, count))
 }
 
 // A block of so many structs.
 #[tactic(auto, using(crate::proofs::BlockPlanLemmas::read_block_plan))]
 fn take_block<'a, R: FieldReader<'a>, T: StructTaker>(
-    alloc: Global,
+    texts: &mut Texts,
     reader: &mut R,
     taker: &mut T,
     count: u64,
@@ -139,13 +141,13 @@ fn take_block<'a, R: FieldReader<'a>, T: StructTaker>(
     let clock = reader.get_number()?;
     let id = Id { client, clock };
     taker.begin_block(id, count)?;
-    take_structs(alloc, reader, taker, id, count)?;
+    take_structs(texts, reader, taker, id, count)?;
     Ok(())
 }
 
 // So many structs from an id on.
 fn take_structs<'a, R: FieldReader<'a>, T: StructTaker>(
-    alloc: Global,
+    texts: &mut Texts,
     reader: &mut R,
     taker: &mut T,
     id: Id,
@@ -160,14 +162,14 @@ fn take_structs<'a, R: FieldReader<'a>, T: StructTaker>(
     let client = id.client;
     let mut clock = id.clock;
     for _ in 0..count {
-        clock = take_struct(alloc, reader, taker, Id { client, clock })?;
+        clock = take_struct(texts, reader, taker, Id { client, clock })?;
     }
     Ok(())
 }
 
 // The struct at an id, and the clock behind it.
 fn take_struct<'a, R: FieldReader<'a>, T: StructTaker>(
-    alloc: Global,
+    texts: &mut Texts,
     reader: &mut R,
     taker: &mut T,
     id: Id,
@@ -179,7 +181,7 @@ fn take_struct<'a, R: FieldReader<'a>, T: StructTaker>(
         (struct_plan id.client id.clock) reader.old) }
 {
     reader.reads_soundly();
-    let entry = read_lent(alloc, reader, id)?;
-    taker.take(alloc, id, &entry)?;
+    let entry = read_lent(texts, reader, id)?;
+    taker.take(texts.alloc(), id, &entry)?;
     Ok(id.clock + entry.len())
 }

@@ -9,6 +9,7 @@ ghost use Rattle.yd_fields.specs.UpdatePlan.{update_plan};
 
 use crate::block_reading::read_blocks;
 use crate::delete_reading::read_deletes;
+use crate::texts::Texts;
 use std::alloc::Global;
 use yd_fields::FieldReader;
 use yd_ops::Update;
@@ -28,7 +29,8 @@ pub fn read_update<'a, R: FieldReader<'a>>(
     reader.reads_soundly();
     let most = reader.most_structs();
     let count = reader.get_number()?;
-    let read = read_blocks(alloc, reader, count, most)?;
+    let mut texts = Texts::new(alloc);
+    let read = read_blocks(&mut texts, reader, count, most)?;
     let deletes = read_deletes(alloc, reader)?;
     Ok(Update {
         blocks: read.blocks,
