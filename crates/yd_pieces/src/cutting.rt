@@ -1,6 +1,6 @@
 //! Changes of single pieces, and what they do to the whole.
 
-ghost use Rattle.std.specs.Prelude.{◌≡◌, ◌<◌, ◌≤◌, ◌+◌, ◌-◌, ◌++◌, [], All, HoldsAt, length, take, drop, insert, remove, slice_index_or, vec_capacity, OnOk, OnErr, IfOk, IfErr};
+ghost use Rattle.std.specs.Prelude.{◌≡◌, ◌<◌, ◌≤◌, ◌+◌, ◌-◌, ◌++◌, [], All, HoldsAt, length, take, drop, insert, remove, set, slice_index_or, vec_capacity, OnOk, OnErr, IfOk, IfErr};
 ghost use Rattle.yd_pieces.specs.Pieces.{joined, IsFilled};
 
 use crate::seeking::seek;
@@ -9,24 +9,6 @@ use std::mem;
 
 /// A piece with so many elements is cut in two before one more goes in. No contract rests on it.
 pub const FULL: usize = 512;
-
-/// The elements from a place on, in memory of their own; the others stay.
-fn tail_of<T: Drop>(piece: &mut Vec<T>, at: usize) -> Result<Vec<T>, AllocError>
-    requires { at ≤ length piece.old.items }
-    ensures done { IfOk result (λ tail.
-        (tail.items ≡ drop at piece.old.items) × (piece.new.items ≡ take at piece.old.items)) }
-    ensures unchanged { OnErr result (piece.new.items ≡ piece.old.items) }
-{
-    let mut tail = Vec::with_capacity(*piece.allocator(), piece.len() - at)?;
-    while piece.len() > at {
-        let Some(item) = piece.pop() else {
-            break;
-        };
-        tail.push(item)?;
-    }
-    tail.reverse();
-    Ok(tail)
-}
 
 /// Cuts the piece at an index in two halves, where memory is there.
 fn cut<T: Drop>(pieces: &mut Vec<Vec<T>>, i: usize) -> Result<(), AllocError>
@@ -39,7 +21,7 @@ fn cut<T: Drop>(pieces: &mut Vec<Vec<T>>, i: usize) -> Result<(), AllocError>
     pieces.reserve(1)?;
     let piece = &mut pieces[i];
     let half = piece.len() / 2;
-    let tail = tail_of(piece, half)?;
+    let tail = piece.split_off(half)?;
     let _ = pieces.insert(i + 1, tail);
     Ok(())
 }
@@ -191,4 +173,42 @@ pub fn remove_from<T: Drop>(
         return remove_within(pieces, at);
     }
     last.remove(at - start)
+}
+
+/// Puts an item in place of the element at a place of the whole.
+fn set_within<T: Drop>(pieces: &mut Vec<Vec<T>>, at: usize, item: T)
+    requires filled { All IsFilled pieces.old.items }
+    requires inside { at < length (joined pieces.old.items) }
+    ensures done { joined pieces.new.items ≡ set (joined pieces.old.items) at item }
+    ensures kept { All IsFilled pieces.new.items }
+{
+    let (i, place) = seek(pieces, at);
+    let piece = &mut pieces[i];
+    piece[place] = item;
+}
+
+/// Puts an item in place of the element at a place of the pieces and the last one.
+pub fn set_in<T: Drop>(
+    pieces: &mut Vec<Vec<T>>,
+    last: &mut Vec<T>,
+    start: usize,
+    at: usize,
+    item: T,
+)
+    requires filled { All IsFilled pieces.old.items }
+    requires start { start ≡ length (joined pieces.old.items) }
+    requires inside { at < start + length last.old.items }
+    ensures done { joined pieces.new.items ++ last.new.items ≡
+        set (joined pieces.old.items ++ last.old.items) at item }
+    ensures count { length (joined pieces.new.items ++ last.new.items) ≡
+        length (joined pieces.old.items ++ last.old.items) }
+    ensures kept { All IsFilled pieces.new.items }
+    ensures room { vec_capacity last.old - length last.old.items ≤
+        vec_capacity last.new - length last.new.items }
+{
+    if at < start {
+        set_within(pieces, at, item);
+    } else {
+        last[at - start] = item;
+    }
 }

@@ -12,9 +12,12 @@
 #![tactic(auto)]
 
 mod cutting;
+mod keeping;
 mod pieces;
 mod searching;
 mod seeking;
+mod walking;
 
 pub use pieces::Pieces;
 pub use searching::Test;
+pub use walking::PiecesIter;

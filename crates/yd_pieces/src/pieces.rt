@@ -2,11 +2,13 @@
 
 ghost use Rattle.std.specs.List.Sorted.{IsPartitionPoint, IsPartitionedBy};
 ghost use Rattle.yd_pieces.specs.Pieces.{IsBoundary, IsLastPassed};
-ghost use Rattle.std.specs.Prelude.{true, false, take, drop, ◌≡◌, ◌<◌, ◌≤◌, ◌+◌, ◌++◌, ◌∷◌, [], length, insert, remove, slice_index_or, option_copied, OnOk, OnErr, IfErr, IsOk};
+ghost use Rattle.std.specs.Prelude.{true, false, take, drop, ◌≡◌, ◌<◌, ◌≤◌, ◌+◌, ◌++◌, ◌∷◌, [], length, filter, insert, remove, set, slice_index_or, option_copied, OnOk, OnErr, IfErr, IsOk};
 
-use crate::cutting::{FULL, close, insert_into, remove_from};
+use crate::cutting::{FULL, close, insert_into, remove_from, set_in};
+use crate::keeping::keep;
 use crate::searching::{Test, front, point};
 use crate::seeking::{read, rest_of_piece};
+use crate::walking::PiecesIter;
 use std::alloc::{AllocError, AllocFailed, Global};
 use std::marker::Model;
 
@@ -70,6 +72,13 @@ impl<T: Drop> Pieces<T> {
         read(&self.pieces, &self.last, start, at)
     }
 
+    /// The elements in their order. It takes no memory, and a step takes the same time at each place.
+    pub fn iter(&self) -> PiecesIter<'_, T>
+        ensures { result ≡ self.now.items }
+    {
+        PiecesIter::of(&self.pieces, &self.last)
+    }
+
     /// Where the elements that pass end: how many stand before the first that does not, where those
     /// that pass stand before the others. Otherwise it is some place of which the element in front
     /// passes, and the one behind does not. It is a bisection over pieces and then in one, and a
@@ -127,6 +136,17 @@ impl<T: Drop> Pieces<T> {
         Ok(())
     }
 
+    /// Puts an element in place of the one at a place. It takes no memory, and time with the number of
+    /// pieces before it.
+    pub fn set(&mut self, at: usize, item: T)
+        requires { at < length self.old.items }
+        ensures done { self.new.items ≡ set self.old.items at item }
+        ensures room { self.old.room ≤ self.new.room }
+    {
+        let start = self.len - self.last.len();
+        set_in(&mut self.pieces, &mut self.last, start, at, item);
+    }
+
     /// Makes room for so many pushes, or finds no memory for it. No room is lost.
     pub fn reserve(&mut self, more: usize) -> Result<(), AllocError>
         ensures items { self.new.items ≡ self.old.items }
@@ -175,5 +195,14 @@ impl<T: Drop> Pieces<T> {
         let item = remove_from(&mut self.pieces, &mut self.last, start, at);
         self.len -= 1;
         item
+    }
+
+    /// Keeps the elements that pass, and drops the others. It takes no memory, and time with the
+    /// number of elements.
+    pub fn retain<P: Test<T>>(&mut self, test: &P)
+        ensures kept { self.new.items ≡ filter (P.passes test.now) self.old.items }
+        ensures room { self.old.room ≤ self.new.room }
+    {
+        self.len = keep(&mut self.pieces, &mut self.last, test);
     }
 }

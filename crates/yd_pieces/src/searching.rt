@@ -71,7 +71,7 @@ fn items_passed<T, P: Test<T>>(items: &[T], test: &P) -> usize
 }
 
 /// How many elements the first pieces have.
-fn len_before<T>(pieces: &[Vec<T>], end: usize) -> usize
+pub fn len_before<T>(pieces: &[Vec<T>], end: usize) -> usize
     requires end { end ≤ length pieces.now }
     requires fits { length (joined pieces.now) < 2 ^ 64 }
     ensures { result ≡ length (joined (take end pieces.now)) }
