@@ -1,6 +1,5 @@
 -- How operations that are there are lowered, and what can be put back meanwhile (own).
 use Rattle.std.specs.Prelude.{◌≡◌, ℕ, ◌+◌, ◌<◌, ◌≤◌, ◌⊎◌, Bool, true, false, ◌||◌, ◌&&◌, nat_eq, nat_le, nat_lt, List, Option, Some, None, Result, OnOk, map, set, slice_get, length, if◌then◌else◌}
-use Rattle.std.specs.Global.{Vec}
 use Rattle.yd_words.specs.Each.{Each}
 use Rattle.yd_words.specs.Member.{IsIn}
 use Rattle.yd_ids.specs.declared.id.Id.{Id}
@@ -134,15 +133,15 @@ pub record LowersEntry (old_runs : List Run) (old : List Entry) (runs : List Run
 -- ---- what can be put back
 
 -- while no entries are kept aside, waiting units of later runs were added, and nothing else; from then on these are kept
-abbrev pub IsBacked : ℕ → Option (Vec Entry) → List Entry → Option (Vec Entry) → List Entry → Type 0
+abbrev pub IsBacked : ℕ → Option (List Entry) → List Entry → Option (List Entry) → List Entry → Type 0
 IsBacked count None old None new = OnlyAdds count old new
-IsBacked count None old (Some kept) new = StaysOfFirst count old kept.items
+IsBacked count None old (Some kept) new = StaysOfFirst count old kept
 IsBacked count (Some before) old None new = ⊥
-IsBacked count (Some before) old (Some kept) new = kept.items ≡ before.items
+IsBacked count (Some before) old (Some kept) new = kept ≡ before
 
 -- a copy of the entries is kept, unless some were kept
-abbrev pub KeepsAside : List Entry → Option (Vec Entry) → Option (Vec Entry) → Result (Unit {0}) NoMemory → Type 0
+abbrev pub KeepsAside : List Entry → Option (List Entry) → Option (List Entry) → Result (Unit {0}) NoMemory → Type 0
 KeepsAside taken None None result = OnOk result ⊥
-KeepsAside taken None (Some kept) result = kept.items ≡ taken
+KeepsAside taken None (Some kept) result = kept ≡ taken
 KeepsAside taken (Some before) None result = ⊥
-KeepsAside taken (Some before) (Some kept) result = kept.items ≡ before.items
+KeepsAside taken (Some before) (Some kept) result = kept ≡ before

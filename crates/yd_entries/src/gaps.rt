@@ -9,8 +9,10 @@ ghost use Rattle.yd_entries.specs.Entries.{AreInOrder};
 ghost use Rattle.yd_entries.specs.Taking.{is_covered, AreCovered, HasUnits, EndsBy, EndsBehind};
 ghost use Rattle.yd_entries.specs.Taking.{ends_by, IsGap};
 
+use crate::entries::Entries;
 use crate::entry::Entry;
 use yd_ids::Id;
+use yd_pieces::Test;
 
 /// Ids of one client in a row that all came before, or none of which did.
 #[derive(Clone, Copy)]
@@ -24,7 +26,7 @@ pub(crate) struct IdRow {
 }
 
 /// The ids in a row that begin with one, at most so many. It takes one bisection.
-pub(crate) fn ids_from(taken: &[Entry], id: Id, most: u64) -> IdRow
+pub(crate) fn ids_from(taken: &Entries, id: Id, most: u64) -> IdRow
     requires in_order { AreInOrder taken.now }
     requires each { Each HasUnits taken.now }
     requires some { 0 < most }
@@ -38,10 +40,13 @@ pub(crate) fn ids_from(taken: &[Entry], id: Id, most: u64) -> IdRow
         is_new: true,
         at,
     };
-    if at >= taken.len() || taken[at].id.client.0 != id.client.0 {
+    if at >= taken.len() {
         return all_new;
     }
-    let next = taken[at];
+    let next = taken.get(at);
+    if next.id.client.0 != id.client.0 {
+        return all_new;
+    }
     if id.clock < next.id.clock {
         let len = most.min(next.id.clock - id.clock);
         return IdRow { len, ..all_new };
@@ -56,7 +61,7 @@ pub(crate) fn ids_from(taken: &[Entry], id: Id, most: u64) -> IdRow
 
 /// How many ids in a row from one on came before, at most so many. It takes a bisection for each
 /// entry that has some of them.
-pub(crate) fn known_from(taken: &[Entry], id: Id, most: u64) -> u64
+pub(crate) fn known_from(taken: &Entries, id: Id, most: u64) -> u64
     requires in_order { AreInOrder taken.now }
     requires each { Each HasUnits taken.now }
     requires end { IsClock (id.clock + most) }
@@ -80,7 +85,7 @@ pub(crate) fn known_from(taken: &[Entry], id: Id, most: u64) -> u64
 }
 
 /// How many entries are written wholly before the id.
-pub(crate) fn place(taken: &[Entry], id: Id) -> usize
+pub(crate) fn place(taken: &Entries, id: Id) -> usize
     requires { AreInOrder taken.now }
     ensures bound { result ≤ length taken.now }
     ensures before { Each (EndsBy id) (take result taken.now) }
@@ -95,19 +100,36 @@ pub(crate) fn place(taken: &[Entry], id: Id) -> usize
     if is_behind(taken, count - 1, id) {
         return count - 1;
     }
-    taken.partition_point(|entry| ends_by(*entry, id))
+    taken.partition_point(&EndsBefore { id })
 }
 
 /// So many entries from the first on are written wholly before the id, as the last of them tells.
-fn is_behind(taken: &[Entry], count: usize, id: Id) -> bool
+fn is_behind(taken: &Entries, count: usize, id: Id) -> bool
     requires in_order { AreInOrder taken.now }
     requires bound { count ≤ length taken.now }
     ensures all { OnTrue result (Each (EndsBy id) (take count taken.now)) }
     ensures last { OnFalse result ((0 < count) × Each (EndsBehind id) (drop (count - 1) taken.now)) }
 {
-    count == 0 || ends_by(taken[count - 1], id)
+    count == 0 || ends_by(taken.get(count - 1), id)
 }
 
+/// A test for entries that are written wholly before an id.
+#[derive(Clone, Copy)]
+struct EndsBefore {
+    id: Id,
+}
+
+impl Test<Entry> for EndsBefore {
+    ghost use Rattle.yd_entries.specs.Taking.{ends_by};
+
+    ghost passes = { λ test entry. ends_by test.id entry };
+
+    fn passes(&self, entry: &Entry) -> bool {
+        ends_by(*entry, self.id)
+    }
+}
+
+/// The units are written wholly before the id.
 fn ends_by(entry: Entry, id: Id) -> bool
     ensures { result ≡ ends_by id entry }
 {

@@ -9,6 +9,7 @@ ghost use Rattle.yd_entries.specs.Joining.{IsSingle, GoesOn, EndsRun, AreAtEnds,
 ghost use Rattle.yd_entries.specs.Joining.{Joins, TellSame};
 ghost use Rattle.yd_entries.specs.Taking.{AreUnchanged};
 
+use crate::entries::Entries;
 use crate::entry::Entry;
 use crate::place::Place;
 use yd_ids::Id;
@@ -16,29 +17,32 @@ use yd_ops::{Content, Run};
 
 /// Joins an entry to the one before it, and says whether it did: where both are texts in one list,
 /// the entry has all units of the last run, and these go on where the run of the other ends. Then
-/// the text is appended there, and the last run is dropped. The entries behind move by one. Where
-/// memory ends nothing has changed.
-pub fn join(runs: &mut Vec<Run>, taken: &mut Vec<Entry>, at: usize) -> bool
-    requires taken { AreTaken runs.old.items taken.old.items }
-    requires single { IsSingle runs.old.items taken.old.items at }
-    ensures same { TellSame runs.old.items taken.old.items runs.new.items taken.new.items }
+/// the text is appended there, and the last run is dropped. Of the entries behind those of one piece
+/// move. Where memory ends nothing has changed.
+pub fn join(runs: &mut Vec<Run>, taken: &mut Entries, at: usize) -> bool
+    requires taken { AreTaken runs.old.items taken.old }
+    requires single { IsSingle runs.old.items taken.old at }
+    ensures same { TellSame runs.old.items taken.old runs.new.items taken.new }
     ensures joined { OnTrue result
-        (Joins runs.old.items taken.old.items runs.new.items taken.new.items at) }
+        (Joins runs.old.items taken.old runs.new.items taken.new at) }
     ensures unchanged { OnFalse result
-        (AreUnchanged runs.old.items taken.old.items runs.new.items taken.new.items) }
+        (AreUnchanged runs.old.items taken.old runs.new.items taken.new) }
 {
     if at == 0 {
         return false;
     }
-    let front = taken[at - 1];
-    let back = taken[at];
+    let front = taken.get(at - 1);
+    let back = taken.get(at);
     if !can_join(runs, front, back) || !move_text(runs, front.run) {
         return false;
     }
-    taken[at - 1] = Entry {
-        len: front.len + back.len,
-        ..front
-    };
+    taken.set(
+        at - 1,
+        Entry {
+            len: front.len + back.len,
+            ..front
+        },
+    );
     taken.remove(at);
     true
 }

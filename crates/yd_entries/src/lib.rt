@@ -14,6 +14,7 @@
 //! ```
 #![tactic(auto)]
 
+mod entries;
 mod entry;
 mod fault;
 mod gaps;
@@ -25,6 +26,7 @@ mod place;
 mod splitting;
 mod taking;
 
+pub use entries::{Entries, EntryIter};
 pub use entry::Entry;
 pub use fault::NoMemory;
 pub use joining::join;

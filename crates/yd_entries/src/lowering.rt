@@ -11,6 +11,7 @@ ghost use Rattle.yd_entries.specs.Lowering.{IsBeside, begins_within, level_from,
 ghost use Rattle.yd_entries.specs.Staying.{KeepsPlaces};
 ghost use Rattle.yd_entries.specs.Taking.{AreUnchanged};
 
+use crate::entries::Entries;
 use crate::entry::Entry;
 use crate::fault::NoMemory;
 use crate::gaps::place;
@@ -39,8 +40,8 @@ pub fn level_from(is_gone: bool) -> u64
 pub fn lower(
     alloc: Global,
     runs: &mut Vec<Run>,
-    taken: &mut Vec<Entry>,
-    before: &mut Option<Vec<Entry>>,
+    taken: &mut Entries,
+    before: &mut Option<Entries>,
     id: Id,
     len: u64,
     level: u64,
@@ -49,20 +50,20 @@ pub fn lower(
     requires some { 0 < len }
     requires end { IsClock (id.clock + len) }
     requires level { level < 2 }
-    requires each { Each (IsTakenOf runs.old.items) taken.old.items }
-    requires in_order { AreInOrder taken.old.items }
-    ensures lowered { IfOk result (λ says. OnTrue says (Lowers runs.old.items taken.old.items
-        runs.new.items taken.new.items id len level)) }
+    requires each { Each (IsTakenOf runs.old.items) taken.old }
+    requires in_order { AreInOrder taken.old }
+    ensures lowered { IfOk result (λ says. OnTrue says (Lowers runs.old.items taken.old
+        runs.new.items taken.new id len level)) }
     ensures says { IfOk result (λ says. IsTrue says
-        ↔ SaysMore id len level (operations_in runs.old.items taken.old.items)) }
+        ↔ SaysMore id len level (operations_in runs.old.items taken.old)) }
     ensures unchanged { IfOk result (λ says. OnFalse says
-        (AreUnchanged runs.old.items taken.old.items runs.new.items taken.new.items)) }
+        (AreUnchanged runs.old.items taken.old runs.new.items taken.new)) }
     ensures aside { IfOk result (λ says. OnFalse says (before.new ≡ before.old)) }
     ensures grows { GrowBy runs.old.items runs.new.items }
-    ensures places { OnOk result (KeepsPlaces runs.old.items taken.old.items
-        runs.new.items taken.new.items) }
-    ensures backed { IsBacked (length runs.old.items) before.old taken.old.items
-        before.new taken.new.items }
+    ensures places { OnOk result (KeepsPlaces runs.old.items taken.old
+        runs.new.items taken.new) }
+    ensures backed { IsBacked (length runs.old.items) before.old taken.old
+        before.new taken.new }
 {
     if !says_more(runs, taken, id, len, level) {
         return Ok(false);
@@ -73,7 +74,7 @@ pub fn lower(
 }
 
 /// One of the units says more than the level.
-fn says_more(runs: &[Run], taken: &[Entry], id: Id, len: u64, level: u64) -> bool
+fn says_more(runs: &[Run], taken: &Entries, id: Id, len: u64, level: u64) -> bool
     requires each { Each (IsTakenOf runs.now) taken.now }
     requires in_order { AreInOrder taken.now }
     requires id { IsId id }
@@ -82,7 +83,7 @@ fn says_more(runs: &[Run], taken: &[Entry], id: Id, len: u64, level: u64) -> boo
     ensures { IsTrue result ↔ SaysMore id len level (operations_in runs.now taken.now) }
 {
     for at in place(taken, id)..taken.len() {
-        let entry = taken[at];
+        let entry = taken.get(at);
         if !begins_within(entry, id, len) {
             return false;
         }
@@ -116,17 +117,13 @@ fn level_of(runs: &[Run], entry: Entry) -> u64
 }
 
 /// Keeps a copy of the entries, unless some are kept.
-fn keep_aside(
-    alloc: Global,
-    taken: &[Entry],
-    before: &mut Option<Vec<Entry>>,
-) -> Result<(), NoMemory>
+fn keep_aside(alloc: Global, taken: &Entries, before: &mut Option<Entries>) -> Result<(), NoMemory>
     ensures { KeepsAside taken.now before.old before.new result }
 {
     if before.is_some() {
         return Ok(());
     }
-    let copy = Vec::from_slice(alloc, taken)?;
+    let copy = taken.copy(alloc)?;
     *before = Some(copy);
     Ok(())
 }
@@ -135,7 +132,7 @@ fn keep_aside(
 fn lower_span(
     alloc: Global,
     runs: &mut Vec<Run>,
-    taken: &mut Vec<Entry>,
+    taken: &mut Entries,
     id: Id,
     len: u64,
     level: u64,
@@ -144,13 +141,13 @@ fn lower_span(
     requires some { 0 < len }
     requires end { IsClock (id.clock + len) }
     requires level { level < 2 }
-    requires each { Each (IsTakenOf runs.old.items) taken.old.items }
-    requires in_order { AreInOrder taken.old.items }
-    ensures lowered { OnOk result (Lowers runs.old.items taken.old.items
-        runs.new.items taken.new.items id len level) }
+    requires each { Each (IsTakenOf runs.old.items) taken.old }
+    requires in_order { AreInOrder taken.old }
+    ensures lowered { OnOk result (Lowers runs.old.items taken.old
+        runs.new.items taken.new id len level) }
     ensures grows { GrowBy runs.old.items runs.new.items }
-    ensures places { OnOk result (KeepsPlaces runs.old.items taken.old.items
-        runs.new.items taken.new.items) }
+    ensures places { OnOk result (KeepsPlaces runs.old.items taken.old
+        runs.new.items taken.new) }
 {
     let end = Id {
         client: id.client,
@@ -165,7 +162,7 @@ fn lower_span(
 /// Lowers so many units from an id on to a level, where entries begin at both ends.
 fn lower_whole(
     runs: &mut Vec<Run>,
-    taken: &mut Vec<Entry>,
+    taken: &mut Entries,
     id: Id,
     len: u64,
     level: u64,
@@ -173,16 +170,16 @@ fn lower_whole(
     requires id { IsId id }
     requires end { IsClock (id.clock + len) }
     requires level { level < 2 }
-    requires each { Each (IsTakenOf runs.old.items) taken.old.items }
-    requires in_order { AreInOrder taken.old.items }
-    requires first { Each (IsBeside id) taken.old.items }
-    requires last { Each (IsBeside (later_id id len)) taken.old.items }
-    ensures lowered { OnOk result (LowersWhole runs.old.items taken.old.items
-        runs.new.items taken.new.items id len level) }
+    requires each { Each (IsTakenOf runs.old.items) taken.old }
+    requires in_order { AreInOrder taken.old }
+    requires first { Each (IsBeside id) taken.old }
+    requires last { Each (IsBeside (later_id id len)) taken.old }
+    ensures lowered { OnOk result (LowersWhole runs.old.items taken.old
+        runs.new.items taken.new id len level) }
     ensures grows { GrowBy runs.old.items runs.new.items }
 {
     let mut at = place(taken, id);
-    while at < taken.len() && begins_within(taken[at], id, len) {
+    while at < taken.len() && begins_within(taken.get(at), id, len) {
         lower_entry(runs, taken, at, level)?;
         at += 1;
     }
@@ -192,33 +189,36 @@ fn lower_whole(
 /// Lowers an entry to a level, if it says more: to a deleted run, or to units that are gone.
 fn lower_entry(
     runs: &mut Vec<Run>,
-    taken: &mut Vec<Entry>,
+    taken: &mut Entries,
     at: usize,
     level: u64,
 ) -> Result<(), NoMemory>
-    requires inside { at < length taken.old.items }
+    requires inside { at < length taken.old }
     requires level { level < 2 }
-    requires entry { HoldsAt (IsTakenOf runs.old.items) taken.old.items at }
-    ensures lowered { OnOk result (LowersEntry runs.old.items taken.old.items
-        runs.new.items taken.new.items at level) }
+    requires entry { HoldsAt (IsTakenOf runs.old.items) taken.old at }
+    ensures lowered { OnOk result (LowersEntry runs.old.items taken.old
+        runs.new.items taken.new at level) }
     ensures grows { GrowBy runs.old.items runs.new.items }
 {
-    let entry = taken[at];
+    let entry = taken.get(at);
     if level_of(runs, entry) <= level {
         return Ok(());
     }
     if level == GONE {
-        taken[at] = gone(entry);
+        taken.set(at, gone(entry));
         return Ok(());
     }
     let run = own_run(runs, entry, Content::Deleted(entry.len))?;
     let index = runs.len();
     runs.push(run)?;
-    taken[at] = Entry {
-        run: index,
-        offset: 0,
-        ..entry
-    };
+    taken.set(
+        at,
+        Entry {
+            run: index,
+            offset: 0,
+            ..entry
+        },
+    );
     Ok(())
 }
 

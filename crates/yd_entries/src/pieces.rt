@@ -11,6 +11,7 @@ ghost use Rattle.yd_entries.specs.Entries.{PartsPair, OnlyAdds, GrowBy};
 ghost use Rattle.yd_entries.specs.Taking.{IsPiece, left_at, list_from, half_at, IsRun};
 ghost use Rattle.yd_entries.specs.Taking.{IsKept, Adds, operations_of_piece, entry_of, entry_from};
 
+use crate::entries::Entries;
 use crate::entry::Entry;
 use crate::fault::NoMemory;
 use crate::place::Place;
@@ -72,7 +73,7 @@ pub(crate) fn parts_pair(content: &Content, n: u64) -> bool
 pub(crate) fn take_piece(
     alloc: Global,
     runs: &mut Vec<Run>,
-    taken: &mut Vec<Entry>,
+    taken: &mut Entries,
     run: &Run,
     is_gone: bool,
     index: usize,
@@ -82,15 +83,15 @@ pub(crate) fn take_piece(
 ) -> Result<(), NoMemory>
     requires run { IsRun is_gone (run_value run.now) }
     requires kept { IsKept runs.old.items index (run_value run.now) }
-    requires place { at ≤ length taken.old.items }
+    requires place { at ≤ length taken.old }
     requires bound { from + piece.len ≤ len_of (content_value run.now.content) }
     requires piece { (to : ℕ) × IsPiece (content_value run.now.content) from to
         piece.len piece.is_torn }
-    ensures added { OnOk result (Adds runs.old.items taken.old.items
-        runs.new.items taken.new.items at (later_id run.now.id from) piece.len
+    ensures added { OnOk result (Adds runs.old.items taken.old
+        runs.new.items taken.new at (later_id run.now.id from) piece.len
         (operations_of_piece is_gone (run_value run.now) from piece.len piece.is_torn)) }
     ensures grows { GrowBy runs.old.items runs.new.items }
-    ensures adds { OnlyAdds index taken.old.items taken.new.items }
+    ensures adds { OnlyAdds index taken.old taken.new }
 {
     if piece.is_torn {
         take_half(alloc, runs, taken, run, at, from)?;
@@ -102,7 +103,7 @@ pub(crate) fn take_piece(
 
 /// Takes units of a run as they are.
 pub(crate) fn take_whole(
-    taken: &mut Vec<Entry>,
+    taken: &mut Entries,
     run: &Run,
     is_gone: bool,
     index: usize,
@@ -110,11 +111,11 @@ pub(crate) fn take_whole(
     from: u64,
     len: u64,
 ) -> Result<(), NoMemory>
-    requires place { at ≤ length taken.old.items }
+    requires place { at ≤ length taken.old }
     requires fits { IsClock (run.now.id.clock + from) }
-    ensures entry { OnOk result (taken.new.items ≡ take at taken.old.items
-        ++ entry_from is_gone (run_value run.now) from index len ∷ drop at taken.old.items) }
-    ensures adds { OnlyAdds index taken.old.items taken.new.items }
+    ensures entry { OnOk result (taken.new ≡ take at taken.old
+        ++ entry_from is_gone (run_value run.now) from index len ∷ drop at taken.old) }
+    ensures adds { OnlyAdds index taken.old taken.new }
 {
     let entry = entry_from(run, is_gone, index, from, len);
     put_in(taken, at, entry)?;
@@ -122,18 +123,12 @@ pub(crate) fn take_whole(
 }
 
 /// Puts units at a place.
-fn put_in(taken: &mut Vec<Entry>, at: usize, entry: Entry) -> Result<(), NoMemory>
-    requires { at ≤ length taken.old.items }
-    ensures put { OnOk result (taken.new.items
-        ≡ take at taken.old.items ++ entry ∷ drop at taken.old.items) }
-    ensures unchanged { OnErr result (taken.new.items ≡ taken.old.items) }
+fn put_in(taken: &mut Entries, at: usize, entry: Entry) -> Result<(), NoMemory>
+    requires { at ≤ length taken.old }
+    ensures put { OnOk result (taken.new
+        ≡ take at taken.old ++ entry ∷ drop at taken.old) }
+    ensures unchanged { OnErr result (taken.new ≡ taken.old) }
 {
-    taken.reserve(1)?;
-    // Mostly they stand behind all others.
-    if at == taken.len() {
-        taken.push_reserved(entry);
-        return Ok(());
-    }
     taken.insert(at, entry)?;
     Ok(())
 }
@@ -171,20 +166,20 @@ fn entry_from(run: &Run, is_gone: bool, index: usize, from: u64, len: u64) -> En
 fn take_half(
     alloc: Global,
     runs: &mut Vec<Run>,
-    taken: &mut Vec<Entry>,
+    taken: &mut Entries,
     run: &Run,
     at: usize,
     from: u64,
 ) -> Result<(), NoMemory>
-    requires place { at ≤ length taken.old.items }
+    requires place { at ≤ length taken.old }
     requires fits { IsClock (run.now.id.clock + from) }
     ensures half { OnOk result ((half : Run) × (runs.new.items ≡ runs.old.items ++ half ∷ [])
         × (run_value half ≡ half_at (run_value run.now) from)) }
-    ensures entry { OnOk result (taken.new.items ≡ take at taken.old.items
+    ensures entry { OnOk result (taken.new ≡ take at taken.old
         ++ entry_of (run_value run.now) from (length runs.old.items) 0 1
-        ∷ drop at taken.old.items) }
+        ∷ drop at taken.old) }
     ensures grows { GrowBy runs.old.items runs.new.items }
-    ensures adds { OnlyAdds (length runs.old.items) taken.old.items taken.new.items }
+    ensures adds { OnlyAdds (length runs.old.items) taken.old taken.new }
 {
     let half = half_at(alloc, run, from)?;
     let index = runs.len();

@@ -9,6 +9,7 @@ ghost use Rattle.yd_entries.specs.Lowering.{IsBeside, Begins, own_run};
 ghost use Rattle.yd_entries.specs.Splitting.{IsAstride, begins_before, IsSplittable, split_in, back_of};
 ghost use Rattle.yd_entries.specs.Splitting.{split_behind, place_behind, KeepsTwo, PartsPairOf, Tears, SplitsPair};
 
+use crate::entries::Entries;
 use crate::entry::Entry;
 use crate::fault::NoMemory;
 use crate::gaps::place;
@@ -22,19 +23,20 @@ use yd_ops::{Content, List, Run};
 pub(crate) fn begin_at(
     alloc: Global,
     runs: &mut Vec<Run>,
-    taken: &mut Vec<Entry>,
+    taken: &mut Entries,
     id: Id,
 ) -> Result<(), NoMemory>
     requires id { IsId id }
-    requires each { Each (IsTakenOf runs.old.items) taken.old.items }
-    requires in_order { AreInOrder taken.old.items }
-    ensures begins { OnOk result (Begins runs.old.items taken.old.items
-        runs.new.items taken.new.items id) }
+    requires each { Each (IsTakenOf runs.old.items) taken.old }
+    requires in_order { AreInOrder taken.old }
+    ensures begins { OnOk result (Begins runs.old.items taken.old
+        runs.new.items taken.new id) }
     ensures grows { GrowBy runs.old.items runs.new.items }
 {
     if let Some(at) = astride(taken, id) {
-        let n = id.clock - taken[at].id.clock;
-        if parts_pair_of(runs, taken[at], n) {
+        let entry = taken.get(at);
+        let n = id.clock - entry.id.clock;
+        if parts_pair_of(runs, entry, n) {
             split_pair(alloc, runs, taken, at, n)?;
         } else {
             split(taken, at, n)?;
@@ -44,14 +46,14 @@ pub(crate) fn begin_at(
 }
 
 /// The place of the entry that has units on both sides of an id, and none where no entry has.
-fn astride(taken: &[Entry], id: Id) -> Option<usize>
+fn astride(taken: &Entries, id: Id) -> Option<usize>
     requires { AreInOrder taken.now }
     ensures found { IfSome result (λ at. (at < length taken.now)
         × HoldsAt (IsAstride id) taken.now at) }
     ensures none { IfNone result (Each (IsBeside id) taken.now) }
 {
     let at = place(taken, id);
-    if at < taken.len() && begins_before(taken[at], id) {
+    if at < taken.len() && begins_before(taken.get(at), id) {
         return Some(at);
     }
     None
@@ -80,18 +82,18 @@ fn parts_pair_of(runs: &[Run], entry: Entry, n: u64) -> bool
 fn split_pair(
     alloc: Global,
     runs: &mut Vec<Run>,
-    taken: &mut Vec<Entry>,
+    taken: &mut Entries,
     at: usize,
     n: u64,
 ) -> Result<(), NoMemory>
-    requires each { Each (IsTakenOf runs.old.items) taken.old.items }
-    requires in_order { AreInOrder taken.old.items }
-    requires inside { at < length taken.old.items }
+    requires each { Each (IsTakenOf runs.old.items) taken.old }
+    requires in_order { AreInOrder taken.old }
+    requires inside { at < length taken.old }
     requires some { 0 < n }
     requires entry { HoldsAt (λ t. (n < t.len) × PartsPairOf runs.old.items t n)
-        taken.old.items at }
-    ensures begins { OnOk result (SplitsPair runs.old.items taken.old.items
-        runs.new.items taken.new.items at n) }
+        taken.old at }
+    ensures begins { OnOk result (SplitsPair runs.old.items taken.old
+        runs.new.items taken.new at n) }
     ensures grows { GrowBy runs.old.items runs.new.items }
 {
     let pair = split_behind(taken, at, n - 1)?;
@@ -103,55 +105,56 @@ fn split_pair(
 
 /// Splits an entry before its unit `n`, unless that is its first, and gives the place of the entry
 /// that begins with it.
-fn split_behind(taken: &mut Vec<Entry>, at: usize, n: u64) -> Result<usize, NoMemory>
-    requires inside { at < length taken.old.items }
-    requires entry { HoldsAt (λ t. 0 < n → IsSplittable t n) taken.old.items at }
-    ensures split { OnOk result (taken.new.items ≡ split_behind at n taken.old.items) }
+fn split_behind(taken: &mut Entries, at: usize, n: u64) -> Result<usize, NoMemory>
+    requires inside { at < length taken.old }
+    requires entry { HoldsAt (λ t. 0 < n → IsSplittable t n) taken.old at }
+    ensures split { OnOk result (taken.new ≡ split_behind at n taken.old) }
     ensures place { IfOk result (λ p. p ≡ place_behind at n) }
 {
     if n == 0 {
         return Ok(at);
     }
+    // No place is as great as how many there are.
+    let _count = taken.len();
     split(taken, at, n)?;
     Ok(at + 1)
 }
 
 /// Splits an entry behind its first two units, unless it has no more.
-fn keep_two(taken: &mut Vec<Entry>, at: usize) -> Result<(), NoMemory>
-    requires inside { at < length taken.old.items }
-    requires entry { HoldsAt (λ t. 2 < t.len → IsSplittable t 2) taken.old.items at }
-    ensures { OnOk result (KeepsTwo taken.old.items taken.new.items at) }
+fn keep_two(taken: &mut Entries, at: usize) -> Result<(), NoMemory>
+    requires inside { at < length taken.old }
+    requires entry { HoldsAt (λ t. 2 < t.len → IsSplittable t 2) taken.old at }
+    ensures { OnOk result (KeepsTwo taken.old taken.new at) }
 {
-    if taken[at].len > 2 {
+    let entry = taken.get(at);
+    if entry.len > 2 {
         split(taken, at, 2)?;
     }
     Ok(())
 }
 
 /// Puts U+FFFD in place of both units of an entry, in a run of their own.
-fn tear(
-    alloc: Global,
-    runs: &mut Vec<Run>,
-    taken: &mut Vec<Entry>,
-    at: usize,
-) -> Result<(), NoMemory>
-    requires inside { at < length taken.old.items }
-    requires entry { HoldsAt (IsTakenOf runs.old.items) taken.old.items at }
-    ensures torn { OnOk result (Tears runs.old.items taken.old.items
-        runs.new.items taken.new.items at) }
+fn tear(alloc: Global, runs: &mut Vec<Run>, taken: &mut Entries, at: usize) -> Result<(), NoMemory>
+    requires inside { at < length taken.old }
+    requires entry { HoldsAt (IsTakenOf runs.old.items) taken.old at }
+    ensures torn { OnOk result (Tears runs.old.items taken.old
+        runs.new.items taken.new at) }
     ensures grows { GrowBy runs.old.items runs.new.items }
 {
-    let entry = taken[at];
+    let entry = taken.get(at);
     let mut units = replacement(alloc)?;
     units.append(&replacement(alloc)?)?;
     let run = own_run(runs, entry, Content::Str(units))?;
     let index = runs.len();
     runs.push(run)?;
-    taken[at] = Entry {
-        run: index,
-        offset: 0,
-        ..entry
-    };
+    taken.set(
+        at,
+        Entry {
+            run: index,
+            offset: 0,
+            ..entry
+        },
+    );
     Ok(())
 }
 
@@ -186,15 +189,16 @@ fn carried_by(runs: &[Run], entry: Entry) -> Result<Option<List>, NoMemory>
 }
 
 /// Splits an entry before its unit `n`.
-fn split(taken: &mut Vec<Entry>, at: usize, n: u64) -> Result<(), NoMemory>
-    requires inside { at < length taken.old.items }
-    requires entry { HoldsAt (λ t. IsSplittable t n) taken.old.items at }
-    ensures { OnOk result (taken.new.items ≡ split_in at n taken.old.items) }
+fn split(taken: &mut Entries, at: usize, n: u64) -> Result<(), NoMemory>
+    requires inside { at < length taken.old }
+    requires entry { HoldsAt (λ t. IsSplittable t n) taken.old at }
+    ensures { OnOk result (taken.new ≡ split_in at n taken.old) }
 {
-    let entry = taken[at];
+    let _count = taken.len();
+    let entry = taken.get(at);
     let front = Entry { len: n, ..entry };
     let back = back_of(entry, n);
-    taken[at] = front;
+    taken.set(at, front);
     taken.insert(at + 1, back)?;
     Ok(())
 }

@@ -10,6 +10,7 @@ ghost use Rattle.yd_entries.specs.Taking.{AreCovered, AddsOne, AddsGroup, HasUni
 ghost use Rattle.yd_entries.specs.Taking.{IsPassed, IsTakenNext, operations_from_run, AreUnchanged};
 ghost use Rattle.yd_entries.specs.Taking.{IsGap};
 
+use crate::entries::Entries;
 use crate::entry::Entry;
 use crate::fault::NoMemory;
 use crate::gaps::{ids_from, known_from};
@@ -23,21 +24,21 @@ use yd_ops::Run;
 pub fn add_run(
     alloc: Global,
     runs: &mut Vec<Run>,
-    taken: &mut Vec<Entry>,
+    taken: &mut Entries,
     run: Run,
     is_gone: bool,
 ) -> Result<bool, NoMemory>
     requires run { IsRun is_gone (run_value run) }
-    requires taken { AreTaken runs.old.items taken.old.items }
-    ensures added { OnOk result (AddsGroup runs.old.items taken.old.items
-        runs.new.items taken.new.items (operations_from_run is_gone (run_value run))) }
+    requires taken { AreTaken runs.old.items taken.old }
+    ensures added { OnOk result (AddsGroup runs.old.items taken.old
+        runs.new.items taken.new (operations_from_run is_gone (run_value run))) }
     ensures says { IfOk result (λ says. IsTrue says
         ↔ AddsOne (operations_from_run is_gone (run_value run))
-        (operations_in runs.old.items taken.old.items)) }
+        (operations_in runs.old.items taken.old)) }
     ensures unchanged { IfOk result (λ says. OnFalse says
-        (AreUnchanged runs.old.items taken.old.items runs.new.items taken.new.items)) }
+        (AreUnchanged runs.old.items taken.old runs.new.items taken.new)) }
     ensures grows { GrowBy runs.old.items runs.new.items }
-    ensures adds { OnlyAdds (length runs.old.items) taken.old.items taken.new.items }
+    ensures adds { OnlyAdds (length runs.old.items) taken.old taken.new }
 {
     let len = run.len();
     let ids = ids_from(taken, run.id, len);
@@ -51,19 +52,19 @@ pub fn add_run(
 /// Adds the units of a run, all of whose ids are new and go to one place.
 fn add_whole(
     runs: &mut Vec<Run>,
-    taken: &mut Vec<Entry>,
+    taken: &mut Entries,
     run: Run,
     is_gone: bool,
     at: usize,
 ) -> Result<(), NoMemory>
     requires run { IsRun is_gone (run_value run) }
-    requires taken { AreTaken runs.old.items taken.old.items }
-    requires gap { IsGap taken.old.items at run.id (len_of (content_value run.content))
+    requires taken { AreTaken runs.old.items taken.old }
+    requires gap { IsGap taken.old at run.id (len_of (content_value run.content))
         (len_of (content_value run.content)) }
-    ensures added { OnOk result (AddsGroup runs.old.items taken.old.items
-        runs.new.items taken.new.items (operations_from_run is_gone (run_value run))) }
+    ensures added { OnOk result (AddsGroup runs.old.items taken.old
+        runs.new.items taken.new (operations_from_run is_gone (run_value run))) }
     ensures grows { GrowBy runs.old.items runs.new.items }
-    ensures adds { OnlyAdds (length runs.old.items) taken.old.items taken.new.items }
+    ensures adds { OnlyAdds (length runs.old.items) taken.old taken.new }
 {
     let index = runs.len();
     let len = run.len();
@@ -78,21 +79,21 @@ fn add_whole(
 fn add_parts(
     alloc: Global,
     runs: &mut Vec<Run>,
-    taken: &mut Vec<Entry>,
+    taken: &mut Entries,
     run: &Run,
     is_gone: bool,
 ) -> Result<bool, NoMemory>
     requires run { IsRun is_gone (run_value run.now) }
-    requires taken { AreTaken runs.old.items taken.old.items }
-    ensures added { OnOk result (AddsGroup runs.old.items taken.old.items
-        runs.new.items taken.new.items (operations_from_run is_gone (run_value run.now))) }
+    requires taken { AreTaken runs.old.items taken.old }
+    ensures added { OnOk result (AddsGroup runs.old.items taken.old
+        runs.new.items taken.new (operations_from_run is_gone (run_value run.now))) }
     ensures says { IfOk result (λ says. IsTrue says
         ↔ AddsOne (operations_from_run is_gone (run_value run.now))
-        (operations_in runs.old.items taken.old.items)) }
+        (operations_in runs.old.items taken.old)) }
     ensures unchanged { IfOk result (λ says. OnFalse says
-        (AreUnchanged runs.old.items taken.old.items runs.new.items taken.new.items)) }
+        (AreUnchanged runs.old.items taken.old runs.new.items taken.new)) }
     ensures grows { GrowBy runs.old.items runs.new.items }
-    ensures adds { OnlyAdds (length runs.old.items) taken.old.items taken.new.items }
+    ensures adds { OnlyAdds (length runs.old.items) taken.old taken.new }
 {
     let known = known_from(taken, run.id, run.len());
     if known >= run.len() {
@@ -109,7 +110,7 @@ fn add_parts(
 fn add_rest(
     alloc: Global,
     runs: &mut Vec<Run>,
-    taken: &mut Vec<Entry>,
+    taken: &mut Entries,
     run: &Run,
     is_gone: bool,
     index: usize,
@@ -117,13 +118,13 @@ fn add_rest(
 ) -> Result<(), NoMemory>
     requires run { IsRun is_gone (run_value run.now) }
     requires kept { IsKept runs.old.items index (run_value run.now) }
-    requires taken { AreTaken runs.old.items taken.old.items }
+    requires taken { AreTaken runs.old.items taken.old }
     requires bound { known ≤ len_of (content_value run.now.content) }
-    requires known { AreCovered taken.old.items run.now.id known }
-    ensures added { OnOk result (AddsGroup runs.old.items taken.old.items
-        runs.new.items taken.new.items (operations_from_run is_gone (run_value run.now))) }
+    requires known { AreCovered taken.old run.now.id known }
+    ensures added { OnOk result (AddsGroup runs.old.items taken.old
+        runs.new.items taken.new (operations_from_run is_gone (run_value run.now))) }
     ensures grows { GrowBy runs.old.items runs.new.items }
-    ensures adds { OnlyAdds index taken.old.items taken.new.items }
+    ensures adds { OnlyAdds index taken.old taken.new }
 {
     let mut from = known;
     while from < run.len() {
@@ -136,7 +137,7 @@ fn add_rest(
 fn add_next(
     alloc: Global,
     runs: &mut Vec<Run>,
-    taken: &mut Vec<Entry>,
+    taken: &mut Entries,
     run: &Run,
     is_gone: bool,
     index: usize,
@@ -144,18 +145,18 @@ fn add_next(
 ) -> Result<u64, NoMemory>
     requires run { IsRun is_gone (run_value run.now) }
     requires kept { IsKept runs.old.items index (run_value run.now) }
-    requires in_order { AreInOrder taken.old.items }
-    requires each { Each HasUnits taken.old.items }
+    requires in_order { AreInOrder taken.old }
+    requires each { Each HasUnits taken.old }
     requires more { from < len_of (content_value run.now.content) }
     ensures bound { IfOk result (λ next. (from < next)
         × (next ≤ len_of (content_value run.now.content))) }
     ensures taken { IfOk result (λ next.
-        IsPassed runs.old.items taken.old.items runs.new.items taken.new.items
+        IsPassed runs.old.items taken.old runs.new.items taken.new
         (run_value run.now) from (next - from)
-        ⊎ IsTakenNext is_gone runs.old.items taken.old.items runs.new.items taken.new.items
+        ⊎ IsTakenNext is_gone runs.old.items taken.old runs.new.items taken.new
         (run_value run.now) from (next - from)) }
     ensures grows { GrowBy runs.old.items runs.new.items }
-    ensures adds { OnlyAdds index taken.old.items taken.new.items }
+    ensures adds { OnlyAdds index taken.old taken.new }
 {
     let ids = ids_from(taken, id_at(run, from), run.len() - from);
     if !ids.is_new {

@@ -1,7 +1,6 @@
 -- Holding one entry: that its origins were taken, and that what is held then is as it should be.
 use Rattle.std.proofs.Common.{◌≡◌, ℕ, ◌+◌, ◌<◌, true, List, inl, inr, Option, Some, length, set, get_or, refl, sym, ap, ◌∙◌, subst}
 use Rattle.std.specs.Prelude.{HoldsAt, IfSome}
-use Rattle.std.proofs.lemmas.List.{get_or_default}
 use Rattle.std.proofs.lemmas.Option.{slice_get_read}
 use Rattle.yd_words.proofs.OptionLemmas.{some_is, if_some_each}
 use Rattle.yd_ids.specs.declared.id.Client.{Client}
@@ -37,13 +36,10 @@ module _ (k : HeldValue) (at : ℕ) (t : Entry) (s : Setting k at t) where
 
 -- ---- lemmas for callers, of an entry that is ready at its place
 
-module _ (k : HeldValue) (seen : List Entry) (at : ℕ) (d : Entry) (same : seen ≡ k.received.entries) (h : IsHolding k) (lt : at < length k.received.entries)
+module _ (k : HeldValue) (seen : List Entry) (at : ℕ) (t : Entry) (same : seen ≡ k.received.entries) (is : t ≡ get_or seen at t) (h : IsHolding k) (lt : at < length k.received.entries)
     (ready : HoldsAt (λ u. is_ready k.vector k.received.runs u ≡ true) k.received.entries at) where
   abbrev ts : List Entry
   ts = k.received.entries
-
-  abbrev t : Entry
-  t = get_or seen at d
 
   s : Setting k at t
   s = record {
@@ -53,7 +49,7 @@ module _ (k : HeldValue) (seen : List Entry) (at : ℕ) (d : Entry) (same : seen
   }
     where
       here : t ≡ get_or ts at t
-      here = ap (λ us. get_or us at d) same ∙ get_or_default ts at d t lt
+      here = is ∙ ap (λ us. get_or us at t) same
 
   -- what it stands on was taken
   pub origins_covered : AreOriginsCovered k.received t

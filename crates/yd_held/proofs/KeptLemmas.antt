@@ -2,7 +2,6 @@
 use Rattle.std.proofs.Common.{◌≡◌, ℕ, ◌<◌, true, List, [], Some, inl, inr, length, refl, sym, ap, ◌∙◌, subst, arith, true≢false}
 use Rattle.std.specs.Prelude.{◌↔◌, filter, slice_get}
 use Rattle.std.proofs.lemmas.Bool.{cases_Bool}
-use Rattle.std.specs.Global.{Vec}
 use Rattle.yd_words.specs.Each.{Each}
 use Rattle.yd_words.specs.Member.{IsIn}
 use Rattle.yd_words.proofs.EachLemmas.{each_both}
@@ -96,7 +95,7 @@ noted_grown old new vector lacks ts grow each noted = record {
 pub nothing_adds : (old new : ReceivedValue) → new ≡ old → OnlyAdds (length old.runs) old.entries new.entries
 nothing_adds old new same = subst (λ (r : ReceivedValue). OnlyAdds (length old.runs) old.entries r.entries) (sym same) (record { first = λ n le. refl; held = refl })
 
-pub brought_adds : (old new : ReceivedValue) (b : Brought) → ((entries : Vec Entry) → b ≡ Lowered entries → ⊥) → IsBrought b old new → OnlyAdds (length old.runs) old.entries new.entries
+pub brought_adds : (old new : ReceivedValue) (b : Brought) → ((entries : List Entry) → b ≡ Lowered entries → ⊥) → IsBrought b old new → OnlyAdds (length old.runs) old.entries new.entries
 brought_adds old new Nothing other same = nothing_adds old new same
 brought_adds old new Added other adds = adds
 brought_adds old new (Lowered entries) other is = absurd (other entries refl)

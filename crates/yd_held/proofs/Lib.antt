@@ -29,3 +29,4 @@ pub mod TryingLemmas
 pub mod TurnLemmas
 pub mod UndoneLemmas
 pub mod UnreadyLemmas
+pub mod WalkLemmas

@@ -82,9 +82,9 @@ number_of-held (t ∷ ts) order x = go t.place refl (covers t x) refl (number_of
 -- ---- the place that is read
 
 -- the number of an id is that of the place of the entry that is read
-pub number_read : (ts seen : List Entry) (x : Id) (k : ℕ) (d : Entry) → seen ≡ ts → AreInOrder ts → k < length ts → covers (get_or ts k d) x ≡ true →
-    number_of ts x ≡ list_at_place (get_or seen k d).place
-number_read ts seen x k d same order lt e = number_of-entry ts x k d order lt e ∙ ap (λ us. list_at_place (get_or us k d).place) (sym same)
+pub number_read : (ts seen : List Entry) (x : Id) (k : ℕ) (t : Entry) → seen ≡ ts → t ≡ get_or seen k t → AreInOrder ts → k < length ts → covers (get_or ts k t) x ≡ true →
+    number_of ts x ≡ list_at_place t.place
+number_read ts seen x k t same is order lt e = number_of-entry ts x k t order lt e ∙ ap (λ us. list_at_place (get_or us k t).place) (sym same) ∙ ap (λ (u : Entry). list_at_place u.place) (sym is)
 
 pub numbered_place : (p : Place) → is_some (list_at_place p) ≡ true → ((n : ℕ) → p ≡ In n → ⊥) → ⊥
 numbered_place Waits e other = true≢false (sym e)

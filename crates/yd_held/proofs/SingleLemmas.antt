@@ -81,13 +81,13 @@ only_one [] e = absurd (omega (arith, e))
 only_one (at ∷ []) e = refl
 only_one (at ∷ k ∷ ks) e = absurd (omega (arith, e))
 
-pub came_alone : (k : HeldValue) (order : List ℕ) (from count : ℕ) (d : Entry) → length (filter (is_of_first from) k.received.entries) ≡ count → length k.received.runs - from ≡ 1 →
-    length k.received.entries - count ≡ 1 → Each (λ at. at < length k.received.entries) order → length order ≡ 1 → (get_or k.received.entries (get_or order 0 0) d).run ≡ from →
+pub came_alone : (k : HeldValue) (order : List ℕ) (from count : ℕ) (t : Entry) → t ≡ get_or k.received.entries (get_or order 0 0) t → length (filter (is_of_first from) k.received.entries) ≡ count → length k.received.runs - from ≡ 1 →
+    length k.received.entries - count ≡ 1 → Each (λ at. at < length k.received.entries) order → length order ≡ 1 → t.run ≡ from →
     CameAlone order k (get_or order 0 0)
-came_alone k order from count d were one_run one_more within one last = record {
+came_alone k order from count t is were one_run one_more within one last = record {
   order_is = only_one order one;
-  single = single_at k.received.runs k.received.entries (get_or order 0 0) from count d were one_run one_more
-      (each_at (λ at. at < length k.received.entries) order 0 0 within (omega (arith, one))) last;
+  single = single_at k.received.runs k.received.entries (get_or order 0 0) from count t were one_run one_more
+      (each_at (λ at. at < length k.received.entries) order 0 0 within (omega (arith, one))) (ap (λ (u : Entry). u.run) (sym is) ∙ last);
 }
 
 -- the entries of the first runs are as many while others are held

@@ -1,9 +1,9 @@
 -- One client is tried: its next units are ready, or what they lack is noted, or it has none.
 use Rattle.std.proofs.Common.{◌≡◌, ◌≢◌, ℕ, zero, suc, ◌+◌, ◌<◌, true, false, List, [], ◌∷◌, ◌++◌, inl, inr, Option, Some, None, length, take, get_or, sym, ap, ◌∙◌, subst, arith}
 use Rattle.std.specs.Prelude.{HoldsAt, IfSome, IfNone, MatchOption, slice_get}
-use Rattle.std.proofs.lemmas.List.{get_or_default, take_more}
+use Rattle.std.proofs.lemmas.List.{get_or_default}
 use Rattle.yd_words.specs.Each.{Each}
-use Rattle.yd_words.proofs.EachLemmas.{each_weaker, each_append}
+use Rattle.yd_words.proofs.EachLemmas.{each_weaker}
 use Rattle.yd_words.proofs.OptionLemmas.{some_is}
 use Rattle.yd_ids.specs.declared.id.Client.{Client}
 use Rattle.yd_ids.specs.declared.id.Id.{Id}
@@ -19,6 +19,7 @@ use Rattle.yd_held.specs.Readiness.{lack_of, is_ready}
 use Rattle.yd_held.specs.Noted.{with_lack, AreNoted, AreMissing, Finds}
 use Rattle.yd_words.specs.Member.{IsIn}
 use Rattle.yd_held.specs.Trying.{Tries, IsNext, AreWaiting}
+use Rattle.yd_held.proofs.WalkLemmas.{each_came}
 use Rattle.yd_held.proofs.NotedLemmas.{lacks_nothing, noted_among, noted_without, noted_more, missing_with}
 
 -- ---- clients of runs
@@ -53,11 +54,10 @@ got_in (y ∷ ys) zero x e = inl (sym (some_is y x e))
 got_in (y ∷ ys) (suc n) x e = inr (got_in ys n x e)
 
 -- the client of one more entry is among the clients then
-pub entry_more : (ts : List Entry) (k : ℕ) (d : Entry) (clients more : List Client) → k < length ts → Tries (get_or ts k d).id.client clients more →
-    Each (λ (u : Entry). IsIn u.id.client clients) (take k ts) → Each (λ (u : Entry). IsIn u.id.client more) (take (k + 1) ts)
-entry_more ts k d clients more lt tries each = subst (Each (λ (u : Entry). IsIn u.id.client more)) (sym (take_more ts k d lt))
-    (each_append (λ (u : Entry). IsIn u.id.client more) (take k ts) (get_or ts k d ∷ [])
-    (each_stays (λ (u : Entry). u.id.client) (take k ts) clients more tries.stay each) (tries.here, tt))
+pub entry_more : (ts : List Entry) (t : Entry) (clients more : List Client) → Tries t.id.client clients more →
+    Each (λ (u : Entry). IsIn u.id.client clients) ts → Each (λ (u : Entry). IsIn u.id.client more) (ts ++ t ∷ [])
+entry_more ts t clients more tries each = each_came (λ (u : Entry). IsIn u.id.client more) ts t
+    (each_stays (λ (u : Entry). u.id.client) ts clients more tries.stay each) tries.here
 
 -- ---- the next units of a client
 
@@ -73,6 +73,12 @@ next_is vector client clock ts (Some at) e found none = (
 )
 
 -- ---- the client that is tried
+
+-- what the entry that is read lacks
+pub lack_read : (vector : List (Client × ℕ)) (runs runs_seen : List Run) (ts seen : List Entry) (at : ℕ) (t : Entry) (z : Option Id) → runs_seen ≡ runs → seen ≡ ts → t ≡ get_or seen at t →
+    lack_of vector runs_seen t ≡ z → lack_of vector runs (get_or ts at t) ≡ z
+lack_read vector runs runs_seen ts seen at t z same_runs same is lacked =
+    ap (λ rs. lack_of vector rs (get_or ts at t)) (sym same_runs) ∙ ap (λ us. lack_of vector runs_seen (get_or us at t)) (sym same) ∙ ap (lack_of vector runs_seen) (sym is) ∙ lacked
 
 module _ (vector : List (Client × ℕ)) (runs : List Run) (ts : List Entry) (each : Each (IsTakenOf runs) ts) (order : AreInOrder ts) (waiting : AreWaiting vector ts)
     (lacks : List Lack) (tries rest : List Client) (client : Client) (popped : tries ≡ rest ++ client ∷ []) (noted : AreNoted vector runs lacks tries ts) where

@@ -19,8 +19,8 @@ KeepsNumbers true old new = Unit {0}
 -- what was received before: the first runs, with what was taken of them, or with the entries that were kept
 abbrev pub received_before : Kept → ℕ → List (Client × ℕ) → ReceivedValue → ReceivedValue
 received_before (Count lists) runs vector r = put_back runs vector r
-received_before (Entries entries lists) runs vector r = put_back_entries runs entries.items r
-received_before (All entries lists) runs vector r = put_back_entries runs entries.items r
+received_before (Entries entries lists) runs vector r = put_back_entries runs entries r
+received_before (All entries lists) runs vector r = put_back_entries runs entries r
 
 -- the names that there were: the first ones, or those that were kept
 abbrev pub names_before : Kept → List DocList → List DocList

@@ -29,7 +29,7 @@ use std::mem;
 use yd_ids::Vector;
 use yd_names::Names;
 use yd_ops::Update;
-use yd_received::{Brought, Entry};
+use yd_received::{Brought, Entries};
 
 /// What a change of what is held did.
 #[derive(Drop)]
@@ -132,7 +132,7 @@ fn single_of(held: &HeldParts, from: usize, count: usize, order: &[usize]) -> Op
         return None;
     }
     let at = order[0];
-    if entries[at].run != from {
+    if entries.get(at).run != from {
         return None;
     }
     Some(at)
@@ -167,7 +167,7 @@ fn hold_new(held: &mut HeldParts, from: usize) -> Result<Vec<usize>, NoMemory>
 }
 
 /// Lets all wait, and puts aside which lists there are and what is lacked.
-fn set_aside(held: &mut HeldParts, before: &mut Before, entries: Vec<Entry>)
+fn set_aside(held: &mut HeldParts, before: &mut Before, entries: Entries)
     ensures held { held_value held.new ≡ record {
       received = all_waiting held.old.received;
       vector = [];

@@ -7,7 +7,7 @@ ghost use Rattle.yd_entries.specs.Entries.{covers};
 ghost use Rattle.yd_entries.specs.Taking.{is_covered};
 
 use yd_ids::{Id, is_same};
-use yd_received::{Entry, Received};
+use yd_received::{Entries, Entry, Received};
 
 /// Places of entries, at which it is looked first.
 #[derive(Clone, Copy)]
@@ -39,11 +39,11 @@ pub(crate) fn find(received: &Received, id: Id, near: Near) -> usize
 }
 
 /// An entry is at the place, and its units have the id.
-fn has_at(entries: &[Entry], at: usize, id: Id) -> bool
+fn has_at(entries: &Entries, at: usize, id: Id) -> bool
     ensures inside { OnTrue result (at < length entries.now) }
     ensures covers { OnTrue result (HoldsAt (λ t. covers t id ≡ true) entries.now at) }
 {
-    at < entries.len() && covers(entries[at], id)
+    at < entries.len() && covers(entries.get(at), id)
 }
 
 /// The id is that of one of the units.
@@ -65,7 +65,7 @@ pub(crate) fn find_start(received: &Received, id: Id, near: Near) -> Option<usiz
 {
     let entries = received.entries();
     let next = near.first.saturating_add(1);
-    if next < entries.len() && is_same(entries[next].id, id) {
+    if next < entries.len() && is_same(entries.get(next).id, id) {
         return Some(next);
     }
     received.entry_at(id)

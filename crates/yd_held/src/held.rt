@@ -171,7 +171,7 @@ impl Held {
 
     /// Joins an entry to the one before it, where both are texts in one list, and it goes on where the
     /// run of the other ends. No operation changes, and what is held stays so. It takes time with the
-    /// number of units that are appended, and of entries that stand behind. Where memory ends nothing
+    /// number of units that are appended, and moves entries of one piece. Where memory ends nothing
     /// has changed. After it, what an earlier `take` gave puts nothing back.
     pub fn join(&mut self, at: usize)
         requires { IsSingleOf self.old.received at }

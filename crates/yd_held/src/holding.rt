@@ -16,7 +16,7 @@ use crate::parts::HeldParts;
 use crate::placing::place_for;
 use crate::trying::next_ready;
 use yd_ids::Client;
-use yd_received::Entry;
+use yd_received::Entries;
 
 /// Holds what can be held, where these clients are to be tried, and gives the numbers of the entries
 /// that became held, in the order in which they did. Where memory ends, names may have been added and
@@ -43,13 +43,13 @@ pub(crate) fn hold_all(held: &mut HeldParts, tries: Vec<Client>) -> Result<Vec<u
     )? {
         order.push(at)?;
         hold_at(held, at, &mut near)?;
-        wake(&mut held.lacks, &mut tries, held.received.entries()[at])?;
+        wake(&mut held.lacks, &mut tries, held.received.entries().get(at))?;
     }
     Ok(order)
 }
 
 /// What comes one after another is next at the end, so this is near.
-fn near_end(entries: &[Entry]) -> Near {
+fn near_end(entries: &Entries) -> Near {
     let last = entries.len().saturating_sub(1);
     Near {
         first: last.saturating_sub(1),
@@ -75,7 +75,7 @@ fn hold_at(held: &mut HeldParts, at: usize, near: &mut Near) -> Result<(), NoMem
         × (held.new.vector ≡ held.old.vector)) }
     ensures grows { GrowBy held.old.names held.new.names }
 {
-    let entry = held.received.entries()[at];
+    let entry = held.received.entries().get(at);
     let place = place_for(&held.received, &mut held.names, entry, near)?;
     held.vector
         .raise(entry.id.client, entry.id.clock + entry.len)?;

@@ -9,7 +9,7 @@ use crate::fault::NoMemory;
 use crate::noting::Lack;
 use yd_ids::Vector;
 use yd_names::Names;
-use yd_received::{Entry, Received};
+use yd_received::{Entries, Received};
 
 /// What was received, and what is held of it, while it changes.
 #[derive(Drop)]
@@ -44,9 +44,9 @@ pub enum Kept {
     Count(usize),
     /// What was held stays held, and less is told of some entries: so these are kept, and how many
     /// lists there were.
-    Entries(Vec<Entry>, usize),
+    Entries(Entries, usize),
     /// All is held anew, so the entries are kept, and the lists.
-    All(Vec<Entry>, Names),
+    All(Entries, Names),
 }
 
 impl HeldParts {

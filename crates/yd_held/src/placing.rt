@@ -78,7 +78,7 @@ fn stand_of(received: &Received, id: Option<Id>, near: &mut Near) -> Stand
         return Stand::Absent;
     };
     near.first = find(received, id, *near);
-    match received.entries()[near.first].place {
+    match received.entries().get(near.first).place {
         Place::In(number) => Stand::In(number),
         _ => Stand::Lost,
     }

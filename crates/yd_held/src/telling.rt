@@ -10,14 +10,14 @@ ghost use Rattle.yd_held.specs.Telling.{is_gone_listed, is_held_less, AreHeldLes
 
 use crate::fault::NoMemory;
 use std::alloc::Global;
-use yd_received::{Entry, Place};
+use yd_received::{Entries, Entry, Place};
 
 /// Units that are in a list are gone.
-pub(crate) fn loses_one(entries: &[Entry]) -> bool
+pub(crate) fn loses_one(entries: &Entries) -> bool
     ensures one { OnTrue result ((t : Entry) × IsIn t entries.now × (is_gone_listed t ≡ true)) }
     ensures none { OnFalse result (Each (λ t. is_gone_listed t ≡ false) entries.now) }
 {
-    for entry in entries {
+    for entry in entries.iter() {
         if entry.is_gone && is_listed(entry.place) {
             return true;
         }
@@ -28,17 +28,21 @@ pub(crate) fn loses_one(entries: &[Entry]) -> bool
 /// The numbers of the entries that are held, and gone or of a run from one on.
 pub(crate) fn held_less(
     alloc: Global,
-    entries: &[Entry],
+    entries: &Entries,
     from: usize,
 ) -> Result<Vec<usize>, NoMemory>
     ensures { IfOk result (λ told.
         AreHeldLess from entries.now (length entries.now) told.items) }
 {
     let mut told = Vec::new(alloc);
-    for at in 0..entries.len() {
-        if is_held_less(entries[at], from) {
+    // No more places than entries come.
+    let _count = entries.len();
+    let mut at = 0;
+    for entry in entries.iter() {
+        if is_held_less(entry, from) {
             told.push(at)?;
         }
+        at += 1;
     }
     Ok(told)
 }

@@ -19,7 +19,7 @@ use crate::readiness::lack_of;
 use std::alloc::Global;
 use yd_ids::{Client, Id, Vector};
 use yd_ops::Run;
-use yd_received::{Entry, Received};
+use yd_received::{Entries, Received};
 
 /// No client has this number or a greater one.
 const CLIENTS_END: u64 = 1 << 53;
@@ -42,12 +42,12 @@ pub(crate) fn clients_from(
 }
 
 /// The clients of the entries, each of a row of entries once.
-pub(crate) fn clients_of(alloc: Global, entries: &[Entry]) -> Result<Vec<Client>, NoMemory>
+pub(crate) fn clients_of(alloc: Global, entries: &Entries) -> Result<Vec<Client>, NoMemory>
     ensures { IfOk result (λ clients.
         Each (λ (t : Entry). IsIn t.id.client clients.items) entries.now) }
 {
     let mut clients = Vec::new(alloc);
-    for entry in entries {
+    for entry in entries.iter() {
         try_client(&mut clients, entry.id.client)?;
     }
     Ok(clients)
@@ -96,7 +96,7 @@ pub(crate) fn next_ready(
     let entries = received.entries();
     while let Some(client) = tries.pop() {
         if let Some(at) = next_of(received, vector, client, near) {
-            let entry = entries[at];
+            let entry = entries.get(at);
             match lack_of(received.runs(), vector, entry) {
                 None => return Ok(Some(at)),
                 Some(id) => note(lacks, Lack { id, client })?,

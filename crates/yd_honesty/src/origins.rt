@@ -21,7 +21,7 @@ pub(crate) fn origins_of(received: &Received, id: Id) -> Origins
     requires listed { has_operation (listed_of received.now) id ≡ true }
     ensures { AreOrigins received.now id result.left result.right }
 {
-    let entry = received.entries()[received.entry_of(id)];
+    let entry = received.entries().get(received.entry_of(id));
     Origins {
         left: left_of(entry, id),
         right: entry.right,

@@ -95,7 +95,7 @@ fn note_entry(
     ensures { IfOk result (λ grew.
         PassesEntry received.now pasts.old.items pasts.new.items at grew) }
 {
-    let entry = received.entries()[at];
+    let entry = received.entries().get(at);
     if !is_held(entry) {
         return Ok(false);
     }

@@ -160,8 +160,16 @@ module _ (s : StateValue) (sound : IsSound s) (x : Id) where
 
   -- so it has the kind of the entry that was found
   pub kind_found : (r : ReceivedValue) → r ≡ s.held.received → (runs : List Run) (entries : List Entry) → runs ≡ r.runs → entries ≡ r.entries →
-      (at : ℕ) → at < length r.entries → (get_or r.entries at no_entry).id ≡ x →
-      kind_where (stands_in (received_in s)) x ≡ kind_told runs (get_or entries at no_entry)
-  kind_found r same runs entries e f at inside is = rw (e, f) (subst (λ (q : ReceivedValue). at < length q.entries → (get_or q.entries at no_entry).id ≡ x →
-      kind_where (stands_in (received_in s)) x ≡ kind_told q.runs (get_or q.entries at no_entry)) (sym same)
-      (λ lt own. kind_at (get_or s.held.received.entries at no_entry) (entry_at s.held.received.entries at no_entry lt) own) inside is)
+      (at : ℕ) (t : Entry) → t ≡ get_or entries at t → at < length r.entries → (get_or r.entries at t).id ≡ x →
+      kind_where (stands_in (received_in s)) x ≡ kind_told runs t
+  kind_found r same runs entries e f at t found inside is = subst (λ rs. kind_where (stands_in (received_in s)) x ≡ kind_told rs t) (sym (e ∙ ap (λ (q : ReceivedValue). q.runs) same))
+      (kind_at t (subst (λ u. IsIn u s.held.received.entries) (sym there) (entry_at s.held.received.entries at t lt)) (ap (λ (u : Entry). u.id) own ∙ is))
+    where
+      own : t ≡ get_or r.entries at t
+      own = found ∙ ap (λ ts. get_or ts at t) f
+
+      there : t ≡ get_or s.held.received.entries at t
+      there = own ∙ ap (λ (q : ReceivedValue). get_or q.entries at t) same
+
+      lt : at < length s.held.received.entries
+      lt = subst (λ (q : ReceivedValue). at < length q.entries) same inside

@@ -20,7 +20,7 @@ pub fn kind_of(state: &State, id: Id) -> Option<&Kind>
 {
     let received = state.received();
     let at = received.entry_at(id)?;
-    kind_told(received.runs(), received.entries()[at])
+    kind_told(received.runs(), received.entries().get(at))
 }
 
 /// The kind that the entry's units are told to be. There is one unit then.

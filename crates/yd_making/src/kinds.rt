@@ -19,7 +19,7 @@ pub(crate) fn has_type(received: &Received, id: Id) -> bool
     let entries = received.entries();
     match received.entry_at(id) {
         None => false,
-        Some(at) => holds_type(received.runs(), entries[at]),
+        Some(at) => holds_type(received.runs(), entries.get(at)),
     }
 }
 

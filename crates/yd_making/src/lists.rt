@@ -50,5 +50,5 @@ fn place_of(received: &Received, id: Id) -> Place
     requires { is_covered received.now.entries id ≡ true }
     ensures { IsPlaceOf received.now id result }
 {
-    received.entries()[received.entry_of(id)].place
+    received.entries().get(received.entry_of(id)).place
 }

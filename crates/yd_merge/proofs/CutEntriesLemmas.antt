@@ -1,7 +1,7 @@
 -- What a cut by a vector leaves of entries: parts of them, in the order of writing.
 use Rattle.std.specs.Prelude.{filter, nat_lt, if◌then◌else◌}
-use Rattle.std.proofs.Common.{◌≡◌, ℕ, zero, suc, ◌+◌, ◌<◌, ◌≤◌, Bool, true, false, List, [], ◌∷◌, ◌++◌, inl, inr, map, drop, length, get_or, refl, sym, ap, ap₂, ◌∙◌, subst, arith, tests}
-use Rattle.std.proofs.lemmas.List.{drop_all, drop_more, map-append}
+use Rattle.std.proofs.Common.{◌≡◌, ℕ, zero, suc, ◌+◌, ◌<◌, ◌≤◌, Bool, true, false, List, [], ◌∷◌, ◌++◌, inl, inr, map, refl, sym, ap, ap₂, ◌∙◌, subst, arith, tests}
+use Rattle.std.proofs.lemmas.List.{map-append}
 use Rattle.std.proofs.lemmas.List.Elements.{filter-append}
 use Rattle.yd_words.specs.Each.{Each}
 use Rattle.yd_words.specs.Member.{IsIn}
@@ -111,27 +111,23 @@ pub pushed-append : (built : Built) (groups others : List Group) → all_pushed 
 pushed-append built [] others = refl
 pushed-append built (group ∷ groups) others = pushed-append (with_pushed built group) groups others
 
-pub cut_next : (runs : List Run) (vector : ℕ → ℕ) (ts : List Entry) (i : ℕ) (d : Entry) (clock : ℕ) (old new : Built) → i < length ts →
-    clock ≡ vector (get_or ts i d).id.client.0 → new ≡ all_pushed old (map (group_of_entry runs) (cut_entry runs clock (get_or ts i d))) →
-    all_pushed new (map (group_of_entry runs) (cut_entries runs vector (drop (i + 1) ts))) ≡ all_pushed old (map (group_of_entry runs) (cut_entries runs vector (drop i ts)))
-cut_next runs vector ts i d clock old new lt at e =
-    ap (λ b. all_pushed b rest) (e ∙ ap (λ k. all_pushed old (map (group_of_entry runs) (cut_entry runs k t))) at)
-    ∙ sym (pushed-append old (map (group_of_entry runs) (cut_entry runs (vector t.id.client.0) t)) rest)
-    ∙ ap (all_pushed old) (sym (map-append (group_of_entry runs) (cut_entry runs (vector t.id.client.0) t) (cut_entries runs vector (drop (i + 1) ts))))
-    ∙ ap (λ us. all_pushed old (map (group_of_entry runs) (cut_entries runs vector us))) (sym (drop_more ts i d lt))
+pub cut_next : (runs : List Run) (vector : ℕ → ℕ) (t : Entry) (seen rest : List Entry) (clock : ℕ) (old new : Built) → seen ≡ t ∷ rest →
+    clock ≡ vector t.id.client.0 → new ≡ all_pushed old (map (group_of_entry runs) (cut_entry runs clock t)) →
+    all_pushed new (map (group_of_entry runs) (cut_entries runs vector rest)) ≡ all_pushed old (map (group_of_entry runs) (cut_entries runs vector seen))
+cut_next runs vector t seen rest clock old new next at e =
+    ap (λ b. all_pushed b left) (e ∙ ap (λ k. all_pushed old (map (group_of_entry runs) (cut_entry runs k t))) at)
+    ∙ sym (pushed-append old (map (group_of_entry runs) (cut_entry runs (vector t.id.client.0) t)) left)
+    ∙ ap (all_pushed old) (sym (map-append (group_of_entry runs) (cut_entry runs (vector t.id.client.0) t) (cut_entries runs vector rest)))
+    ∙ ap (λ us. all_pushed old (map (group_of_entry runs) (cut_entries runs vector us))) (sym next)
   where
-    t : Entry
-    t = get_or ts i d
+    left : List Group
+    left = map (group_of_entry runs) (cut_entries runs vector rest)
 
-    rest : List Group
-    rest = map (group_of_entry runs) (cut_entries runs vector (drop (i + 1) ts))
-
--- at the end no entry is left
-pub all_cut : (runs : List Run) (vector : ℕ → ℕ) (ts : List Entry) (i : ℕ) (built : Built) (deletes : List Span) → AreTaken runs ts → length ts ≤ i →
-    all_pushed built (map (group_of_entry runs) (cut_entries runs vector (drop i ts))) ≡ all_pushed nothing_built (map (group_of_entry runs) (cut_entries runs vector ts)) →
+pub all_cut : (runs : List Run) (vector : ℕ → ℕ) (ts rest : List Entry) (built : Built) (deletes : List Span) → AreTaken runs ts → rest ≡ [] →
+    all_pushed built (map (group_of_entry runs) (cut_entries runs vector rest)) ≡ all_pushed nothing_built (map (group_of_entry runs) (cut_entries runs vector ts)) →
     finished built deletes ≡ grouping_of (cut_of (operations_in runs ts) vector) deletes
-all_cut runs vector ts i built deletes taken le e =
-    ap (λ b. finished b deletes) (sym (ap (λ us. all_pushed built (map (group_of_entry runs) (cut_entries runs vector us))) (drop_all i ts le)) ∙ e)
+all_cut runs vector ts rest built deletes taken none e =
+    ap (λ b. finished b deletes) (sym (ap (λ us. all_pushed built (map (group_of_entry runs) (cut_entries runs vector us))) none) ∙ e)
     ∙ writes runs (cut_entries runs vector ts) deletes (cut_taken runs vector ts taken.each) (cut_in_order runs vector ts taken.each taken.in_order)
     ∙ ap (λ os. grouping_of os deletes) (cut_operations runs vector (operations_in runs ts) (paired_has (operations_in runs ts) taken.paired) ts taken.each (λ o i. i))
 

@@ -1,7 +1,7 @@
 -- Entries as groups: they have the entries' operations, and can be grouped.
 use Rattle.std.proofs.Common.{◌≡◌, ℕ, ◌+◌, ◌<◌, ◌≤◌, Bool, true, false, List, [], ◌∷◌, ◌++◌, Option, Some, None, map, take, drop, length, get_or, refl, sym, ap, ap₂, ◌∙◌, subst, arith}
 use Rattle.std.specs.Prelude.{IfSome, slice_get}
-use Rattle.std.proofs.lemmas.List.{drop_all, drop_more, length-take-le, length-drop}
+use Rattle.std.proofs.lemmas.List.{drop_more, length-take-le, length-drop}
 use Rattle.yd_words.specs.Each.{Each}
 use Rattle.yd_ids.specs.declared.id.Id.{Id}
 use Rattle.yd_ids.specs.declared.id.Span.{Span}
@@ -108,8 +108,8 @@ writes runs ts deletes each order = builder_groups (map (group_of_entry runs) ts
     ∙ ap (λ os. grouping_of os deletes) (entries-operations runs ts each)
 
 -- at the end no entry is left
-pub all_written : (runs : List Run) (ts : List Entry) (i : ℕ) (built : Built) (deletes : List Span) → Each (IsTakenOf runs) ts → AreInOrder ts → length ts ≤ i →
-    all_pushed built (map (group_of_entry runs) (drop i ts)) ≡ all_pushed nothing_built (map (group_of_entry runs) ts) →
+pub all_written : (runs : List Run) (ts rest : List Entry) (built : Built) (deletes : List Span) → Each (IsTakenOf runs) ts → AreInOrder ts → rest ≡ [] →
+    all_pushed built (map (group_of_entry runs) rest) ≡ all_pushed nothing_built (map (group_of_entry runs) ts) →
     finished built deletes ≡ grouping_of (operations_in runs ts) deletes
-all_written runs ts i built deletes each order le e = ap (λ b. finished b deletes) (sym (ap (λ us. all_pushed built (map (group_of_entry runs) us)) (drop_all i ts le)) ∙ e)
+all_written runs ts rest built deletes each order none e = ap (λ b. finished b deletes) (sym (ap (λ us. all_pushed built (map (group_of_entry runs) us)) none) ∙ e)
     ∙ writes runs ts deletes each order

@@ -24,7 +24,7 @@ use std::alloc::Global;
 use yd_building::Builder;
 use yd_ids::{Id, IdSet, Vector};
 use yd_ops::{Content, Run, Update};
-use yd_received::{Entry, Received};
+use yd_received::{Entries, Entry, Received};
 
 /// What an update says from a vector on, and all its deletions, as one grouped update (Yjs 13,
 /// diffUpdate; that it keeps pairs whole is own): the operations whose clock is not below their
@@ -106,7 +106,7 @@ pub fn write_cut(
 fn cut_entries(
     alloc: Global,
     runs: &[Run],
-    entries: &[Entry],
+    entries: &Entries,
     vector: &Vector,
     deletes: IdSet,
 ) -> Result<Update, NoMemory>
@@ -115,9 +115,9 @@ fn cut_entries(
         ≡ grouping_of (cut_of (operations_in runs.now entries.now) (clock_of vector.now)) deletes) }
 {
     let mut builder = Builder::new(alloc);
-    for entry in entries {
+    for entry in entries.iter() {
         let clock = vector.get(entry.id.client);
-        push_cut(alloc, &mut builder, runs, *entry, clock)?;
+        push_cut(alloc, &mut builder, runs, entry, clock)?;
     }
     let update = builder.finish(deletes)?;
     Ok(update)

@@ -17,7 +17,7 @@ use std::alloc::Global;
 use yd_building::Builder;
 use yd_ids::IdSet;
 use yd_ops::{Run, Update};
-use yd_received::Entry;
+use yd_received::Entries;
 
 /// The grouped update of what is lent, with these deletions, in time of the units that are told.
 pub fn write_lent(alloc: Global, lents: &[Lent<'_>], deletes: IdSet) -> Result<Update, NoMemory>
@@ -38,7 +38,7 @@ pub fn write_lent(alloc: Global, lents: &[Lent<'_>], deletes: IdSet) -> Result<U
 pub fn written(
     alloc: Global,
     runs: &[Run],
-    entries: &[Entry],
+    entries: &Entries,
     deletes: IdSet,
 ) -> Result<Update, NoMemory>
     requires each { Each (IsTakenOf runs.now) entries.now }
@@ -47,8 +47,8 @@ pub fn written(
         ≡ grouping_of (operations_in runs.now entries.now) deletes) }
 {
     let mut builder = Builder::new(alloc);
-    for entry in entries {
-        builder.push(group_of(alloc, runs, *entry)?)?;
+    for entry in entries.iter() {
+        builder.push(group_of(alloc, runs, entry)?)?;
     }
     let update = builder.finish(deletes)?;
     Ok(update)

@@ -1,6 +1,5 @@
 -- Entries are kept aside only where one of the operations says less than one that was there.
 use Rattle.std.proofs.Common.{◌≡◌, ◌<◌, ◌≤◌, ◌⊎◌, true, List, [], ◌∷◌, ◌++◌, Option, Some, None, inl, inr, refl, sym, ap, ◌∙◌, subst, arith, append_assoc}
-use Rattle.std.specs.Global.{Vec}
 use Rattle.yd_words.specs.Member.{IsIn}
 use Rattle.yd_words.proofs.MemberLemmas.{in_left_part, in_right_part, in_parts}
 use Rattle.yd_ops.specs.Operation.{Operation, level_of}
@@ -85,11 +84,11 @@ lowers_received (q ∷ os) received o p (inr i) j id less =
 
 -- ---- what is kept aside
 
-pub keeps_none : (kept : Option (Vec Entry)) (os received : List Operation) → KeepsToLower kept kept os received
+pub keeps_none : (kept : Option (List Entry)) (os received : List Operation) → KeepsToLower kept kept os received
 keeps_none None os received = tt
 keeps_none (Some before) os received = tt
 
-pub keeps_more : (k l m : Option (Vec Entry)) (os ps received there : List Operation) → ((q : Operation) → IsIn q there → HasSource (received ++ os) q) →
+pub keeps_more : (k l m : Option (List Entry)) (os ps received there : List Operation) → ((q : Operation) → IsIn q there → HasSource (received ++ os) q) →
     KeepsToLower k l os received → KeepsToLower l m ps there → KeepsToLower k m (os ++ ps) received
 keeps_more (Some before) l m os ps received there from first next = tt
 keeps_more None l None os ps received there from first next = tt

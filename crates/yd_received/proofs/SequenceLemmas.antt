@@ -2,7 +2,6 @@
 use Rattle.std.proofs.Common.{◌≡◌, ◌↔◌, ℕ, zero, suc, ◌+◌, ◌<◌, Bool, true, false, ◌||◌, List, [], ◌∷◌, ◌++◌, Option, length, take, map, get_or, inl, inr, refl, sym, ap, ap₂, ◌∙◌, subst, arith, append-nil, append_assoc, true≢false}
 use Rattle.std.specs.Prelude.{IsTrue}
 use Rattle.std.specs.Bool.{OnFalse}
-use Rattle.std.specs.Global.{Vec}
 use Rattle.std.proofs.lemmas.List.{map_more}
 use Rattle.yd_words.specs.Member.{IsIn}
 use Rattle.yd_words.proofs.MemberLemmas.{in_left_part, in_right_part, in_parts}
@@ -182,7 +181,7 @@ structs_all : (client : Client) (clock : ℕ) (ss : List StructValue) → all_of
 structs_all client clock ss = ap all_of (sym (append-nil (groups_of_structs client clock ss))) ∙ groups_all (record { client = client; clock = clock; structs = ss } ∷ [])
     ∙ append-nil (operations_of_structs client clock ss)
 
-module _ (a b : List Run) (x y : List Entry) (s : Bool) (k l m : Option (Vec Entry)) (are : AreTaken a x) where
+module _ (a b : List Run) (x y : List Entry) (s : Bool) (k l m : Option (List Entry)) (are : AreTaken a x) where
   keeps_next : (gs : List (List Operation)) (os ps : List Operation) → all_of gs ≡ os → IsTakenIn a x b y gs os s →
       KeepsToLower k l os (operations_in a x) → KeepsToLower l m ps (operations_in b y) → KeepsToLower k m (os ++ ps) (operations_in a x)
   keeps_next gs os ps all first kept next = keeps_more k l m os ps (operations_in a x) (operations_in b y) from kept next

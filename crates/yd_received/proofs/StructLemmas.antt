@@ -2,7 +2,6 @@
 use Rattle.std.proofs.Common.{◌≡◌, ◌↔◌, Bool, true, false, ◌||◌, List, [], ◌∷◌, length, ◌<◌, Option, Some, None, inl, inr, refl, sym, ap, ◌∙◌, subst, arith, true≢false}
 use Rattle.std.specs.Prelude.{IsTrue}
 use Rattle.std.specs.Bool.{OnTrue, OnFalse}
-use Rattle.std.specs.Global.{Vec}
 use Rattle.std.proofs.lemmas.Bool.{cases_Bool, or_cases, or_left, or_right}
 use Rattle.yd_words.specs.Member.{IsIn}
 use Rattle.yd_ops.specs.declared.runs.Run.{Run}
@@ -175,7 +174,7 @@ module _ (is_gone : Bool) (runs : List Run) (old : List Entry) (run : RunValue) 
       ))
 
   -- entries are kept aside only where it lowers something
-  pub less_keeps : (lowered : Bool) (before now : Option (Vec Entry)) → IsTrue lowered ↔ SaysMore run.id (len_of run.content) (level_from is_gone) (operations_in mid_runs mid) →
+  pub less_keeps : (lowered : Bool) (before now : Option (List Entry)) → IsTrue lowered ↔ SaysMore run.id (len_of run.content) (level_from is_gone) (operations_in mid_runs mid) →
       OnFalse lowered (now ≡ before) → KeepsToLower before now (operations_from_run is_gone run) (operations_in runs old)
   less_keeps lowered (Some before) now more same = tt
   less_keeps lowered None None more same = tt

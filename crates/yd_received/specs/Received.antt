@@ -64,7 +64,7 @@ pub record LowersOne (os received : List Operation) : Type 0 where
 abbrev pub IsBrought : Brought → ReceivedValue → ReceivedValue → Type 0
 IsBrought Nothing old new = new ≡ old
 IsBrought Added old new = OnlyAdds (length old.runs) old.entries new.entries
-IsBrought (Lowered before) old new = before.items ≡ old.entries
+IsBrought (Lowered before) old new = before ≡ old.entries
 
 -- ---- what is held
 

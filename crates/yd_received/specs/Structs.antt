@@ -1,6 +1,5 @@
 -- How structs are taken in, one after another (own).
 use Rattle.std.specs.Prelude.{◌≡◌, ℕ, ◌+◌, Bool, true, false, List, Option, Some, None, filter}
-use Rattle.std.specs.Global.{Vec}
 use Rattle.yd_ids.specs.declared.id.Id.{Id}
 use Rattle.yd_ids.specs.Id.{IsClient, IsClock}
 use Rattle.yd_ops.specs.declared.runs.Run.{Run}
@@ -32,7 +31,7 @@ pub record TakesIn (old_runs : List Run) (old : List Entry) (runs : List Run) (t
   pub places : KeepsPlaces old_runs old runs taken
 
 -- where no entries were kept aside and some are now, one of the operations says less than one that was there
-abbrev pub KeepsToLower : Option (Vec Entry) → Option (Vec Entry) → List Operation → List Operation → Type 0
+abbrev pub KeepsToLower : Option (List Entry) → Option (List Entry) → List Operation → List Operation → Type 0
 KeepsToLower None None os received = Unit {0}
 KeepsToLower None (Some kept) os received = LowersOne os received
 KeepsToLower (Some before) new os received = Unit {0}
@@ -40,13 +39,13 @@ KeepsToLower (Some before) new os received = Unit {0}
 -- ---- the end
 
 -- the entries that were kept aside, if some were, or else these
-abbrev pub kept_of : Option (Vec Entry) → List Entry → List Entry
+abbrev pub kept_of : Option (List Entry) → List Entry → List Entry
 kept_of None taken = taken
-kept_of (Some kept) taken = kept.items
+kept_of (Some kept) taken = kept
 
 -- what an update brought: nothing, or new units; or, where entries were kept aside, less of some, and those of the first
 -- runs are handed out
-abbrev pub IsBroughtBy : ℕ → Option (Vec Entry) → Bool → Brought → Type 0
+abbrev pub IsBroughtBy : ℕ → Option (List Entry) → Bool → Brought → Type 0
 IsBroughtBy count before false result = result ≡ Nothing
 IsBroughtBy count None true result = result ≡ Added
 IsBroughtBy count (Some kept) true result = IsLowered result
@@ -54,4 +53,4 @@ IsBroughtBy count (Some kept) true result = IsLowered result
     IsLowered : Brought → Type 0
     IsLowered Nothing = ⊥
     IsLowered Added = ⊥
-    IsLowered (Lowered entries) = entries.items ≡ filter (is_of_first count) kept.items
+    IsLowered (Lowered entries) = entries ≡ filter (is_of_first count) kept

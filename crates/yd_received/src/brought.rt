@@ -1,6 +1,6 @@
 //! What taking in an update did.
 
-use yd_entries::Entry;
+use yd_entries::Entries;
 
 /// What taking in an update did.
 #[derive(Drop)]
@@ -11,5 +11,5 @@ pub enum Brought {
     Added,
     /// It says less of an id that was there, or that came earlier in the update itself. These were
     /// the entries.
-    Lowered(Vec<Entry>),
+    Lowered(Entries),
 }

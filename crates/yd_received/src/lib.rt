@@ -23,4 +23,4 @@ mod updates;
 
 pub use brought::Brought;
 pub use received::Received;
-pub use yd_entries::{Entry, NoMemory, Place};
+pub use yd_entries::{Entries, Entry, NoMemory, Place};

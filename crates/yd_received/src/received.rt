@@ -18,11 +18,11 @@ ghost use Rattle.yd_entries.specs.Staying.{KeepsPlaces};
 ghost use Rattle.yd_entries.specs.Taking.{is_covered, BringsOperation};
 
 use crate::brought::Brought;
-use crate::restoring::{keep_first, let_wait, undo_holding};
+use crate::restoring::{let_wait, undo_holding};
 use crate::updates::take_update;
 use std::alloc::Global;
 use std::marker::Model;
-use yd_entries::{Entry, NoMemory, Place, entry_at, entry_of, join};
+use yd_entries::{Entries, Entry, NoMemory, Place, entry_at, entry_of, join};
 use yd_ids::{Id, Vector};
 use yd_ops::{Run, Update};
 
@@ -31,7 +31,7 @@ use yd_ops::{Run, Update};
 #[derive(Drop)]
 pub struct Received {
     runs: Vec<Run>,
-    entries: Vec<Entry>,
+    entries: Entries,
 }
 
 impl Model for Received {
@@ -46,12 +46,12 @@ impl Model for Received {
 
     ghost view = { λ it. record {
       runs = it.runs.items;
-      entries = it.entries.items;
+      entries = it.entries;
     } };
 
     ghost invariant = { λ it. IsReceived (record {
       runs = it.runs.items;
-      entries = it.entries.items;
+      entries = it.entries;
     }) };
 }
 
@@ -62,7 +62,7 @@ impl Received {
     {
         Received {
             runs: Vec::new(alloc),
-            entries: Vec::new(alloc),
+            entries: Entries::new(alloc),
         }
     }
 
@@ -75,7 +75,7 @@ impl Received {
     }
 
     /// The entries, in the order of writing.
-    pub fn entries(&self) -> &[Entry]
+    pub fn entries(&self) -> &Entries
         ensures entries { result.now ≡ self.now.entries }
         ensures kept { IsReceived self.now }
     {
@@ -150,8 +150,8 @@ impl Received {
         requires { at < length self.old.entries }
         ensures { GetsPlace at place self.old self.new }
     {
-        let entry = self.entries[at];
-        self.entries[at] = Entry { place, ..entry };
+        let entry = self.entries.get(at);
+        self.entries.set(at, Entry { place, ..entry });
     }
 
     /// Lets all units wait. It takes time with the number of entries.
@@ -163,8 +163,8 @@ impl Received {
 
     /// Joins the entry at a place to the one before it, and says whether it did: where both are texts
     /// in one list, the entry has all units of the last run, and these go on where the run of the
-    /// other ends. It takes time with the number of units that it appends, and of entries that stand
-    /// behind. Where memory ends nothing has changed.
+    /// other ends. It takes time with the number of units that it appends, and moves entries of one
+    /// piece. Where memory ends nothing has changed.
     pub fn join(&mut self, at: usize) -> bool
         requires { IsSingleOf self.old at }
         ensures same { KeepsTold self.old self.new }
@@ -181,14 +181,14 @@ impl Received {
         ensures { self.new ≡ put_back count clocks.now self.old }
     {
         self.runs.truncate(count);
-        keep_first(&mut self.entries, count);
+        self.entries.keep_first(count);
         undo_holding(&mut self.entries, clocks);
     }
 
     /// Puts back the entries that it had when it had the first runs alone.
-    pub fn put_back_entries(&mut self, count: usize, entries: Vec<Entry>)
-        requires { IsReceived (put_back_entries count entries.items self.old) }
-        ensures { self.new ≡ put_back_entries count entries.items self.old }
+    pub fn put_back_entries(&mut self, count: usize, entries: Entries)
+        requires { IsReceived (put_back_entries count entries self.old) }
+        ensures { self.new ≡ put_back_entries count entries self.old }
     {
         self.runs.truncate(count);
         self.entries = entries;

@@ -15,7 +15,7 @@ ghost use Rattle.yd_entries.specs.Taking.{BringsOne, AreUnchanged, IsRun, operat
 ghost use Rattle.yd_received.specs.Structs.{IsStructOf, TakesIn, KeepsToLower, gone_run};
 
 use std::alloc::Global;
-use yd_entries::{Entry, NoMemory, add_run, level_from, lower};
+use yd_entries::{Entries, NoMemory, add_run, level_from, lower};
 use yd_ids::Id;
 use yd_ops::{Block, Content, Run, Struct};
 
@@ -24,25 +24,25 @@ use yd_ops::{Block, Content, Run, Struct};
 pub(crate) fn take_blocks(
     alloc: Global,
     runs: &mut Vec<Run>,
-    taken: &mut Vec<Entry>,
-    before: &mut Option<Vec<Entry>>,
+    taken: &mut Entries,
+    before: &mut Option<Entries>,
     blocks: Vec<Block>,
 ) -> Result<bool, NoMemory>
     requires blocks { Each IsValidBlock (map block_value blocks.items) }
-    requires taken { AreTaken runs.old.items taken.old.items }
-    ensures taken { OnOk result (TakesIn runs.old.items taken.old.items
-        runs.new.items taken.new.items (groups_of_blocks (map block_value blocks.items))) }
+    requires taken { AreTaken runs.old.items taken.old }
+    ensures taken { OnOk result (TakesIn runs.old.items taken.old
+        runs.new.items taken.new (groups_of_blocks (map block_value blocks.items))) }
     ensures brings { IfOk result (λ brings. IsTrue brings
         ↔ BringsOne (operations_of_blocks (map block_value blocks.items))
-        (operations_in runs.old.items taken.old.items)) }
+        (operations_in runs.old.items taken.old)) }
     ensures unchanged { IfOk result (λ brings. OnFalse brings
-        (AreUnchanged runs.old.items taken.old.items runs.new.items taken.new.items)) }
+        (AreUnchanged runs.old.items taken.old runs.new.items taken.new)) }
     ensures lowers { OnOk result (KeepsToLower before.old before.new
         (operations_of_blocks (map block_value blocks.items))
-        (operations_in runs.old.items taken.old.items)) }
+        (operations_in runs.old.items taken.old)) }
     ensures grows { GrowBy runs.old.items runs.new.items }
-    ensures backed { IsBacked (length runs.old.items) before.old taken.old.items
-        before.new taken.new.items }
+    ensures backed { IsBacked (length runs.old.items) before.old taken.old
+        before.new taken.new }
 {
     // As many blocks come as there are.
     let _count = blocks.len();
@@ -62,29 +62,29 @@ pub(crate) fn take_blocks(
 fn take_structs(
     alloc: Global,
     runs: &mut Vec<Run>,
-    taken: &mut Vec<Entry>,
-    before: &mut Option<Vec<Entry>>,
+    taken: &mut Entries,
+    before: &mut Option<Entries>,
     first: Id,
     structs: Vec<Struct>,
 ) -> Result<bool, NoMemory>
     requires client { IsClient first.client }
     requires clock { IsClock first.clock }
     requires structs { AreStructsFrom first.client first.clock (map struct_value structs.items) }
-    requires taken { AreTaken runs.old.items taken.old.items }
-    ensures taken { OnOk result (TakesIn runs.old.items taken.old.items
-        runs.new.items taken.new.items
+    requires taken { AreTaken runs.old.items taken.old }
+    ensures taken { OnOk result (TakesIn runs.old.items taken.old
+        runs.new.items taken.new
         (groups_of_structs first.client first.clock (map struct_value structs.items))) }
     ensures brings { IfOk result (λ brings. IsTrue brings
         ↔ BringsOne (operations_of_structs first.client first.clock (map struct_value structs.items))
-        (operations_in runs.old.items taken.old.items)) }
+        (operations_in runs.old.items taken.old)) }
     ensures unchanged { IfOk result (λ brings. OnFalse brings
-        (AreUnchanged runs.old.items taken.old.items runs.new.items taken.new.items)) }
+        (AreUnchanged runs.old.items taken.old runs.new.items taken.new)) }
     ensures lowers { OnOk result (KeepsToLower before.old before.new
         (operations_of_structs first.client first.clock (map struct_value structs.items))
-        (operations_in runs.old.items taken.old.items)) }
+        (operations_in runs.old.items taken.old)) }
     ensures grows { GrowBy runs.old.items runs.new.items }
-    ensures backed { IsBacked (length runs.old.items) before.old taken.old.items
-        before.new taken.new.items }
+    ensures backed { IsBacked (length runs.old.items) before.old taken.old
+        before.new taken.new }
 {
     // As many structs come as there are.
     let _count = structs.len();
@@ -108,26 +108,26 @@ fn take_structs(
 fn take_struct(
     alloc: Global,
     runs: &mut Vec<Run>,
-    taken: &mut Vec<Entry>,
-    before: &mut Option<Vec<Entry>>,
+    taken: &mut Entries,
+    before: &mut Option<Entries>,
     id: Id,
     entry: Struct,
 ) -> Result<bool, NoMemory>
     requires entry { IsStructOf id (struct_value entry) }
-    requires taken { AreTaken runs.old.items taken.old.items }
-    ensures taken { OnOk result (TakesIn runs.old.items taken.old.items runs.new.items
-        taken.new.items (operations_of_struct id.client id.clock (struct_value entry) ∷ [])) }
+    requires taken { AreTaken runs.old.items taken.old }
+    ensures taken { OnOk result (TakesIn runs.old.items taken.old runs.new.items
+        taken.new (operations_of_struct id.client id.clock (struct_value entry) ∷ [])) }
     ensures brings { IfOk result (λ brings. IsTrue brings
         ↔ BringsOne (operations_of_struct id.client id.clock (struct_value entry))
-        (operations_in runs.old.items taken.old.items)) }
+        (operations_in runs.old.items taken.old)) }
     ensures unchanged { IfOk result (λ brings. OnFalse brings
-        (AreUnchanged runs.old.items taken.old.items runs.new.items taken.new.items)) }
+        (AreUnchanged runs.old.items taken.old runs.new.items taken.new)) }
     ensures lowers { OnOk result (KeepsToLower before.old before.new
         (operations_of_struct id.client id.clock (struct_value entry))
-        (operations_in runs.old.items taken.old.items)) }
+        (operations_in runs.old.items taken.old)) }
     ensures grows { GrowBy runs.old.items runs.new.items }
-    ensures backed { IsBacked (length runs.old.items) before.old taken.old.items
-        before.new taken.new.items }
+    ensures backed { IsBacked (length runs.old.items) before.old taken.old
+        before.new taken.new }
 {
     match entry {
         Struct::Item(run) => {
@@ -160,25 +160,25 @@ fn gone_run(id: Id, count: u64) -> Run
 fn take_run(
     alloc: Global,
     runs: &mut Vec<Run>,
-    taken: &mut Vec<Entry>,
-    before: &mut Option<Vec<Entry>>,
+    taken: &mut Entries,
+    before: &mut Option<Entries>,
     run: Run,
 ) -> Result<bool, NoMemory>
     requires run { IsRun false (run_value run) }
-    requires taken { AreTaken runs.old.items taken.old.items }
-    ensures taken { OnOk result (TakesIn runs.old.items taken.old.items
-        runs.new.items taken.new.items (operations_of_run (run_value run) ∷ [])) }
+    requires taken { AreTaken runs.old.items taken.old }
+    ensures taken { OnOk result (TakesIn runs.old.items taken.old
+        runs.new.items taken.new (operations_of_run (run_value run) ∷ [])) }
     ensures brings { IfOk result (λ brings. IsTrue brings
         ↔ BringsOne (operations_of_run (run_value run))
-        (operations_in runs.old.items taken.old.items)) }
+        (operations_in runs.old.items taken.old)) }
     ensures unchanged { IfOk result (λ brings. OnFalse brings
-        (AreUnchanged runs.old.items taken.old.items runs.new.items taken.new.items)) }
+        (AreUnchanged runs.old.items taken.old runs.new.items taken.new)) }
     ensures lowers { OnOk result (KeepsToLower before.old before.new
         (operations_of_run (run_value run))
-        (operations_in runs.old.items taken.old.items)) }
+        (operations_in runs.old.items taken.old)) }
     ensures grows { GrowBy runs.old.items runs.new.items }
-    ensures backed { IsBacked (length runs.old.items) before.old taken.old.items
-        before.new taken.new.items }
+    ensures backed { IsBacked (length runs.old.items) before.old taken.old
+        before.new taken.new }
 {
     if is_deleted(&run.content) {
         let brings = take_less(alloc, runs, taken, before, run, false)?;
@@ -201,27 +201,27 @@ fn is_deleted(content: &Content) -> bool
 fn take_less(
     alloc: Global,
     runs: &mut Vec<Run>,
-    taken: &mut Vec<Entry>,
-    before: &mut Option<Vec<Entry>>,
+    taken: &mut Entries,
+    before: &mut Option<Entries>,
     run: Run,
     is_gone: bool,
 ) -> Result<bool, NoMemory>
     requires run { IsRun is_gone (run_value run) }
     requires deleted { level_of_content (content_value run.content) ≡ 1 }
-    requires taken { AreTaken runs.old.items taken.old.items }
-    ensures taken { OnOk result (TakesIn runs.old.items taken.old.items
-        runs.new.items taken.new.items (operations_from_run is_gone (run_value run) ∷ [])) }
+    requires taken { AreTaken runs.old.items taken.old }
+    ensures taken { OnOk result (TakesIn runs.old.items taken.old
+        runs.new.items taken.new (operations_from_run is_gone (run_value run) ∷ [])) }
     ensures brings { IfOk result (λ brings. IsTrue brings
         ↔ BringsOne (operations_from_run is_gone (run_value run))
-        (operations_in runs.old.items taken.old.items)) }
+        (operations_in runs.old.items taken.old)) }
     ensures unchanged { IfOk result (λ brings. OnFalse brings
-        (AreUnchanged runs.old.items taken.old.items runs.new.items taken.new.items)) }
+        (AreUnchanged runs.old.items taken.old runs.new.items taken.new)) }
     ensures lowers { OnOk result (KeepsToLower before.old before.new
         (operations_from_run is_gone (run_value run))
-        (operations_in runs.old.items taken.old.items)) }
+        (operations_in runs.old.items taken.old)) }
     ensures grows { GrowBy runs.old.items runs.new.items }
-    ensures backed { IsBacked (length runs.old.items) before.old taken.old.items
-        before.new taken.new.items }
+    ensures backed { IsBacked (length runs.old.items) before.old taken.old
+        before.new taken.new }
 {
     let id = run.id;
     let len = run.len();

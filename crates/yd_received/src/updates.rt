@@ -11,34 +11,33 @@ ghost use Rattle.yd_received.specs.Received.{brings, lowers, LowersOne, IsBrough
 ghost use Rattle.yd_received.specs.Structs.{TakesIn, kept_of, IsBroughtBy};
 
 use crate::brought::Brought;
-use crate::restoring::keep_first;
 use crate::structs::take_blocks;
-use yd_entries::{Entry, NoMemory};
+use yd_entries::{Entries, NoMemory};
 use yd_ops::{Run, Update};
 
 /// Takes in the operations of an update. All units stay at their places. Where memory ends nothing
 /// was taken.
 pub(crate) fn take_update(
     runs: &mut Vec<Run>,
-    taken: &mut Vec<Entry>,
+    taken: &mut Entries,
     update: Update,
 ) -> Result<Brought, NoMemory>
     requires update { IsValidUpdate (update_value update) }
-    requires taken { AreTaken runs.old.items taken.old.items }
-    ensures taken { OnOk result (TakesIn runs.old.items taken.old.items
-        runs.new.items taken.new.items (groups_of (update_value update))) }
+    requires taken { AreTaken runs.old.items taken.old }
+    ensures taken { OnOk result (TakesIn runs.old.items taken.old
+        runs.new.items taken.new (groups_of (update_value update))) }
     ensures brings { IfOk result (λ brought. IsTrue (brings brought)
         ↔ BringsOperation (update_value update)
-        (operations_in runs.old.items taken.old.items)) }
+        (operations_in runs.old.items taken.old)) }
     ensures lowers { IfOk result (λ brought. IsTrue (lowers brought)
         → LowersOne (operations_of (update_value update))
-        (operations_in runs.old.items taken.old.items)) }
+        (operations_in runs.old.items taken.old)) }
     ensures brought { IfOk result (λ brought. IsBrought brought
-        (record { runs = runs.old.items; entries = taken.old.items })
-        (record { runs = runs.new.items; entries = taken.new.items })) }
+        (record { runs = runs.old.items; entries = taken.old })
+        (record { runs = runs.new.items; entries = taken.new })) }
     ensures grows { OnOk result (GrowBy runs.old.items runs.new.items) }
     ensures unchanged { OnErr result
-        (AreUnchanged runs.old.items taken.old.items runs.new.items taken.new.items) }
+        (AreUnchanged runs.old.items taken.old runs.new.items taken.new) }
 {
     let alloc = *runs.allocator();
     let count = runs.len();
@@ -55,7 +54,7 @@ pub(crate) fn take_update(
 
 /// What an update brought, which brings something or nothing. Where it lowered something, what was
 /// kept aside of the first runs is handed out.
-fn brought(before: Option<Vec<Entry>>, count: usize, brings: bool) -> Brought
+fn brought(before: Option<Entries>, count: usize, brings: bool) -> Brought
     ensures { IsBroughtBy count before brings result }
 {
     if !brings {
@@ -64,18 +63,18 @@ fn brought(before: Option<Vec<Entry>>, count: usize, brings: bool) -> Brought
     match before {
         None => Brought::Added,
         Some(mut entries) => {
-            keep_first(&mut entries, count);
+            entries.keep_first(count);
             Brought::Lowered(entries)
         }
     }
 }
 
 /// Puts back what was taken of the first runs.
-fn back(taken: &mut Vec<Entry>, before: Option<Vec<Entry>>, count: usize)
-    ensures { taken.new.items ≡ filter (is_of_first count) (kept_of before taken.old.items) }
+fn back(taken: &mut Entries, before: Option<Entries>, count: usize)
+    ensures { taken.new ≡ filter (is_of_first count) (kept_of before taken.old) }
 {
     if let Some(entries) = before {
         *taken = entries;
     }
-    keep_first(taken, count);
+    taken.keep_first(count);
 }

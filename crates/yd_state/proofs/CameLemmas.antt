@@ -26,7 +26,7 @@ use Rattle.yd_entries.specs.declared.entry.Entry.{Entry}
 use Rattle.yd_entries.specs.declared.place.Place.{Place}
 use Rattle.yd_entries.specs.declared.place.Place.TheVariants.{Waits, Lost, In}
 use Rattle.yd_entries.specs.Entries.{covers, is_held, is_listed, is_listed_at, IsTakenOf}
-use Rattle.yd_entries.proofs.EntryLemmas.{covers_in, no_entry}
+use Rattle.yd_entries.proofs.EntryLemmas.{covers_in}
 use Rattle.yd_entries.proofs.ChangeLemmas.{entry_got}
 use Rattle.yd_received.specs.Received.{held_of, listed_of}
 use Rattle.yd_held.specs.Held.{HeldValue, HoldsAll}
@@ -73,14 +73,14 @@ came_more k it (n ∷ order) (c ∷ came) at one are is = (are.0, came_more k it
 -- so it is with the entry that is read at the next number
 pub came_next : (k : HeldValue) (it : KeptValue) (order : List ℕ) (i : ℕ) → i < length order → (seen : List Entry) → seen ≡ k.received.entries →
     Each (λ at. at < length k.received.entries) order → (came : List Came) → AreCame k it (take i order) came → (one : Came) →
-    IsCameOf k it (get_or seen (get_or order i 0) no_entry) one → (new : List Came) → new ≡ came ++ one ∷ [] → AreCame k it (take (i + 1) order) new
-came_next k it order i lt seen same all came are one of new pushed =
+    (t : Entry) → t ≡ get_or seen (get_or order i 0) t → IsCameOf k it t one → (new : List Came) → new ≡ came ++ one ∷ [] → AreCame k it (take (i + 1) order) new
+came_next k it order i lt seen same all came are one t is of new pushed =
     let at = get_or order i 0 in
     let bound : at < length k.received.entries = each_at (λ n. n < length k.received.entries) order i 0 all lt in
-    let there : slice_get k.received.entries at ≡ Some (get_or seen at no_entry) = read_at seen same at (get_or seen at no_entry) no_entry (omega (arith, bound, ap length same)) refl in
+    let there : slice_get k.received.entries at ≡ Some t = read_at seen same at t t (omega (arith, bound, ap length same)) is in
     subst (λ ns. AreCame k it ns new) (sym (take_more order i 0 lt))
     (subst (λ cs. AreCame k it (take i order ++ at ∷ []) cs) (sym pushed)
-    (came_more k it (take i order) came at one are (record { entry = get_or seen at no_entry; there = there; of = of })))
+    (came_more k it (take i order) came at one are (record { entry = t; there = there; of = of })))
 
 -- entries in turn are held
 pub turn_is_held : (runs : List Run) (taken : List Entry) (order : List ℕ) (clocks after : ℕ → ℕ) → AreHeldInTurn runs taken clocks order after → (at : ℕ) (t : Entry) →

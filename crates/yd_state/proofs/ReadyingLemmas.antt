@@ -294,20 +294,20 @@ less_cut k holds old new keeps t is = less_in k holds t old.store is new.store (
 
 -- the entry with the next number, as it is read
 module _ (k : HeldValue) (holds : HoldsAll k) (start cur : KeptValue) (keeps : KeepsIds (held_of k.received) start) (sound : IsSound start.store) (told : List ℕ)
-    (can : CanBeLess k told start.store) (cuts : CutsRuns start cur) (i : ℕ) (lt : i < length told) (seen : List Entry) (same : seen ≡ k.received.entries) (d : Entry) where
+    (can : CanBeLess k told start.store) (cuts : CutsRuns start cur) (i : ℕ) (lt : i < length told) (seen : List Entry) (same : seen ≡ k.received.entries) (t : Entry) (t_is : t ≡ get_or seen (get_or told i 0) t) where
   abbrev next : ℕ
   next = get_or told i 0
 
   next_one : IsLessEntry k next
   next_one = each_at (IsLessEntry k) told i 0 can.less lt
 
-  pub next_there : slice_get k.received.entries next ≡ Some (get_or seen next d)
+  pub next_there : slice_get k.received.entries next ≡ Some t
   next_there =
       let bound : next < length k.received.entries = slice_get_within k.received.entries next next_one.entry next_one.there in
-      read_at seen same next (get_or seen next d) d (omega (arith, bound, ap length same)) refl
+      read_at seen same next t t (omega (arith, bound, ap length same)) t_is
 
-  pub next_is_less : IsLessIn k (get_or seen next d) cur.store
-  next_is_less = less_cut k holds start cur cuts.keeps (get_or seen next d) (entry_is_less k holds start keeps sound told can next next_one (get_or seen next d) next_there)
+  pub next_is_less : IsLessIn k t cur.store
+  next_is_less = less_cut k holds start cur cuts.keeps t (entry_is_less k holds start keeps sound told can next next_one t next_there)
 
 -- ---- in a store whose runs are cut besides
 

@@ -1,7 +1,7 @@
 -- An entry that is placed as its run: what the calls of a store want of it, and what they leave.
 use Rattle.std.proofs.Common.{◌≡◌, ℕ, ◌+◌, ◌<◌, true, false, List, Some, None, get_or, sym, ap, ap₂, ◌∙◌, subst, arith}
 use Rattle.std.specs.Prelude.{slice_get}
-use Rattle.std.proofs.lemmas.Option.{slice_get_within, slice_get-get_or}
+use Rattle.std.proofs.lemmas.Option.{slice_get_within}
 use Rattle.yd_words.specs.Member.{IsIn}
 use Rattle.yd_words.proofs.OptionLemmas.{some_is}
 use Rattle.yd_ids.specs.declared.id.Id.{Id}
@@ -28,16 +28,12 @@ use Rattle.yd_building.specs.declared.group.Group.TheVariants.{Run as RunGroup, 
 use Rattle.yd_building.specs.Builder.{group_value}
 use Rattle.yd_merge.specs.Told.{group_of_entry}
 use Rattle.yd_state.specs.Placing.{IsNextFor, AddsEntry, PlacesEntry}
-use Rattle.yd_state.proofs.EntryLemmas.{IsRunOfEntry, run_of_entry, IsGoneOfEntry, gone_of_entry, entry_taken, gone_unlisted}
+use Rattle.yd_state.proofs.EntryLemmas.{read_at, IsRunOfEntry, run_of_entry, IsGoneOfEntry, gone_of_entry, entry_taken, gone_unlisted}
 use Rattle.yd_state.proofs.StepLemmas.{run_next, run_filled, run_of_some, held_adds, apart_adds}
 
-module _ (k : HeldValue) (holds : HoldsAll k) (old : KeptValue) (at : ℕ) (n : IsNextFor k old at) (seen : List Entry) (same : seen ≡ k.received.entries) (d : Entry) where
-  abbrev t : Entry
-  t = get_or seen at d
-
+module _ (k : HeldValue) (holds : HoldsAll k) (old : KeptValue) (at : ℕ) (n : IsNextFor k old at) (seen : List Entry) (same : seen ≡ k.received.entries) (t : Entry) (t_is : t ≡ get_or seen at t) where
   there : slice_get k.received.entries at ≡ Some t
-  there = subst (λ ts. slice_get ts at ≡ Some t) same
-      (slice_get-get_or seen at d (slice_get_within seen at n.entry (ap (λ ts. slice_get ts at) same ∙ n.there)))
+  there = read_at seen same at t t (slice_get_within seen at n.entry (ap (λ ts. slice_get ts at) same ∙ n.there)) t_is
 
   next : IsNextHeld k.received.runs (next_clock old.store.placed) t
   next = subst (IsNextHeld k.received.runs (next_clock old.store.placed)) (some_is n.entry t (sym n.there ∙ there)) n.next

@@ -25,7 +25,7 @@ pub(crate) fn take_out(kept: &mut Kept, held: &Held, order: &[usize])
     let mut left = order.len();
     while left > 0 {
         left -= 1;
-        let id = entries[order[left]].id;
+        let id = entries.get(order[left]).id;
         kept.go_back(id.client, id.clock);
     }
 }

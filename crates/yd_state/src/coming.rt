@@ -28,7 +28,7 @@ pub(crate) fn came_of(
     let entries = held.received().entries();
     let mut came = Vec::new(alloc);
     for at in order {
-        came.push(came_at(kept, held, entries[*at]))?;
+        came.push(came_at(kept, held, entries.get(*at)))?;
     }
     Ok(came)
 }

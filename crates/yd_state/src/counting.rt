@@ -8,14 +8,16 @@ ghost use Rattle.yd_state.specs.Deleting.{span_below};
 ghost use Rattle.yd_state.specs.Waiting.{waiting_units, waiting_ids};
 
 use yd_ids::{IdSet, Span, Vector};
-use yd_received::{Entry, Place};
+use yd_received::{Entries, Place};
 
 /// How many units are not held.
-pub(crate) fn count_units(entries: &[Entry]) -> u128
+pub(crate) fn count_units(entries: &Entries) -> u128
     ensures { result ≡ sum_by waiting_units entries.now }
 {
     let mut count: u128 = 0;
-    for units in entries {
+    // So few entries have no more units than the count takes.
+    let _count = entries.len();
+    for units in entries.iter() {
         if let Place::Waits = units.place {
             count += units.len as u128;
         }

@@ -25,7 +25,7 @@ pub(crate) fn place_entry(kept: &mut Kept, held: &Held, at: usize) -> Result<(),
     // That the store is sound says that no run goes over its next clocks.
     let _ = kept.store();
     let received = held.received();
-    let entry = received.entries()[at];
+    let entry = received.entries().get(at);
     let Ok(group) = group_of(received.allocator(), received.runs(), entry) else {
         return Err(NoMemory);
     };

@@ -39,7 +39,7 @@ pub(crate) fn ready(kept: &mut Kept, held: &Held, told: &[usize]) -> Result<Vec<
     let received = held.received();
     let mut less = Vec::new(received.allocator());
     for at in told {
-        ready_entry(kept, held, received.entries()[*at], &mut less)?;
+        ready_entry(kept, held, received.entries().get(*at), &mut less)?;
     }
     Ok(less)
 }

@@ -8,20 +8,20 @@ ghost use Rattle.yd_stretches.specs.Stretches.{stretch_of, stretch_lists, with_l
 use crate::fault::NoMemory;
 use std::alloc::Global;
 use yd_order::Stretch;
-use yd_received::{Entry, Place};
+use yd_received::{Entries, Entry, Place};
 
 /// The stretches of each list with a mark, in the order of writing: one pass over the lists, and
 /// one over what was taken. What waits or is lost is in no list.
 pub fn gathered(
     alloc: Global,
-    taken: &[Entry],
+    taken: &Entries,
     stale: &[bool],
 ) -> Result<Vec<Vec<Stretch>>, NoMemory>
     ensures { IfOk result (λ buckets.
         AreGathered stale.now taken.now (stretch_lists buckets.items)) }
 {
     let mut buckets = empty_buckets(alloc, stale.len())?;
-    for entry in taken {
+    for entry in taken.iter() {
         gather_one(&mut buckets, stale, entry)?;
     }
     Ok(buckets)
@@ -39,13 +39,9 @@ fn empty_buckets(alloc: Global, count: usize) -> Result<Vec<Vec<Stretch>>, NoMem
 }
 
 /// Puts the stretch of an entry behind those of its list, where that has a mark.
-fn gather_one(
-    buckets: &mut Vec<Vec<Stretch>>,
-    stale: &[bool],
-    entry: &Entry,
-) -> Result<(), NoMemory>
+fn gather_one(buckets: &mut Vec<Vec<Stretch>>, stale: &[bool], entry: Entry) -> Result<(), NoMemory>
     requires { length buckets.old.items ≡ length stale.now }
-    ensures { OnOk result (Gathers stale.now entry.now
+    ensures { OnOk result (Gathers stale.now entry
         (stretch_lists buckets.old.items) (stretch_lists buckets.new.items)) }
 {
     match entry.place {
@@ -63,8 +59,8 @@ fn is_marked(stale: &[bool], n: usize) -> bool
 }
 
 /// The units of an entry as a stretch.
-fn stretch_of(entry: &Entry) -> Stretch
-    ensures { result ≡ stretch_of entry.now }
+fn stretch_of(entry: Entry) -> Stretch
+    ensures { result ≡ stretch_of entry }
 {
     Stretch {
         id: entry.id,

@@ -13,7 +13,7 @@ returns-then-piece-clause-added c =
     let one : c.args.piece.len ≡ 1 = (piece.torn torn).0 in
     let (half, grown, same) = c.in_ok-take_half.ensures.half in
     let less : c.args.from < len_of (content_value c.args.run.now.content) = omega arith in
-    rw (one, torn) (half_adds c.args.runs.now.items c.args.taken.now.items run c.args.at c.args.from c.args.is_gone c.requires.run to c.args.piece.len half _ _
+    rw (one, torn) (half_adds c.args.runs.now.items c.args.taken.now run c.args.at c.args.from c.args.is_gone c.requires.run to c.args.piece.len half _ _
     (subst (λ t. IsPiece (content_value c.args.run.now.content) c.args.from to c.args.piece.len t) torn piece) less grown same c.in_ok-take_half.ensures.entry)
 
 pub returns-clause-added : goal.returns-clause-added
@@ -21,5 +21,5 @@ returns-clause-added c =
     let run = run_value c.args.run.now in
     let whole = c.if-piece.false in
     let (to, piece) = c.requires.piece in
-    rw whole (whole_adds c.args.runs.now.items c.args.taken.now.items run c.args.at c.args.from c.args.is_gone c.requires.run c.args.index c.args.piece.len to _ c.requires.kept
+    rw whole (whole_adds c.args.runs.now.items c.args.taken.now run c.args.at c.args.from c.args.is_gone c.requires.run c.args.index c.args.piece.len to _ c.requires.kept
     (subst (λ t. IsPiece (content_value c.args.run.now.content) c.args.from to c.args.piece.len t) whole piece) c.requires.bound c.in_ok-take_whole.ensures.entry)

@@ -6,5 +6,5 @@ use Rattle.yd_entries.proofs.pieces.take_whole.Goals as goal
 
 pub returns-clause-adds : goal.returns-clause-adds
 returns-clause-adds c =
-    subst (OnlyAdds c.args.index c.args.taken.now.items) (sym c.in_ok-put_in.ensures.put)
-    (rw c.entry_from-entry.ensures (adds_from c.args.index c.args.taken.now.items c.args.at c.args.is_gone (run_value c.args.run.now) c.args.from c.args.len))
+    subst (OnlyAdds c.args.index c.args.taken.now) (sym c.in_ok-put_in.ensures.put)
+    (rw c.entry_from-entry.ensures (adds_from c.args.index c.args.taken.now c.args.at c.args.is_gone (run_value c.args.run.now) c.args.from c.args.len))

@@ -12,8 +12,8 @@ returns-clause-taken c =
     let from = c.args.from in
     let count = c.first_piece-piece.result.len in
     let same : count ≡ from + count - from = omega arith in
-    let gap = rw (c.deref.ensures.value, c.id_at.ensures, c.len.ensures) at (OnTrue_at (not-false _ c.if-not-ids.false) c.ids_from-ids.ensures.new) in
-    inr (subst (IsTakenNext c.args.is_gone c.args.runs.now.items c.args.taken.now.items c.take_piece.new.runs.items c.take_piece.new.taken.items (run_value c.args.run.now) from) same (record {
+    let gap = rw (c.id_at.ensures, c.len.ensures) at (OnTrue_at (not-false _ c.if-not-ids.false) c.ids_from-ids.ensures.new) in
+    inr (subst (IsTakenNext c.args.is_gone c.args.runs.now.items c.args.taken.now c.take_piece.new.runs.items c.take_piece.new.taken (run_value c.args.run.now) from) same (record {
       at = c.ids_from-ids.result.at;
       new = c.ids_from-ids.result.len;
       torn = c.first_piece-piece.result.is_torn;

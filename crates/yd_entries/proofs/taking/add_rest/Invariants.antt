@@ -8,8 +8,8 @@ use Rattle.yd_entries.proofs.taking.add_rest.Given as goal
 
 abbrev pub invariant-loop-from : goal.invariant-loop-from
 invariant-loop-from l =
-    IsWalked l.is_gone (run_value l.run) l.fn.runs.items l.fn.taken.items l.runs.items l.taken.items l.from × IsKept l.runs.items l.index (run_value l.run)
-    × OnlyAdds l.index l.fn.taken.items l.taken.items
+    IsWalked l.is_gone (run_value l.run) l.fn.runs.items l.fn.taken l.runs.items l.taken l.from × IsKept l.runs.items l.index (run_value l.run)
+    × OnlyAdds l.index l.fn.taken l.taken
 
 abbrev pub decreases-loop-from : goal.decreases-loop-from
 decreases-loop-from l = len_of (content_value l.run.content) - l.from

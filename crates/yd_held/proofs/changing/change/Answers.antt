@@ -67,7 +67,7 @@ single_of-single-requires c =
       inside = rw c.deref.ensures.value (turn_inside new.received.runs new.received.entries (clock_of c.args.held.now.vector) c.in_ok-order-3.order.items (clock_of new.vector)
           c.in_ok-order-3.ensures.turn.turn);
       were = firsts_stay old c.take.new.self c.requires.holds.in_order adds (with_received (held_value c.args.held.now) c.take.new.self) new refl c.hold_new.ensures.only
-          (length c.runs-from.result.now) (length c.entries-count.result.now) (ap length c.runs-from.ensures) (ap length c.entries-count.ensures.entries);
+          (length c.runs-from.result.now) c.len-count.result (ap length c.runs-from.ensures) (c.len-count.ensures ∙ ap length c.entries.ensures.entries);
     }
 
 pub returns-clause-together : goal.returns-clause-together
@@ -76,13 +76,13 @@ returns-clause-together c = or_alone c.single_of-single.result c.single_of-singl
     k : HeldValue
     k = held_value c.hold_new.new.held
 
-    or_alone : (single : Option ℕ) → IfNone single (NoneCameAlone (length c.runs-from.result.now) (length c.entries-count.result.now) c.deref.result.now k) →
+    or_alone : (single : Option ℕ) → IfNone single (NoneCameAlone (length c.runs-from.result.now) c.len-count.result c.deref.result.now k) →
         IfNone single (LowersOne (operations_of (update_value c.args.update)) (taken_of c.args.held.now.received)
         ⊎ NoneCameAlone (length c.args.held.now.received.runs) (length c.args.held.now.received.entries) c.in_ok-order-3.order.items k)
     or_alone (Some at) alone = tt
     or_alone None alone = inr (subst (λ order. NoneCameAlone (length c.args.held.now.received.runs) (length c.args.held.now.received.entries) order k) c.deref.ensures.value
-        (subst (λ n. NoneCameAlone (length c.args.held.now.received.runs) n c.deref.result.now k) (ap length c.entries-count.ensures.entries)
-        (subst (λ n. NoneCameAlone n (length c.entries-count.result.now) c.deref.result.now k) (ap length c.runs-from.ensures) alone)))
+        (subst (λ n. NoneCameAlone (length c.args.held.now.received.runs) n c.deref.result.now k) (c.len-count.ensures ∙ ap length c.entries.ensures.entries)
+        (subst (λ n. NoneCameAlone n c.len-count.result c.deref.result.now k) (ap length c.runs-from.ensures) alone)))
 
 -- ---- where a unit of a list is gone
 
@@ -95,7 +95,7 @@ returns-then-loses_one-clause-received c = c.in_ok-order.ensures.held.operations
 
 pub returns-then-loses_one-clause-anew : goal.returns-then-loses_one-clause-anew
 returns-then-loses_one-clause-anew c anew =
-    let (t, i, e) = subst (λ ts. (t : Entry) × IsIn t ts × (is_gone_listed t ≡ true)) c.entries.ensures.entries c.if-loses_one.ensures.one in (
+    let (t, i, e) = subst (λ ts. (t : Entry) × IsIn t ts × (is_gone_listed t ≡ true)) c.entries-in-Lowered.ensures.entries c.if-loses_one.ensures.one in (
       c.in_ok-brought.ensures.lowers (subst (λ b. IsTrue (lowers b)) (sym c.in-Lowered.is) anew),
       loses_one (held_value c.args.held.now) c.take.new.self c.requires.holds c.take.ensures.kept (groups_of (update_value c.args.update)) c.in_ok-brought.ensures.received
           c.in_ok-brought.ensures.places t i e (held_value c.set_aside.new.held) (held_value c.hold_more.new.held)
@@ -107,14 +107,14 @@ returns-then-loses_one-clause-anew c anew =
 pub hold_more-requires-in-Lowered-clause-holding : goal.hold_more-requires-in-Lowered-clause-holding
 hold_more-requires-in-Lowered-clause-holding c =
     holding_still (held_value c.args.held.now) c.take.new.self c.requires.holds c.take.ensures.kept (groups_of (update_value c.args.update)) c.in_ok-brought.ensures.received
-    c.in_ok-brought.ensures.places (none_gone c.take.new.self.entries (subst (Each (λ t. is_gone_listed t ≡ false)) c.entries.ensures.entries c.if-loses_one.ensures.none))
+    c.in_ok-brought.ensures.places (none_gone c.take.new.self.entries (subst (Each (λ t. is_gone_listed t ≡ false)) c.entries-in-Lowered.ensures.entries c.if-loses_one.ensures.none))
 
 pub returns-in-Lowered-clause-order : goal.returns-in-Lowered-clause-order
 returns-in-Lowered-clause-order c =
     let from = length c.runs-from.result.now in
     holds_on (held_value c.args.held.now) c.take.new.self c.requires.holds c.take.ensures.kept (groups_of (update_value c.args.update)) c.in_ok-brought.ensures.received
     c.in_ok-brought.ensures.places from (ap length c.runs-from.ensures)
-    (none_gone c.take.new.self.entries (subst (Each (λ t. is_gone_listed t ≡ false)) c.entries.ensures.entries c.if-loses_one.ensures.none))
+    (none_gone c.take.new.self.entries (subst (Each (λ t. is_gone_listed t ≡ false)) c.entries-in-Lowered.ensures.entries c.if-loses_one.ensures.none))
     c.in_ok-told.told.items c.in_ok-order-2.order.items
-    (subst (λ ts. AreHeldLess from ts (length ts) c.in_ok-told.told.items) c.entries-in-Lowered.ensures.entries c.in_ok-told.ensures)
+    (subst (λ ts. AreHeldLess from ts (length ts) c.in_ok-told.told.items) c.entries-in-Lowered-2.ensures.entries c.in_ok-told.ensures)
     (held_value c.hold_more-in-Lowered.new.held) c.in_ok-order-2.ensures.held.holds c.in_ok-order-2.ensures.turn c.in_ok-order-2.ensures.only

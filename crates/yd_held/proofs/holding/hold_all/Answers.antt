@@ -1,6 +1,5 @@
 use Rattle.std.proofs.Common.{get_or, subst}
 use Rattle.std.specs.Global.{Vec}
-use Rattle.yd_entries.proofs.EntryLemmas.{no_entry}
 use Rattle.yd_held.specs.declared.noting.Lack.{Lack}
 use Rattle.yd_held.specs.Held.{held_value}
 use Rattle.yd_held.specs.Noted.{Finds, Wakes}
@@ -21,11 +20,11 @@ loop-order-preserved c =
     let new = c.hold_at.new.held in
     let lacks = c.next_ready.new.lacks.items in
     let tries = c.next_ready.new.tries.items in
-    let woken = subst (λ (ls : Vec Lack). Wakes (get_or new.received.entries c.in-Some.at no_entry) ls.items c.wake.new.lacks.items tries c.wake.new.tries.items) c.in_ok-hold_at.ensures.lacks
-    (subst (λ us. Wakes (get_or us c.in-Some.at no_entry) new.lacks.items c.wake.new.lacks.items tries c.wake.new.tries.items) c.entries-in-Some.ensures.entries c.in_ok-wake.ensures) in
+    let woken = subst (λ (ls : Vec Lack). Wakes (get_or new.received.entries c.in-Some.at c.get.result) ls.items c.wake.new.lacks.items tries c.wake.new.tries.items) c.in_ok-hold_at.ensures.lacks
+    (subst (λ us. Wakes (get_or us c.in-Some.at c.get.result) new.lacks.items c.wake.new.lacks.items tries c.wake.new.tries.items) c.entries-in-Some.ensures.entries (subst (λ t. Wakes t new.lacks.items c.wake.new.lacks.items tries c.wake.new.tries.items) c.get.ensures c.in_ok-wake.ensures)) in
     round_then (held_value c.args.held.now) (held_value old) (held_value new) c.in-Some.at lacks tries
     (subst (Finds old.vector old.received.runs old.received.entries lacks tries) c.in-Some.is c.in_ok-at.ensures.finds) c.in_ok-hold_at.ensures.held c.in_ok-hold_at.ensures.runs
-    c.in_ok-hold_at.ensures.grows c.wake.new.lacks.items c.wake.new.tries.items no_entry woken _ c.loop-order.order.items _ c.in_ok-push.ensures.items c.loop-order.invariant c.in_ok-at.ensures.missing
+    c.in_ok-hold_at.ensures.grows c.wake.new.lacks.items c.wake.new.tries.items c.get.result woken _ c.loop-order.order.items _ c.in_ok-push.ensures.items c.loop-order.invariant c.in_ok-at.ensures.missing
     c.in_ok-hold_at.ensures.holding c.in_ok-hold_at.ensures.operations
 
 pub returns-in_err-wake-clause-only : goal.returns-in_err-wake-clause-only

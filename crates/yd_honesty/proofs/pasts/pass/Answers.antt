@@ -12,4 +12,4 @@ loop-at-preserved c = passed_more c.args.received.now c.requires.whole c.loop-at
 
 pub returns-clause-closed : goal.returns-clause-closed
 returns-clause-closed c e = passed_all c.args.received.now c.requires.whole c.loop-at.pasts.items c.loop-at.at c.loop-at.grew
-    (omega (arith, c.loop-at-test.false, ap length c.entries-at-end.ensures.entries)) c.loop-at.invariant e
+    (omega (arith, c.loop-at-test.false, c.len-at-end.ensures, ap length c.entries.ensures.entries)) c.loop-at.invariant e

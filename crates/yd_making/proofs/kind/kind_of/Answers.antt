@@ -2,7 +2,6 @@ use Rattle.std.proofs.Common.{◌≡◌, ◌≢◌, None, Some, sym, subst}
 use Rattle.std.specs.Prelude.{IfSome, IfNone}
 use Rattle.yd_words.specs.Each.{Each}
 use Rattle.yd_entries.specs.declared.entry.Entry.{Entry}
-use Rattle.yd_entries.proofs.EntryLemmas.{no_entry}
 use Rattle.yd_making.proofs.KindLemmas.{no_kind, kind_found}
 use Rattle.yd_making.proofs.kind.kind_of.Goals as goal
 
@@ -14,11 +13,11 @@ returns-in_err-at-clause-none c =
 pub returns-clause-found : goal.returns-clause-found
 returns-clause-found c = subst (λ k. IfSome c.kind_told.result (λ kind. k ≡ Some kind.now))
     (sym (kind_found c.args.state.now c.received-received.ensures.sound c.args.id c.received-received.result.now c.received-received.ensures.received
-    c.runs.result.now c.entries.result.now c.runs.ensures c.entries.ensures.entries c.in_ok-at.at c.in_ok-at.ensures.found.0 (c.in_ok-at.ensures.found.1 no_entry)))
+    c.runs.result.now c.entries.result.now c.runs.ensures c.entries.ensures.entries c.in_ok-at.at c.get.result c.get.ensures c.in_ok-at.ensures.found.0 (c.in_ok-at.ensures.found.1 c.get.result)))
     c.kind_told.ensures.found
 
 pub returns-clause-none : goal.returns-clause-none
 returns-clause-none c = subst (λ k. IfNone c.kind_told.result (k ≡ None))
     (sym (kind_found c.args.state.now c.received-received.ensures.sound c.args.id c.received-received.result.now c.received-received.ensures.received
-    c.runs.result.now c.entries.result.now c.runs.ensures c.entries.ensures.entries c.in_ok-at.at c.in_ok-at.ensures.found.0 (c.in_ok-at.ensures.found.1 no_entry)))
+    c.runs.result.now c.entries.result.now c.runs.ensures c.entries.ensures.entries c.in_ok-at.at c.get.result c.get.ensures c.in_ok-at.ensures.found.0 (c.in_ok-at.ensures.found.1 c.get.result)))
     c.kind_told.ensures.none

@@ -6,4 +6,4 @@ use Rattle.yd_received.proofs.RestoringLemmas.{walked}
 use Rattle.yd_received.proofs.restoring.let_wait.Given as goal
 
 abbrev pub invariant-loop-at : goal.invariant-loop-at
-invariant-loop-at l = l.entries.items ≡ walked (λ (t : Entry). with_place t Waits) l.at l.fn.entries.items
+invariant-loop-at l = l.entries ≡ walked (λ (t : Entry). with_place t Waits) l.at l.fn.entries

@@ -4,4 +4,4 @@ use Rattle.yd_received.proofs.RestoringLemmas.{walked}
 use Rattle.yd_received.proofs.restoring.undo_holding.Given as goal
 
 abbrev pub invariant-loop-at : goal.invariant-loop-at
-invariant-loop-at l = l.entries.items ≡ walked (undone l.clocks) l.at l.fn.entries.items
+invariant-loop-at l = l.entries ≡ walked (undone l.clocks) l.at l.fn.entries

@@ -14,8 +14,8 @@ loop-block-init c =
     let gives = c.into_iter-block-iterator.ensures.into_iter_gives in (
       0,
       all_left _ _ _ gives.0 (omega (arith, gives.1, c.args.blocks.ok.0)),
-      taken_none c.args.runs.now.items c.args.taken.now.items c.requires.taken,
-      backed_none _ c.args.before.now c.args.taken.now.items,
+      taken_none c.args.runs.now.items c.args.taken.now c.requires.taken,
+      backed_none _ c.args.before.now c.args.taken.now,
       keeps_none c.args.before.now _ _,
     )
 
@@ -41,7 +41,7 @@ take_structs-requires-clause-structs c =
 pub returns-in_err-more-clause-backed : goal.returns-in_err-more-clause-backed
 returns-in_err-more-clause-backed c =
     let (n, rest, taken, backed, keeps) = c.loop-block.invariant in
-    backed_grown c.args.runs.now.items c.loop-block.runs.items c.args.before.now c.loop-block.before c.take_structs.new.before c.args.taken.now.items c.loop-block.taken.items c.take_structs.new.taken.items
+    backed_grown c.args.runs.now.items c.loop-block.runs.items c.args.before.now c.loop-block.before c.take_structs.new.before c.args.taken.now c.loop-block.taken c.take_structs.new.taken
     taken.grows backed c.in_err-more.ensures.backed
 
 pub loop-block-preserved : goal.loop-block-preserved
@@ -52,10 +52,10 @@ loop-block-preserved c =
     let there = next_there _ n c.in-Some.block _ _ _ rest step in (
       n + 1,
       rest_left _ n c.in-Some.block _ _ _ rest step (into_iter_len c.next.new.self) (omega (arith, c.in-Some.ensures.steps.1)),
-      block_more c.args.runs.now.items c.loop-block.runs.items _ c.args.taken.now.items c.loop-block.taken.items _ c.loop-block.brings c.in_ok-more.more c.args.blocks.items n c.in-Some.block
+      block_more c.args.runs.now.items c.loop-block.runs.items _ c.args.taken.now c.loop-block.taken _ c.loop-block.brings c.in_ok-more.more c.args.blocks.items n c.in-Some.block
           within there taken (rw c.into_vec.ensures at c.in_ok-more.ensures.taken) (rw c.into_vec.ensures at c.in_ok-more.ensures.brings) c.in_ok-more.ensures.unchanged c.in_ok-more.ensures.grows,
-      backed_grown c.args.runs.now.items c.loop-block.runs.items c.args.before.now c.loop-block.before c.take_structs.new.before c.args.taken.now.items c.loop-block.taken.items
-          c.take_structs.new.taken.items taken.grows backed c.in_ok-more.ensures.backed,
-      block_keeps c.args.runs.now.items c.loop-block.runs.items c.args.taken.now.items c.loop-block.taken.items c.loop-block.brings c.args.before.now c.loop-block.before c.take_structs.new.before
+      backed_grown c.args.runs.now.items c.loop-block.runs.items c.args.before.now c.loop-block.before c.take_structs.new.before c.args.taken.now c.loop-block.taken
+          c.take_structs.new.taken taken.grows backed c.in_ok-more.ensures.backed,
+      block_keeps c.args.runs.now.items c.loop-block.runs.items c.args.taken.now c.loop-block.taken c.loop-block.brings c.args.before.now c.loop-block.before c.take_structs.new.before
           c.requires.taken c.args.blocks.items n c.in-Some.block within there taken keeps (rw c.into_vec.ensures at c.in_ok-more.ensures.lowers),
     )

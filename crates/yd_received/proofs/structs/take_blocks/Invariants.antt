@@ -12,7 +12,7 @@ use Rattle.yd_received.proofs.structs.take_blocks.Given as goal
 
 abbrev pub invariant-loop-block : goal.invariant-loop-block
 invariant-loop-block l = (n : ℕ) × IsRest l.fn.blocks.items n (into_iter_items l.block-iterator) (into_iter_len l.block-iterator)
-    × IsTakenIn l.fn.runs.items l.fn.taken.items l.runs.items l.taken.items (groups_of_blocks (map block_value (take n l.fn.blocks.items)))
+    × IsTakenIn l.fn.runs.items l.fn.taken l.runs.items l.taken (groups_of_blocks (map block_value (take n l.fn.blocks.items)))
     (operations_of_blocks (map block_value (take n l.fn.blocks.items))) l.brings
-    × IsBacked (length l.fn.runs.items) l.fn.before l.fn.taken.items l.before l.taken.items
-    × KeepsToLower l.fn.before l.before (operations_of_blocks (map block_value (take n l.fn.blocks.items))) (operations_in l.fn.runs.items l.fn.taken.items)
+    × IsBacked (length l.fn.runs.items) l.fn.before l.fn.taken l.before l.taken
+    × KeepsToLower l.fn.before l.before (operations_of_blocks (map block_value (take n l.fn.blocks.items))) (operations_in l.fn.runs.items l.fn.taken)

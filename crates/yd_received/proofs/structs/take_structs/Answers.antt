@@ -11,8 +11,8 @@ loop-entry-init c =
     let gives = c.into_iter-entry-iterator.ensures.into_iter_gives in (
       0,
       all_left _ _ _ gives.0 (omega (arith, gives.1, c.args.structs.ok.0)),
-      taken_none c.args.runs.now.items c.args.taken.now.items c.requires.taken,
-      backed_none _ c.args.before.now c.args.taken.now.items,
+      taken_none c.args.runs.now.items c.args.taken.now c.requires.taken,
+      backed_none _ c.args.before.now c.args.taken.now,
       omega arith,
       keeps_none c.args.before.now _ _,
     )
@@ -27,7 +27,7 @@ take_struct-requires-clause-entry c =
 pub returns-in_err-more-clause-backed : goal.returns-in_err-more-clause-backed
 returns-in_err-more-clause-backed c =
     let (n, rest, taken, backed, clock, keeps) = c.loop-entry.invariant in
-    backed_grown c.args.runs.now.items c.loop-entry.runs.items c.args.before.now c.loop-entry.before c.take_struct.new.before c.args.taken.now.items c.loop-entry.taken.items c.take_struct.new.taken.items
+    backed_grown c.args.runs.now.items c.loop-entry.runs.items c.args.before.now c.loop-entry.before c.take_struct.new.before c.args.taken.now c.loop-entry.taken c.take_struct.new.taken
     taken.grows backed c.in_err-more.ensures.backed
 
 pub overflow_add-clock : goal.overflow_add-clock
@@ -46,13 +46,13 @@ loop-entry-preserved c =
     let there = next_there _ n c.in-Some.entry _ _ _ rest step in (
       n + 1,
       rest_left _ n c.in-Some.entry _ _ _ rest step (into_iter_len c.next.new.self) (omega (arith, c.in-Some.ensures.steps.1)),
-      struct_more c.args.first.client c.args.first.clock c.args.runs.now.items c.loop-entry.runs.items _ c.args.taken.now.items c.loop-entry.taken.items _ c.loop-entry.brings c.in_ok-more.more
+      struct_more c.args.first.client c.args.first.clock c.args.runs.now.items c.loop-entry.runs.items _ c.args.taken.now c.loop-entry.taken _ c.loop-entry.brings c.in_ok-more.more
           c.args.structs.items n c.loop-entry.clock c.in-Some.entry within there clock taken c.in_ok-more.ensures.taken c.in_ok-more.ensures.brings c.in_ok-more.ensures.unchanged
           c.in_ok-more.ensures.grows,
-      backed_grown c.args.runs.now.items c.loop-entry.runs.items c.args.before.now c.loop-entry.before c.take_struct.new.before c.args.taken.now.items c.loop-entry.taken.items
-          c.take_struct.new.taken.items taken.grows backed c.in_ok-more.ensures.backed,
+      backed_grown c.args.runs.now.items c.loop-entry.runs.items c.args.before.now c.loop-entry.before c.take_struct.new.before c.args.taken.now c.loop-entry.taken
+          c.take_struct.new.taken taken.grows backed c.in_ok-more.ensures.backed,
       clock_more c.args.first.clock c.loop-entry.clock c.len-len.result c.args.structs.items n c.in-Some.entry within there clock c.len-len.ensures,
-      struct_keeps c.args.runs.now.items c.loop-entry.runs.items c.args.taken.now.items c.loop-entry.taken.items c.loop-entry.brings c.args.before.now c.loop-entry.before
+      struct_keeps c.args.runs.now.items c.loop-entry.runs.items c.args.taken.now c.loop-entry.taken c.loop-entry.brings c.args.before.now c.loop-entry.before
           c.take_struct.new.before c.requires.taken c.args.first.client c.args.first.clock c.args.structs.items n c.loop-entry.clock c.in-Some.entry within there clock taken keeps
           c.in_ok-more.ensures.lowers,
     )

@@ -12,8 +12,8 @@ use Rattle.yd_received.proofs.structs.take_structs.Given as goal
 
 abbrev pub invariant-loop-entry : goal.invariant-loop-entry
 invariant-loop-entry l = (n : ℕ) × IsRest l.fn.structs.items n (into_iter_items l.entry-iterator) (into_iter_len l.entry-iterator)
-    × IsTakenIn l.fn.runs.items l.fn.taken.items l.runs.items l.taken.items (groups_of_structs l.first.client l.first.clock (map struct_value (take n l.fn.structs.items)))
+    × IsTakenIn l.fn.runs.items l.fn.taken l.runs.items l.taken (groups_of_structs l.first.client l.first.clock (map struct_value (take n l.fn.structs.items)))
     (operations_of_structs l.first.client l.first.clock (map struct_value (take n l.fn.structs.items))) l.brings
-    × IsBacked (length l.fn.runs.items) l.fn.before l.fn.taken.items l.before l.taken.items
+    × IsBacked (length l.fn.runs.items) l.fn.before l.fn.taken l.before l.taken
     × (l.clock ≡ l.first.clock + clocks_of_all (map struct_value (take n l.fn.structs.items)))
-    × KeepsToLower l.fn.before l.before (operations_of_structs l.first.client l.first.clock (map struct_value (take n l.fn.structs.items))) (operations_in l.fn.runs.items l.fn.taken.items)
+    × KeepsToLower l.fn.before l.before (operations_of_structs l.first.client l.first.clock (map struct_value (take n l.fn.structs.items))) (operations_in l.fn.runs.items l.fn.taken)
