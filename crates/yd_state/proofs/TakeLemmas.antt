@@ -150,14 +150,13 @@ sound_then old sound update valid k holds taken more named of is anew told order
 abbrev pub grown_of : HeldValue → KeptValue → Sets → GrownValue
 grown_of held kept sets = record { held = held; named = sets.named; waiting = sets.waiting; kept = kept; deletes = sets.deletes }
 
--- and so it is where the deleted ids are those that the store settled
+-- and so it is with the sets that the store settled
 pub settled_whole : (held : HeldValue) (kept : KeptValue) (sets : Sets) → IsWhole (grown_of held kept sets) → (update : UpdateValue) → IsValidUpdate update → (k : HeldValue) → HoldsAll k →
-    taken_of k.received ≡ with_groups (groups_of update) (taken_of held.received) → (more named : List Span) → more ≡ deletes_of update → named ≡ union_of sets.named more →
-    (anew : Bool) (told order : List ℕ) → TellsOrder anew told order held k → (it : KeptValue) (left grown now : List Span) → Settles anew k sets more kept it left grown → now ≡ grown →
-    IsWhole (record { held = k; named = named; waiting = left; kept = it; deletes = now })
-settled_whole held kept sets sound update valid k holds taken more named of is anew told order tells it left grown now settles same =
-    sound_then (grown_of held kept sets) sound update valid k holds taken more named of is anew told order tells sets refl refl refl it left now
-    (subst (Settles anew k sets more kept it left) (sym same) settles)
+    taken_of k.received ≡ with_groups (groups_of update) (taken_of held.received) → (more : List Span) → more ≡ deletes_of update →
+    (anew : Bool) (told order : List ℕ) → TellsOrder anew told order held k → (it : KeptValue) (now : Sets) → now.named ≡ union_of sets.named more →
+    Settles anew k sets more kept it now.waiting now.deletes → IsWhole (grown_of k it now)
+settled_whole held kept sets sound update valid k holds taken more of anew told order tells it now is settles =
+    sound_then (grown_of held kept sets) sound update valid k holds taken more now.named of is anew told order tells sets refl refl refl it now.waiting now.deletes settles
 
 -- ---- where no unit changed
 

@@ -13,4 +13,5 @@ pub mod PlacingLaw
 pub mod Settling
 pub mod State
 pub mod Telling
+pub mod Twin
 pub mod Waiting

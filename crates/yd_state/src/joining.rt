@@ -10,7 +10,7 @@ use yd_kept::Kept;
 
 /// Joins the entry that came alone, where one did, to the one before it, and the last run of the
 /// store to the one before it in its list, where they go on there. No unit changes. It takes time
-/// and memory of what is joined, and moves the entries behind it.
+/// and memory of what is joined, and moves entries of one piece.
 pub(crate) fn join(held: &mut Held, kept: &mut Kept, single: Option<usize>)
     requires { IfSome single (IsSingleOf held.old.received) }
     ensures held { StaysSame held.old held.new }

@@ -37,7 +37,7 @@ mod receiving;
 mod sets;
 mod settling;
 mod state;
-mod uniting;
+mod twin;
 mod waiting;
 
 pub use fault::NoMemory;

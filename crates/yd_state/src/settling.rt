@@ -1,6 +1,7 @@
 //! What is deleted and what waits when more is held or named.
 
 ghost use Rattle.std.specs.Prelude.{◌≡◌, true, [], IfOk, OnOk, OnErr};
+ghost use Rattle.yd_ids.specs.Set.{union_of};
 ghost use Rattle.yd_arena.specs.Arena.{count_of};
 ghost use Rattle.yd_kept.specs.Telling.{IsSoundStore};
 ghost use Rattle.yd_kept.specs.Kept.{KeepsHeld};
@@ -19,21 +20,12 @@ use crate::fault::NoMemory;
 use crate::less::{Less, ready, tell};
 use crate::placing::place;
 use crate::sets::Sets;
-use crate::uniting::grown_by;
+use crate::twin::TwinSet;
 use crate::waiting::part_above;
 use yd_held::Held;
 use yd_ids::IdSet;
 use yd_kept::Kept;
 use yd_listing::deletions_besides;
-
-/// What waits and what is deleted.
-#[derive(Drop)]
-pub(crate) struct Settled {
-    /// The ids that are named and not held.
-    pub waiting: IdSet,
-    /// The held ids that are deleted; None where these are as before.
-    pub deletes: Option<IdSet>,
-}
 
 /// What is deleted besides, since entries came into a store.
 #[derive(Drop)]
@@ -53,94 +45,115 @@ pub(crate) struct Parted {
     pub less: Vec<Less>,
 }
 
-/// Places what became held, tells less of the entries that are `told`, marks what is deleted then,
-/// and answers that and what waits. `sets` has what was so before, and `more` what is named besides.
-/// Where all was held anew, another store takes the place of the one that was there. Where memory
-/// ends, no unit has changed.
+/// Places what became held, tells less of the entries that are `told`, and marks what is deleted then.
+/// The sets get what is named besides, what waits and what is deleted. Where all was held anew,
+/// another store takes the place of the one that was there. Where memory ends, no unit has changed,
+/// and no set.
 pub(crate) fn settle(
     kept: &mut Kept,
     held: &Held,
     anew: bool,
     told: &[usize],
     order: &[usize],
-    sets: &Sets,
-    more: &IdSet,
-) -> Result<Settled, NoMemory>
+    sets: &mut Sets,
+    more: IdSet,
+) -> Result<(), NoMemory>
     requires { CanSettle anew held.now told.now order.now kept.old }
-    ensures settled { IfOk result (λ settled. Settles anew held.now sets.now more.now kept.old kept.new
-        settled.waiting (grown_to sets.now.deletes settled.deletes)) }
+    ensures settled { OnOk result (Settles anew held.now sets.old more kept.old kept.new
+        sets.new.waiting sets.new.deletes) }
+    ensures named { OnOk result (sets.new.named ≡ union_of sets.old.named more) }
     ensures unchanged { OnErr result (KeepsHeld kept.old kept.new) }
+    ensures sets { OnErr result (sets.new ≡ sets.old) }
 {
     let alloc = held.received().allocator();
-    let waiting = part_above(alloc, known(sets, anew), more, held.vector())?;
+    let waiting = part_above(alloc, known(sets, anew), &more, held.vector())?;
+    let named = sets.named.grown(&more)?;
     if anew {
-        let deletes = settle_anew(kept, held, order, &sets.named, more)?;
-        return Ok(Settled {
-            waiting,
-            deletes: Some(deletes),
-        });
+        settle_anew(
+            kept,
+            held,
+            order,
+            sets.named.ids(),
+            &mut sets.deletes,
+            &more,
+        )?;
+    } else {
+        settle_on(
+            kept,
+            held,
+            told,
+            order,
+            &mut sets.deletes,
+            &sets.waiting,
+            &more,
+        )?;
     }
-    let deletes = settle_on(kept, held, told, order, &sets.deletes, &sets.waiting, more)?;
-    Ok(Settled { waiting, deletes })
+    sets.named.put(named, more);
+    sets.waiting = waiting;
+    Ok(())
 }
 
 /// The named ids that may wait.
 fn known(sets: &Sets, anew: bool) -> &IdSet
     ensures { result.now ≡ known_of anew sets.now }
 {
-    if anew { &sets.named } else { &sets.waiting }
+    if anew {
+        sets.named.ids()
+    } else {
+        &sets.waiting
+    }
 }
 
-/// Places all that is held in a store that takes the place of the one that was there, and answers
-/// what is deleted. Where memory ends, nothing has changed.
+/// Places all that is held in a store that takes the place of the one that was there, and finds what is
+/// deleted. Where memory ends, nothing has changed.
 fn settle_anew(
     kept: &mut Kept,
     held: &Held,
     order: &[usize],
     named: &IdSet,
+    deletes: &mut TwinSet,
     more: &IdSet,
-) -> Result<IdSet, NoMemory>
+) -> Result<(), NoMemory>
     requires { CanSettle true held.now [] order.now kept.old }
     ensures all { OnOk result (KeepsAll (held_of held.now.received) kept.new) }
     ensures store { OnOk result (IsSoundStore kept.new.store) }
-    ensures deletes { IfOk result (λ now. DeletesAnew held.now named.now more.now kept.new now) }
-    ensures marks { IfOk result (λ now. MarksAnew held.now kept.new now) }
+    ensures deletes { OnOk result (DeletesAnew held.now named.now more.now kept.new deletes.new) }
+    ensures marks { OnOk result (MarksAnew held.now kept.new deletes.new) }
     ensures unchanged { OnErr result (kept.new ≡ kept.old) }
+    ensures as_it_was { OnErr result (deletes.new ≡ deletes.old) }
 {
     let alloc = held.received().allocator();
     let mut fresh = Kept::new(alloc);
-    let nothing = IdSet::new(alloc);
+    let mut fallen = TwinSet::new(alloc);
     // That both are sound says that nothing was held there before.
     let _ = fresh.store();
-    let grown = settle_on(&mut fresh, held, &[], order, &nothing, named, more)?;
+    settle_on(&mut fresh, held, &[], order, &mut fallen, named, more)?;
     *kept = fresh;
-    match grown {
-        Some(now) => Ok(now),
-        None => Ok(nothing),
-    }
+    *deletes = fallen;
+    Ok(())
 }
 
-/// Places what became held, marks what falls, tells less of what was held, and answers what the
-/// deleted ids grow to. Where memory ends, no unit has changed.
+/// Places what became held, marks what falls, tells less of what was held, and lets the deleted ids
+/// grow. Where memory ends, no unit has changed, and no deleted id.
 fn settle_on(
     kept: &mut Kept,
     held: &Held,
     told: &[usize],
     order: &[usize],
-    deletes: &IdSet,
+    deletes: &mut TwinSet,
     waiting: &IdSet,
     more: &IdSet,
-) -> Result<Option<IdSet>, NoMemory>
+) -> Result<(), NoMemory>
     requires placed { CanBePlaced held.now order.now kept.old }
     requires less { CanBeLess held.now told.now kept.old.store }
     ensures all { OnOk result (KeepsAll (held_of held.now.received) kept.new) }
     ensures store { OnOk result (IsSoundStore kept.new.store) }
-    ensures deletes { IfOk result (λ grown. DeletesOn held.now deletes.now waiting.now more.now
-        kept.old kept.new (grown_to deletes.now grown)) }
-    ensures marks { IfOk result (λ grown. MarksOn held.now kept.old kept.new
-        deletes.now (grown_to deletes.now grown)) }
+    ensures deletes { OnOk result (DeletesOn held.now deletes.old waiting.now more.now
+        kept.old kept.new deletes.new) }
+    ensures marks { OnOk result (MarksOn held.now kept.old kept.new deletes.old deletes.new) }
     ensures grows { OnOk result (ListsGrow held.now kept.old kept.new) }
     ensures unchanged { OnErr result (KeepsHeld kept.old kept.new) }
+    ensures as_it_was { OnErr result (deletes.new ≡ deletes.old) }
 {
     // What is held, and that the store is sound, says where each unit stands.
     let _ = held.received();
@@ -153,7 +166,8 @@ fn settle_on(
             let _ = kept.store();
             tell(kept, held, less);
             let _ = kept.store();
-            Ok(grown)
+            deletes.put(grown, besides);
+            Ok(())
         }
         Err(NoMemory) => {
             put_out(kept, held, order);
@@ -169,7 +183,7 @@ fn parted_then(
     held: &Held,
     told: &[usize],
     order: &[usize],
-    deletes: &IdSet,
+    deletes: &mut TwinSet,
     waiting: &IdSet,
     more: &IdSet,
 ) -> Result<Parted, NoMemory>
@@ -177,14 +191,15 @@ fn parted_then(
     requires less { CanBeLess held.now told.now kept.old.store }
     requires store { IsSoundStore kept.old.store }
     requires came { CanBeTakenOut held.now order.now kept.old }
-    ensures deletes { IfOk result (λ parted. DeletesBy held.now order.now kept.old deletes.now
-        waiting.now more.now parted.fallen.besides (grown_to deletes.now parted.fallen.grown)) }
+    ensures deletes { IfOk result (λ parted. DeletesBy held.now order.now kept.old deletes.old
+        waiting.now more.now parted.fallen.besides (grown_to deletes.old parted.fallen.grown)) }
     ensures held { IfOk result (λ parted. AreHeld kept.new.store parted.fallen.besides) }
     ensures parted { IfOk result (λ parted. AreParted kept.new.store parted.fallen.besides) }
     ensures less { IfOk result (λ parted. LeavesLess held.now parted.less.items kept.new.store) }
     ensures kept { KeepsHeld kept.old kept.new }
     ensures names { kept.new.names ≡ kept.old.names }
     ensures count { count_of kept.new.store.placed ≡ count_of kept.old.store.placed }
+    ensures as_it_was { deletes.new ≡ deletes.old }
 {
     // What is held says that no unit of a list is gone.
     let _ = held.received();
@@ -201,20 +216,21 @@ fn fallen_then(
     kept: &Kept,
     held: &Held,
     order: &[usize],
-    deletes: &IdSet,
+    deletes: &mut TwinSet,
     waiting: &IdSet,
     more: &IdSet,
 ) -> Result<Fallen, NoMemory>
     requires ids { KeepsIds (held_of held.now.received) kept.now }
     requires told { IsTold kept.now }
     requires came { CanBeTakenOut held.now order.now kept.now }
-    ensures deletes { IfOk result (λ fallen. DeletesBy held.now order.now kept.now deletes.now
-        waiting.now more.now fallen.besides (grown_to deletes.now fallen.grown)) }
+    ensures deletes { IfOk result (λ fallen. DeletesBy held.now order.now kept.now deletes.old
+        waiting.now more.now fallen.besides (grown_to deletes.old fallen.grown)) }
     ensures held { IfOk result (λ fallen. AreHeld kept.now.store fallen.besides) }
+    ensures as_it_was { deletes.new ≡ deletes.old }
 {
     let alloc = held.received().allocator();
     let came = came_of(alloc, kept, held, order)?;
-    let besides = deletions_besides(alloc, kept, deletes, waiting, more, &came)?;
-    let grown = grown_by(deletes, &besides)?;
+    let besides = deletions_besides(alloc, kept, deletes.ids(), waiting, more, &came)?;
+    let grown = deletes.grown(&besides)?;
     Ok(Fallen { besides, grown })
 }

@@ -25,8 +25,8 @@ use crate::listing::ListView;
 use crate::naming::named_by;
 use crate::novelty::brings_deletion;
 use crate::sets::Sets;
-use crate::settling::{Settled, settle};
-use crate::uniting::{grown_by, put};
+use crate::settling::settle;
+use crate::twin::TwinSet;
 use std::alloc::Global;
 use std::marker::Model;
 use yd_held::Held;
@@ -88,17 +88,19 @@ impl State {
             held,
             kept,
             sets: Sets {
-                named: IdSet::new(alloc),
+                named: TwinSet::new(alloc),
                 waiting: IdSet::new(alloc),
-                deletes: IdSet::new(alloc),
+                deletes: TwinSet::new(alloc),
             },
         }
     }
 
     /// Receives an update, holds what can be held then, and puts it into its lists, where the
-    /// integration scan puts it. Runs of which all is new are kept, and not copied. It answers whether the update brought something. It looks at what
-    /// came, at what waits, and at what is deleted besides, and at what is known by look-ups alone;
-    /// a set that grows is copied. Where the update says less of something that was received, the
+    /// integration scan puts it. Runs of which all is new are kept, and not copied. It answers whether
+    /// the update brought something. It looks at what came, at what waits, and at what is deleted
+    /// besides, and at what is known by look-ups alone. A few new spans of deleted ids move those behind
+    /// them, and many take one pass over all. The sets are copied at their first growth, and at the
+    /// first one after memory ended. Where the update says less of something that was received, the
     /// entries are copied and walked, and each client is tried again; what is gone already is told so
     /// once more. Where a unit that a list had is lost, all lists grow anew. Where memory ends, nothing
     /// has changed that is told.
@@ -118,8 +120,7 @@ impl State {
         // What is held says what holds before the first growth.
         let _ = self.held.received();
         let more = named_by(&update)?;
-        let deletes = brings_deletion(&self.sets.named, &self.sets.deletes, &more);
-        let named = grown_by(&self.sets.named, &more)?;
+        let deletes = brings_deletion(self.sets.named.ids(), self.sets.deletes.ids(), &more);
         let taken = self.held.take(update)?;
         match settle(
             &mut self.kept,
@@ -127,18 +128,10 @@ impl State {
             taken.anew,
             &taken.told,
             &taken.order,
-            &self.sets,
-            &more,
+            &mut self.sets,
+            more,
         ) {
-            Ok(
-                Settled {
-                    waiting,
-                    deletes: grown,
-                },
-            ) => {
-                put(&mut self.sets.named, named);
-                put(&mut self.sets.deletes, grown);
-                self.sets.waiting = waiting;
+            Ok(()) => {
                 join(&mut self.held, &mut self.kept, taken.single);
                 // That both are sound says that they still tell what they told.
                 let _ = self.held.received();
@@ -204,14 +197,14 @@ impl State {
         ensures deleted { AreDeletedIn result.now (document_in self.now) }
         ensures own { result.now ≡ self.now.deletes }
     {
-        &self.sets.deletes
+        self.sets.deletes.ids()
     }
 
     /// The ids that received updates delete by name, held or not.
     pub fn named(&self) -> &IdSet
         ensures { result.now ≡ self.now.named }
     {
-        &self.sets.named
+        self.sets.named.ids()
     }
 
     /// The units of a list in order, deleted ones too; lost ones are in no list. It takes a look-up
@@ -268,7 +261,7 @@ impl State {
     pub fn waiting_ids(&self) -> u128
         ensures { result ≡ (waiting_counts (received_in self.now)).deletes }
     {
-        count_ids(self.held.vector(), &self.sets.named)
+        count_ids(self.held.vector(), self.sets.named.ids())
     }
 
     /// The store with just what is held, and the names of its lists; a list may have no unit there.

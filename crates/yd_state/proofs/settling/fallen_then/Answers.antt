@@ -19,11 +19,12 @@ pub returns-clause-deletes : goal.returns-clause-deletes
 returns-clause-deletes c = record {
   came = c.in_ok-came.came.items;
   came_are = c.in_ok-came.ensures;
-  drops = subst (λ came. Drops c.args.kept.now c.args.deletes.now (IsNamedIn c.args.waiting.now c.args.more.now) came c.in_ok-besides.besides) c.deref.ensures.value c.in_ok-besides.ensures;
-  grown = c.in_ok-grown.ensures;
+  drops = subst (λ deleted. Drops c.args.kept.now deleted (IsNamedIn c.args.waiting.now c.args.more.now) c.in_ok-came.came.items c.in_ok-besides.besides) c.ids.ensures
+      (subst (λ came. Drops c.args.kept.now c.ids.result.now (IsNamedIn c.args.waiting.now c.args.more.now) came c.in_ok-besides.besides) c.deref.ensures.value c.in_ok-besides.ensures);
+  grown = c.in_ok-grown.ensures.grown;
 }
 
 pub returns-clause-held : goal.returns-clause-held
 returns-clause-held c = λ x h. falls_below c.args.held.now c.received.ensures.holds c.args.kept.now c.requires.ids c.args.order.now c.requires.came c.in_ok-came.came.items
-    c.in_ok-came.ensures c.args.deletes.now (IsNamedIn c.args.waiting.now c.args.more.now) x
-    ((subst (λ came. Drops c.args.kept.now c.args.deletes.now (IsNamedIn c.args.waiting.now c.args.more.now) came c.in_ok-besides.besides) c.deref.ensures.value c.in_ok-besides.ensures).only x h)
+    c.in_ok-came.ensures c.ids.result.now (IsNamedIn c.args.waiting.now c.args.more.now) x
+    ((subst (λ came. Drops c.args.kept.now c.ids.result.now (IsNamedIn c.args.waiting.now c.args.more.now) came c.in_ok-besides.besides) c.deref.ensures.value c.in_ok-besides.ensures).only x h)

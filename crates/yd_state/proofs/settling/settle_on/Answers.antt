@@ -1,8 +1,9 @@
-use Rattle.std.proofs.Common.{map, ap, ◌∙◌}
+use Rattle.std.proofs.Common.{map, ap, sym, subst, ◌∙◌}
 use Rattle.yd_ops.specs.Operation.{Operation}
 use Rattle.yd_kept.specs.Marking.{DeletesEach}
 use Rattle.yd_kept.proofs.MarkingLemmas.{parting_and_marking_deletes}
 use Rattle.yd_received.specs.Received.{held_of}
+use Rattle.yd_state.specs.Settling.{grown_to, DeletesOn, MarksOn}
 use Rattle.yd_state.proofs.CameLemmas.{written}
 use Rattle.yd_state.proofs.GrowingLemmas.{lists_grow}
 use Rattle.yd_state.proofs.MarkingLemmas.{marked_keeps, marked_units, marks_on, marks_told}
@@ -46,7 +47,8 @@ returns-in-Ok-clause-deletes c =
     c.parted_then.ensures.names c.parted_then.ensures.count c.mark_each.ensures in
     let w = written c.args.held.now c.received.ensures.holds c.place.new.kept c.in_ok-place.ensures.ids in
     let ids = marked_keeps (held_of c.args.held.now.received) w c.place.new.kept c.mark_each.new.self c.in_ok-place.ensures.ids c.in-Ok.field-0.fallen.besides each in
-    own_still c.args.held.now c.args.kept.now c.place.new.kept c.tell.new.kept
+    subst (DeletesOn c.args.held.now c.args.deletes.now c.args.waiting.now c.args.more.now c.args.kept.now c.tell.new.kept) (sym (c.put.ensures ∙ ap (λ deleted. grown_to deleted c.in-Ok.field-0.fallen.grown) c.parted_then.ensures.as_it_was))
+    (own_still c.args.held.now c.args.kept.now c.place.new.kept c.tell.new.kept
     (λ list. told_ids (held_of c.args.held.now.received) c.mark_each.new.self c.tell.new.kept c.tell.ensures.less ids
     (record { lists = c.store-in-Ok.ensures.lists; told = c.store-in-Ok.ensures.told })
     (record { lists = c.store-in-Ok-2.ensures.lists; told = c.store-in-Ok-2.ensures.told }) list
@@ -54,16 +56,17 @@ returns-in-Ok-clause-deletes c =
     c.args.deletes.now c.args.waiting.now c.args.more.now _
     (deletes_on c.args.held.now c.received.ensures.holds c.args.kept.now c.place.new.kept c.args.order.now c.requires.placed c.in_ok-place.ensures.placed
     c.in_ok-place.ensures.ids (record { lists = c.store.ensures.lists; told = c.store.ensures.told })
-    c.args.deletes.now c.args.waiting.now c.args.more.now c.in-Ok.field-0.fallen.besides _ c.in-Ok.ensures.deletes)
+    c.args.deletes.now c.args.waiting.now c.args.more.now c.in-Ok.field-0.fallen.besides _ c.in-Ok.ensures.deletes))
 
 pub returns-in-Ok-clause-marks : goal.returns-in-Ok-clause-marks
 returns-in-Ok-clause-marks c =
     let each : DeletesEach c.place.new.kept c.mark_each.new.self c.in-Ok.field-0.fallen.besides =
     parting_and_marking_deletes c.place.new.kept c.parted_then.new.kept c.mark_each.new.self c.in-Ok.field-0.fallen.besides c.parted_then.ensures.kept
     c.parted_then.ensures.names c.parted_then.ensures.count c.mark_each.ensures in
-    marks_told c.args.held.now c.args.kept.now c.mark_each.new.self c.tell.new.kept c.args.deletes.now _ c.tell.ensures.less
+    subst (MarksOn c.args.held.now c.args.kept.now c.tell.new.kept c.args.deletes.now) (sym (c.put.ensures ∙ ap (λ deleted. grown_to deleted c.in-Ok.field-0.fallen.grown) c.parted_then.ensures.as_it_was))
+    (marks_told c.args.held.now c.args.kept.now c.mark_each.new.self c.tell.new.kept c.args.deletes.now _ c.tell.ensures.less
     (marks_on c.args.held.now c.args.kept.now c.place.new.kept c.mark_each.new.self c.in_ok-place.ensures.placed c.args.deletes.now c.in-Ok.field-0.fallen.besides _
-    each c.in-Ok.ensures.deletes.grown)
+    each c.in-Ok.ensures.deletes.grown))
 
 pub returns-in-Err-clause-unchanged : goal.returns-in-Err-clause-unchanged
 returns-in-Err-clause-unchanged c =

@@ -9,6 +9,6 @@ use Rattle.yd_state.proofs.state.State.waiting_ids.Goals as goal
 
 pub returns : goal.returns
 returns c =
-    c.count_ids.ensures ∙ ap (λ v. sum_by (waiting_ids v) c.self.inside.sets.named) c.vector.ensures.vector
+    c.count_ids.ensures ∙ ap (sum_by (waiting_ids c.vector.result.now)) c.ids.ensures ∙ ap (λ v. sum_by (waiting_ids v) c.self.inside.sets.named) c.vector.ensures.vector
     ∙ ids_wait c.self.inside.held c.vector.ensures.holds c.self.inside.sets.named c.self.invariant.received.maximal
     ∙ ap (λ (s : StateValue). count_of_ids s.named - named_count s.named (held_set (taken_of s.held.received))) c.self.view_is
