@@ -4,4 +4,7 @@ mod FindingLemmas
 mod ItemsLemmas
 mod SlotsLemmas
 mod SearchLemmas
+mod OrderLemmas
+mod CrowdsLemmas
+mod CodedLemmas
 mod GroupsLemmas

@@ -1,8 +1,6 @@
 -- Where a name can still stand, while the places of its code are looked at from the last one on.
-use Rattle.std.proofs.Common.{◌≡◌, ◌≢◌, ◌∙◌, ℕ, zero, suc, ◌<◌, ◌≤◌, Bool, true, false, cond, List, [], ◌∷◌, Option, Some, None, IfSome, length, map, take, refl, sym, ap, subst, arith, tests, nat_eq}
+use Rattle.std.proofs.Common.{◌≡◌, ◌≢◌, ◌∙◌, ℕ, zero, suc, ◌<◌, ◌≤◌, Bool, true, false, cond, List, [], ◌∷◌, Option, Some, None, IfSome, length, take, refl, sym, ap, subst, arith, tests, nat_eq}
 use Rattle.std.specs.Prelude.{slice_get}
-use Rattle.std.specs.Option.{option_map}
-use Rattle.std.proofs.lemmas.Option.{slice_get-map}
 use Rattle.yd_words.proofs.OptionLemmas.{some_is}
 use Rattle.yd_names.specs.Codes.{one_later, place_or, last_place}
 use Rattle.yd_names.specs.Slots.{bound_of}
@@ -78,46 +76,36 @@ front_within code k cs = let le = within code (take k cs) in let less = shorter 
     shorter (suc k) [] = omega arith
     shorter (suc k) (c ∷ cs) = let le = shorter k cs in omega arith
 
--- ---- elements by their codes
+-- ---- places by their codes
 
--- the elements, their codes, and those that are looked for, which have one code
-module _ {X : Type 0} (xs : List X) (code_of : X → ℕ) (wanted : X → Type 0) (code : ℕ) (coded_so : (x : X) → wanted x → code_of x ≡ code) where
-  abbrev codes : List ℕ
-  codes = map code_of xs
-
+-- the codes, and the places that are looked for, which have one code
+module _ (codes : List ℕ) (wanted : ℕ → Type 0) (code : ℕ) (coded_so : (n : ℕ) → wanted n → slice_get codes n ≡ Some code) where
   -- below a bound none that is looked for stands behind the next place, and the code stands there
   pub record IsLookedFor (top : ℕ) (next : Option ℕ) : Type 0 where
-    pub inside : bound_of next ≤ length xs
+    pub inside : bound_of next ≤ length codes
     pub below : bound_of next ≤ top
-    pub before : (n : ℕ) (x : X) → n < top → slice_get xs n ≡ Some x → wanted x → n < bound_of next
+    pub before : (n : ℕ) → n < top → wanted n → n < bound_of next
     pub coded : IfSome next (λ n. slice_get codes n ≡ Some code)
-
-  map_long : (ys : List X) → length (map code_of ys) ≡ length ys
-  map_long [] = refl
-  map_long (y ∷ ys) = ap suc (map_long ys)
-
-  coded_there : (n : ℕ) (x : X) → slice_get xs n ≡ Some x → wanted x → slice_get codes n ≡ Some code
-  coded_there n x e want = slice_get-map code_of xs n ∙ ap (λ o. option_map code_of o) e ∙ ap (λ c. Some c) (coded_so x want)
 
   deeper : (number : ℕ) (o : Option ℕ) → IfSome o (λ n. slice_get (take number codes) n ≡ Some code) → IfSome o (λ n. slice_get codes n ≡ Some code)
   deeper number None i = i
   deeper number (Some n) i = got_in_front number codes n code i
 
   -- the last place of the code is the first to be looked at
-  pub begins : IsLookedFor (length xs) (last_place code codes)
+  pub begins : IsLookedFor (length codes) (last_place code codes)
   begins = record {
-    inside = subst (λ n. bound_of (last_place code codes) ≤ n) (map_long xs) (within code codes);
-    below = subst (λ n. bound_of (last_place code codes) ≤ n) (map_long xs) (within code codes);
-    before = λ n x lt e want. looked code codes n (coded_there n x e want);
+    inside = within code codes;
+    below = within code codes;
+    before = λ n lt want. looked code codes n (coded_so n want);
     coded = has_code code codes;
   }
 
   -- and so it is before a place
   pub begins_before : (number : ℕ) → IsLookedFor number (last_place code (take number codes))
   begins_before number = record {
-    inside = subst (λ n. bound_of (last_place code (take number codes)) ≤ n) (map_long xs) (front_within code number codes);
+    inside = front_within code number codes;
     below = let le = within code (take number codes) in let less = front_long number codes in omega arith;
-    before = λ n x lt e want. looked code (take number codes) n (front_has number codes n lt ∙ coded_there n x e want);
+    before = λ n lt want. looked code (take number codes) n (front_has number codes n lt ∙ coded_so n want);
     coded = deeper number (last_place code (take number codes)) (has_code code (take number codes));
   }
 
@@ -125,22 +113,22 @@ module _ {X : Type 0} (xs : List X) (code_of : X → ℕ) (wanted : X → Type 0
       IfSome (slice_get codes number) (λ code. next ≡ last_place code (take number codes)) → next ≡ last_place code (take number codes)
   found_before number next e is = subst (λ o. IfSome o (λ code. next ≡ last_place code (take number codes))) e is
 
-  -- where what stands at the next place is not looked for, the place before it with the code is the next one
-  pub goes_on : (top number : ℕ) (next : Option ℕ) → IsLookedFor top (Some number) → ((x : X) → slice_get xs number ≡ Some x → wanted x → ⊥) →
+  -- where the next place is not looked for, the place before it with the code is the next one
+  pub goes_on : (top number : ℕ) (next : Option ℕ) → IsLookedFor top (Some number) → (wanted number → ⊥) →
       IfSome (slice_get codes number) (λ code. next ≡ last_place code (take number codes)) → IsLookedFor top next
   goes_on top number next was other is = record {
-    inside = subst (λ o. bound_of o ≤ length xs) (sym found) (begins_before number).inside;
+    inside = subst (λ o. bound_of o ≤ length codes) (sym found) (begins_before number).inside;
     below = let le : bound_of next ≤ number = subst (λ o. bound_of o ≤ number) (sym found) (begins_before number).below in let less : suc number ≤ top = was.below in omega arith;
-    before = λ n x lt e want. subst (λ o. n < bound_of o) (sym found) ((begins_before number).before n x (lower n x lt e want) e want);
+    before = λ n lt want. subst (λ o. n < bound_of o) (sym found) ((begins_before number).before n (lower n lt want) want);
     coded = subst (λ o. IfSome o (λ n. slice_get codes n ≡ Some code)) (sym found) (begins_before number).coded;
   }
     where
       found : next ≡ last_place code (take number codes)
       found = found_before number next was.coded is
 
-      lower : (n : ℕ) (x : X) → n < top → slice_get xs n ≡ Some x → wanted x → n < number
-      lower n x lt e want = let less : n < suc number = was.before n x lt e want in
-          let apart : n ≢ number = (λ same. other x (subst (λ k. slice_get xs k ≡ Some x) same e) want) in omega arith
+      lower : (n : ℕ) → n < top → wanted n → n < number
+      lower n lt want = let less : n < suc number = was.before n lt want in
+          let apart : n ≢ number = (λ same. other (subst wanted same want)) in omega arith
 
   pub goes_down : (top number : ℕ) (next : Option ℕ) → IsLookedFor top (Some number) →
       IfSome (slice_get codes number) (λ code. next ≡ last_place code (take number codes)) → bound_of next < bound_of (Some number)

@@ -9,12 +9,15 @@ use Rattle.yd_names.specs.Codes.{last_place}
 use Rattle.yd_names.specs.Slots.{bound_of, slot_of, AreFound, IsSearched}
 use Rattle.yd_names.proofs.NamesLemmas.{IsLookedFor, looked, has_code, front_has, front_long, got_in_front, begins_before}
 
--- the code is looked for
-abbrev pub IsCode : ℕ → ℕ → Type 0
-IsCode code other = other ≡ code
+-- places of the code are looked for
+abbrev pub IsPlaceOf : List ℕ → ℕ → ℕ → Type 0
+IsPlaceOf codes code n = slice_get codes n ≡ Some code
+
+pub slot_there : (codes : List ℕ) (size code n : ℕ) → IsPlaceOf codes code n → slice_get (map (slot_of size) codes) n ≡ Some (slot_of size code)
+slot_there codes size code n e = slice_get-map (slot_of size) codes n ∙ ap (λ o. option_map (slot_of size) o) e
 
 abbrev pub CodeLookedFor : List ℕ → ℕ → ℕ → ℕ → Option ℕ → Type 0
-CodeLookedFor codes size code top next = IsLookedFor codes (slot_of size) (IsCode code) (slot_of size code) (λ other e. ap (slot_of size) e) top next
+CodeLookedFor codes size code top next = IsLookedFor (map (slot_of size) codes) (IsPlaceOf codes code) (slot_of size code) (slot_there codes size code) top next
 
 -- so it is wherever the search began
 abbrev pub IsSearching : List ℕ → List ℕ → ℕ → ℕ → Option ℕ → Type 0
@@ -29,7 +32,10 @@ bound_same (Some m) (Some n) e = ap (λ n. Some n) (omega arith)
 module _ (codes before : List ℕ) (code from : ℕ) where
   pub search_begins : (next : Option ℕ) → bound_of next ≡ from → IsSearching codes before code from next
   search_begins next e it = subst (CodeLookedFor codes it.size code it.top) (sym (bound_same next _ (e ∙ it.begins)))
-      (begins_before codes (slot_of it.size) (IsCode code) (slot_of it.size code) (λ other e. ap (slot_of it.size) e) it.top)
+      (begins_before (map (slot_of it.size) codes) (IsPlaceOf codes code) (slot_of it.size code) (slot_there codes it.size code) it.top)
+
+  pub place_inside : IsSearched codes before code from → (number : ℕ) → IsSearching codes before code from (Some number) → number < length codes
+  place_inside it number was = subst (λ n. suc number ≤ n) (length-map codes (slot_of it.size)) (was it).inside
 
   -- the place before a place, in its slot
   pub next_is : (it : IsSearched codes before code from) (number was : ℕ) (next : Option ℕ) → slice_get before number ≡ Some was → bound_of next ≡ was →
@@ -51,7 +57,7 @@ module _ (codes before : List ℕ) (code from : ℕ) where
       go : (next o : Option ℕ) → CodeLookedFor codes it.size code it.top next → IfSome next (λ n. slice_get codes n ≡ Some code) → last_place code (take it.top codes) ≡ o →
           IfSome o (λ n. slice_get (take it.top codes) n ≡ Some code) → next ≡ o
       go None None was here e there = refl
-      go None (Some m) was here e there = let lt : m < 0 = was.before m code (inside m there) (got_in_front it.top codes m code there) refl in absurd (omega arith)
+      go None (Some m) was here e there = let lt : m < 0 = was.before m (inside m there) (got_in_front it.top codes m code there) in absurd (omega arith)
       go (Some n) o was here e there = last o e there
         where
           below : n < it.top
@@ -64,7 +70,7 @@ module _ (codes before : List ℕ) (code from : ℕ) where
           last None e there = let lt : n < 0 = subst (λ o. n < bound_of o) e least in absurd (omega arith)
           last (Some m) e there = ap (λ n. Some n)
               (let lt : n < suc m = subst (λ o. n < bound_of o) e least in
-              let less : m < suc n = was.before m code (inside m there) (got_in_front it.top codes m code there) refl in omega arith)
+              let less : m < suc n = was.before m (inside m there) (got_in_front it.top codes m code there) in omega arith)
 
 -- ---- where a search begins
 

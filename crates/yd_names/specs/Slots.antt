@@ -1,5 +1,5 @@
 -- Places in slots, each of which knows its last place (own).
-use Rattle.std.specs.Prelude.{◌≡◌, ◌<◌, ◌≤◌, ℕ, suc, ◌*◌, ◌/◌, ◌%◌, List, Option, Some, None, slice_get, map, take, length}
+use Rattle.std.specs.Prelude.{◌≡◌, ◌<◌, ◌≤◌, ℕ, suc, ◌-◌, ◌*◌, ◌/◌, ◌%◌, List, Option, Some, None, slice_get, map, take, length, nat_eq, if◌then◌else◌}
 use Rattle.yd_names.specs.Codes.{last_place}
 
 -- a place as a number, with zero for none: it and all before it are below that number
@@ -7,9 +7,13 @@ abbrev pub bound_of : Option ℕ → ℕ
 bound_of None = 0
 bound_of (Some n) = suc n
 
--- the slot of a code: its product with a number whose multiples lie evenly, as a part of all slots
+-- what stands in place of the code of a name that a bisection finds; it is no code of a name
+abbrev pub crowded : ℕ
+crowded = 4294967295
+
+-- the slot of a code: its product with a number whose multiples lie evenly, as a part of all slots but the last, which is that of `crowded`
 abbrev pub slot_of : ℕ → ℕ → ℕ
-slot_of size code = code * 2654435769 % 4294967296 * size / 4294967296
+slot_of size code = if nat_eq code crowded then size - 1 else code * 2654435769 % 4294967296 * (size - 1) / 4294967296
 
 -- the last place of each slot is known, and of each place the last one before it in the same slot
 pub record AreSlots (slots heads before : List ℕ) : Type 0 where

@@ -9,6 +9,10 @@ use std::alloc::Global;
 use std::marker::Model;
 use yd_ops::NoMemory;
 
+/// How many places a search walks over in a slot. Few slots of many have more than a few, where no
+/// one sought names for it.
+const LONGEST: usize = 32;
+
 /// Codes in a row. A code may stand there more than once.
 #[derive(Drop)]
 pub struct Codes {
@@ -86,6 +90,40 @@ impl Codes {
             self.slots.pop(slot_of(size, code));
         }
     }
+
+    /// Keeps the first codes alone, in time of what it drops.
+    pub fn truncate(&mut self, len: usize)
+        ensures { self.new ≡ take len self.old }
+    {
+        while self.codes.len() > len {
+            self.pop();
+        }
+    }
+
+    /// The slot of a code has as many places as a search is to walk over. What goes elsewhere then
+    /// is for speed alone, so no clause says which answer it is.
+    pub fn is_long(&self, code: u32) -> bool {
+        let size = self.slots.heads.len();
+        if size == 0 {
+            return false;
+        }
+        has_so_many(&self.slots.before, self.slots.heads[slot_of(size, code)])
+    }
+}
+
+/// From a number of a place on there are as many places in its slot as a search is to walk over.
+fn has_so_many(before: &[u32], from: u32) -> bool {
+    let mut next = from;
+    for _ in 0..LONGEST {
+        let Some(place) = place_of(next) else {
+            return false;
+        };
+        if place >= before.len() {
+            return false;
+        }
+        next = before[place];
+    }
+    true
 }
 
 /// The last place of a code, where the number of the last one that can be it is known.
@@ -114,7 +152,8 @@ fn make_room(codes: &[u32], slots: &mut Slots) -> Result<(), NoMemory>
         return Ok(());
     }
     let alloc = *slots.heads.allocator();
-    *slots = in_slots(alloc, codes, codes.len().max(4) * 2)?;
+    // There are twice as many, and one for `CROWDED`.
+    *slots = in_slots(alloc, codes, codes.len().max(5) * 2 - 1)?;
     Ok(())
 }
 

@@ -5,7 +5,7 @@ ghost use Rattle.yd_names.specs.Codes.{last_place};
 ghost use Rattle.yd_names.specs.Groups.{KeepsGroups};
 
 use crate::codes::Codes;
-use crate::slots::{Slots, place_of};
+use crate::slots::{Slots, narrowed, place_of};
 use std::alloc::Global;
 use std::marker::Model;
 use yd_ops::NoMemory;
@@ -114,16 +114,6 @@ fn number_for(codes: &mut Codes, heads: &mut Vec<u32>, code: u32) -> Result<u32,
     codes.push(code)?;
     heads.push_reserved(0);
     Ok(number)
-}
-
-/// The number in fewer bits. There is no room for greater ones.
-fn narrowed(number: usize) -> Result<u32, NoMemory>
-    ensures { IfOk result (λ narrow. narrow ≡ number) }
-{
-    if number > 4294967295 {
-        return Err(NoMemory);
-    }
-    Ok(number as u32)
 }
 
 /// Takes the last code away, where it has this number and stands nowhere.

@@ -1,10 +1,14 @@
 //! Names of lists, by their numbers.
 
 ghost use Rattle.std.specs.Prelude.{◌≡◌, ◌≢◌, ◌++◌, ◌∷◌, [], ℕ, Some, length, take, slice_get, IfSome, IfNone, OnOk, OnErr};
+ghost use Rattle.yd_names.specs.Coding.{code_of_list};
+ghost use Rattle.yd_names.specs.Names.{AreCoded};
 
 use crate::codes::Codes;
 use crate::coding::code_of_list;
+use crate::crowds::{join_crowd, keep_below, number_in_crowd};
 use crate::same::is_same_list;
+use crate::slots::CROWDED;
 use std::alloc::Global;
 use std::marker::Model;
 use yd_ops::{List, NoMemory};
@@ -13,7 +17,10 @@ use yd_ops::{List, NoMemory};
 #[derive(Drop)]
 pub struct Names {
     names: Vec<List>,
+    // The codes by number, and `CROWDED` for those in the crowd.
     codes: Codes,
+    // The numbers of names whose slots were long, in the order of the names.
+    crowd: Vec<u32>,
 }
 
 impl Model for Names {
@@ -25,7 +32,7 @@ impl Model for Names {
 
     ghost view = { λ it. it.names.items };
 
-    ghost invariant = { λ it. AreCoded it.names.items it.codes };
+    ghost invariant = { λ it. AreCoded it.names.items it.codes it.crowd.items };
 }
 
 impl Names {
@@ -36,6 +43,7 @@ impl Names {
         Names {
             names: Vec::new(alloc),
             codes: Codes::new(alloc),
+            crowd: Vec::new(alloc),
         }
     }
 
@@ -54,19 +62,15 @@ impl Names {
     }
 
     /// The number of a name, and none where it is not there. It takes a look-up by a hash, and time with
-    /// the length of the name; names that share a code are looked at one by one.
+    /// the length of the name. Where many names share a slot, it takes a bisection among them.
     pub fn number_of(&self, name: &List) -> Option<usize>
         ensures there { IfSome result (λ n. slice_get self.now n ≡ Some name.now) }
         ensures none { IfNone result ((n : ℕ) → slice_get self.now n ≢ Some name.now) }
     {
-        let mut next = self.codes.last_of(code_of_list(name));
-        while let Some(number) = next {
-            if is_same_list(&self.names[number], name) {
-                return Some(number);
-            }
-            next = self.codes.before(number);
+        if let Some(number) = number_by_code(&self.names, &self.codes, name) {
+            return Some(number);
         }
-        None
+        number_in_crowd(&self.crowd, &self.names, name)
     }
 
     /// One name more, which gets the next number.
@@ -75,18 +79,73 @@ impl Names {
         ensures unchanged { OnErr result (self.new ≡ self.old) }
     {
         self.names.reserve(1)?;
-        self.codes.push(code_of_list(&name))?;
+        push_code(&mut self.codes, &mut self.crowd, &self.names, &name)?;
         self.names.push_reserved(name);
         Ok(())
     }
 
-    /// Keeps the first names alone, in time of what it drops.
+    /// Keeps the first names alone, in time of what it drops and of the crowd.
     pub fn truncate(&mut self, len: usize)
         ensures { self.new ≡ take len self.old }
     {
-        while self.names.len() > len {
-            self.names.pop();
-            self.codes.pop();
-        }
+        self.names.truncate(len);
+        self.codes.truncate(len);
+        keep_below(&mut self.crowd, len);
     }
+}
+
+/// The number of a name that is found by its code.
+fn number_by_code(names: &[List], codes: &Codes, name: &List) -> Option<usize>
+    requires { length codes.now ≡ length names.now }
+    ensures there { IfSome result (λ n. slice_get names.now n ≡ Some name.now) }
+    ensures none { IfNone result ((n : ℕ) → slice_get codes.now n ≡ Some (code_of_list name.now) →
+        slice_get names.now n ≢ Some name.now) }
+{
+    let mut next = codes.last_of(code_of_list(name));
+    while let Some(number) = next {
+        if is_same_list(&names[number], name) {
+            return Some(number);
+        }
+        next = codes.before(number);
+    }
+    None
+}
+
+/// The code of one name more, which joins the crowd where the slot of the code is long.
+fn push_code(
+    codes: &mut Codes,
+    crowd: &mut Vec<u32>,
+    names: &[List],
+    name: &List,
+) -> Result<(), NoMemory>
+    requires { AreCoded names.now codes.old crowd.old.items }
+    ensures pushed { OnOk result (AreCoded (names.now ++ name.now ∷ []) codes.new crowd.new.items) }
+    ensures unchanged { OnErr result (AreCoded names.now codes.new crowd.new.items) }
+{
+    let code = code_of_list(name);
+    if codes.is_long(code) {
+        return push_crowded(codes, crowd, names, name);
+    }
+    codes.push(code)?;
+    Ok(())
+}
+
+/// One name more in the crowd.
+fn push_crowded(
+    codes: &mut Codes,
+    crowd: &mut Vec<u32>,
+    names: &[List],
+    name: &List,
+) -> Result<(), NoMemory>
+    requires { AreCoded names.now codes.old crowd.old.items }
+    ensures pushed { OnOk result (AreCoded (names.now ++ name.now ∷ []) codes.new crowd.new.items) }
+    ensures unchanged { OnErr result (AreCoded names.now codes.new crowd.new.items) }
+{
+    // The code goes again where the crowd finds no memory.
+    codes.push(CROWDED)?;
+    if join_crowd(crowd, names, name).is_err() {
+        codes.pop();
+        return Err(NoMemory);
+    }
+    Ok(())
 }

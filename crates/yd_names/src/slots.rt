@@ -1,10 +1,13 @@
 //! Places in slots: each slot knows its last place, and each place the one before it in its slot.
 
 ghost use Rattle.std.specs.Prelude.{◌≡◌, ◌<◌, ◌++◌, ◌∷◌, [], ℕ, List, None, length, replicate, All, IfOk, OnOk, OnErr};
-ghost use Rattle.yd_names.specs.Slots.{bound_of, slot_of, AreSlots};
+ghost use Rattle.yd_names.specs.Slots.{bound_of, crowded, slot_of, AreSlots};
 
 use std::alloc::Global;
 use yd_ops::NoMemory;
+
+/// What stands in place of the code of a name that a bisection finds.
+pub(crate) const CROWDED: u32 = 4294967295;
 
 /// Numbers of places, each one more than the place, and zero for none.
 #[derive(Drop)]
@@ -60,6 +63,16 @@ impl Slots {
     }
 }
 
+/// The number in fewer bits. There is no room for greater ones.
+pub(crate) fn narrowed(number: usize) -> Result<u32, NoMemory>
+    ensures { IfOk result (λ narrow. narrow ≡ number) }
+{
+    if number > 4294967295 {
+        return Err(NoMemory);
+    }
+    Ok(number as u32)
+}
+
 /// The place that a number stands for.
 pub(crate) fn place_of(number: u32) -> Option<usize>
     ensures { bound_of result ≡ number }
@@ -70,12 +83,15 @@ pub(crate) fn place_of(number: u32) -> Option<usize>
     Some(number as usize - 1)
 }
 
-/// The slot of a code, where there are so many.
+/// The slot of a code, where there are so many. The last is for `CROWDED` alone.
 pub(crate) fn slot_of(size: usize, code: u32) -> usize
     requires { 0 < size }
     ensures slot { result ≡ slot_of size code }
     ensures low { result < size }
 {
+    if code == CROWDED {
+        return size - 1;
+    }
     let mixed = code.wrapping_mul(2654435769);
-    (mixed as u128 * size as u128 / 4294967296) as usize
+    (mixed as u128 * (size - 1) as u128 / 4294967296) as usize
 }

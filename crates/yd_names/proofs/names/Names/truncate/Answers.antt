@@ -1,16 +1,10 @@
-use Rattle.std.proofs.Common.{◌≡◌, ◌-◌, ◌∙◌, length, take, sym, subst, arith}
-use Rattle.yd_names.specs.Coding.{code_of_list}
+use Rattle.std.proofs.Common.{sym, take, subst}
 use Rattle.yd_names.specs.Names.{AreCoded}
-use Rattle.yd_names.proofs.ItemsLemmas.{popped_codes, without_last, front_stays}
+use Rattle.yd_names.proofs.CodedLemmas.{coded_front}
 use Rattle.yd_names.proofs.names.Names.truncate.Goals as goal
 
-pub loop-self-preserved : goal.loop-self-preserved
-loop-self-preserved c = (
-  front_stays c.args.len c.loop-self.self-inside.names.items c.pop.new.self.items (omega (arith, c.len.ensures, c.loop-self-test.true)) less ∙ c.loop-self.invariant.0,
-  subst (λ names. AreCoded names c.pop-in-loop-self.new.self) (sym less)
-      (popped_codes code_of_list c.loop-self.self-inside.names.items c.loop-self.self-inside.codes c.pop-in-loop-self.new.self c.loop-self.invariant.1 c.pop-in-loop-self.ensures),
-)
-  where
-    less : c.pop.new.self.items ≡ take (length c.loop-self.self-inside.names.items - 1) c.loop-self.self-inside.names.items
-    less = without_last c.loop-self.self-inside.names.items c.pop.new.self.items c.pop.result c.pop.ensures.items
-        (c.pop.ensures.variant.1 (omega (arith, c.len.ensures, c.loop-self-test.true)))
+pub invariant_of-self : goal.invariant_of-self
+invariant_of-self c = subst (λ names. AreCoded names c.truncate-2.new.self c.keep_below.new.crowd.items) (sym c.truncate.ensures.items)
+    (subst (λ codes. AreCoded (take c.args.len c.self.inside.names.items) codes c.keep_below.new.crowd.items) (sym c.truncate-2.ensures)
+    (subst (λ crowd. AreCoded (take c.args.len c.self.inside.names.items) (take c.args.len c.self.inside.codes) crowd) (sym c.keep_below.ensures)
+    (coded_front c.self.inside.names.items c.self.inside.codes c.self.inside.crowd.items c.args.len c.self.invariant)))
