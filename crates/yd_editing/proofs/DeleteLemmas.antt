@@ -27,6 +27,8 @@ use Rattle.yd_editing.specs.TextLaw.{IsQuietText, IsRemoved}
 use Rattle.yd_editing.proofs.NamedLemmas.{has_named, named_has}
 use Rattle.yd_editing.proofs.RefusalLemmas.{neither, id_in_map}
 use Rattle.yd_editing.proofs.IndexLemmas.{AreApart, units_have, has_units}
+use Rattle.yd_editing.proofs.EditedListLemmas.{as_list}
+use Rattle.yd_editing.proofs.OthersLemmas.{other_lists}
 use Rattle.yd_editing.proofs.OwnListLemmas.{is_shown_by, taken, is_held, counted_after, counted_named, units_apart, unit_in_order, filter_filter}
 
 -- ---- members of parts
@@ -163,7 +165,11 @@ module _ (client : Client) (r : Received) (name : DocList) (index len : ℕ) (qu
       (λ p j e. apart_parts middle back (apart_back front (middle ++ back) parts_apart) p o j i e)))))
 
   is_removed : IsRemoved client r name index len steps
-  is_removed = record { held = is_held client r name quiet steps (tt, tt) tt removed done; counted = counted_is }
+  is_removed = record {
+    held = is_held client r name quiet steps (tt, tt) tt removed done;
+    counted = counted_is;
+    others = other_lists client r name (as_list r name quiet) steps (tt, tt) tt removed done;
+  }
 
 -- ---- lemmas for callers
 

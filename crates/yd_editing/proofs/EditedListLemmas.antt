@@ -14,7 +14,7 @@ use Rattle.yd_ops.specs.Operation.{Operation, operations_of_run}
 use Rattle.yd_ops.specs.Received.{has_operation, all_taken, Received}
 use Rattle.yd_ops.specs.ReceivedLaw.{IsReceived}
 use Rattle.yd_meaning.specs.ListNames.{same_list_decides}
-use Rattle.yd_meaning.specs.Names.{same_list, item_of_list}
+use Rattle.yd_meaning.specs.Names.{same_list, has_key, item_of_list}
 use Rattle.yd_meaning.specs.Held.{held_set, held_clock, standing, is_named}
 use Rattle.yd_meaning.specs.Order.{list_of, order_of, AreHonest}
 use Rattle.yd_meaning.specs.Deleted.{is_deleted}
@@ -25,7 +25,7 @@ use Rattle.yd_editing.specs.Refused.{refusal_of}
 use Rattle.yd_editing.specs.Law.{after_edit, IsHonestHeld, units_of, StandAfter, MakesContent, made_by, evolved_by, EditIsTaken, EditIsHeld}
 use Rattle.yd_editing.specs.TextLaw.{IsQuietText, MakesIn}
 use Rattle.yd_editing.proofs.NamedLemmas.{has_named, named_has}
-use Rattle.yd_editing.proofs.LiveLemmas.{parent_same}
+use Rattle.yd_editing.proofs.LiveLemmas.{parent_same, stood_same}
 use Rattle.yd_editing.proofs.UnitLemmas.{in_list, unit_ids, held_id}
 use Rattle.yd_editing.proofs.TakenLemmas.{honest_held, edit_is_taken, edit_is_held}
 
@@ -129,6 +129,12 @@ module _ (client : Client) (r : Received) (name : DocList) (quiet : IsQuietList 
   -- the same, of all that is held afterwards
   pub live_new : is_some_and (is_deleted new (is_named r_after.deletes)) (item_of_list name) ≡ false
   live_new = subst (λ os. is_some_and (is_deleted os (is_named r_after.deletes)) (item_of_list name) ≡ false) (sym is_held.held) live_after
+
+  -- where the list has no key, and nothing more is named, all that stood is deleted as before
+  pub stood_as_before : has_key name ≡ false → ((x : Id) → is_named r_after.deletes x ≡ is_named r.deletes x) → (y : Id) → has_operation (standing held) y ≡ true →
+      is_deleted new (is_named r_after.deletes) y ≡ is_deleted held (is_named r.deletes) y
+  stood_as_before no_key same y e = ap (λ os. is_deleted os (is_named r_after.deletes) y) is_held.held
+      ∙ stood_same held news (evolved_by client r steps) is moment name others (is_named r.deletes) (is_named r_after.deletes) same_named no_key same y e
 
   -- what a new operation is: not named before
   pub new_not_named : (o : Operation) → IsIn o news → is_named r.deletes o.id ≡ false

@@ -1,4 +1,4 @@
--- A format: the units between its two marks have its value, and all else is as before.
+-- A format: the units between its two marks have its value, and other units, keys and lists stay.
 use Rattle.std.proofs.Common.{◌≡◌, ◌≢◌, ◌+◌, ℕ, Bool, true, false, not, ◌&&◌, List, [], ◌∷◌, ◌++◌, length, Option, Some, None, inl, inr, refl, sym, ap, ap₂, ◌∙◌, subst, true≢false}
 use Rattle.std.proofs.lemmas.Bool.{cases_Bool, false_from_ne_true}
 use Rattle.std.proofs.lemmas.List.Elements.{filter-append}
@@ -32,6 +32,8 @@ use Rattle.yd_editing.specs.TextLaw.{IsQuietText, valued, IsFormatted, with_valu
 use Rattle.yd_editing.proofs.NamedLemmas.{has_named, named_has}
 use Rattle.yd_editing.proofs.IndexLemmas.{AreApart, units_have, has_units}
 use Rattle.yd_editing.proofs.DeleteLemmas.{apart_parts, apart_back}
+use Rattle.yd_editing.proofs.EditedListLemmas.{as_list}
+use Rattle.yd_editing.proofs.OthersLemmas.{other_lists}
 use Rattle.yd_editing.proofs.OwnListLemmas.{is_shown_by, taken, is_held, live_evolved, live_named, new_not_named, units_apart, unit_in_order, unit_received, filter_filter}
 use Rattle.yd_editing.proofs.ValueLemmas.{values_between, length-one_more, without_marks, counted_no_mark, others_valued, length-valued}
 use Rattle.yd_editing.proofs.PartedLemmas.{three_parts, apart_three, kept_parts, kept_up_to, kept_behind, put_around}
@@ -244,6 +246,7 @@ module _ (client : Client) (r : Received) (name : DocList) (key : List ℕ) (val
           ∙ values_between key value live_front live_middle live_behind one two refl two_mark index len
           (length-valued key live_front null ∙ ap length (filter_filter is_live (λ o. is_counted o.content) front) ∙ e) (counted_middle ∙ f)
           ∙ ap (λ os. with_values value index len (valued key null os)) (sym live_is);
-      others = λ other differ. ap (valued other null) shape_after ∙ others_valued key value live_front live_middle live_behind one two refl two_mark other differ
+      keys = λ other differ. ap (valued other null) shape_after ∙ others_valued key value live_front live_middle live_behind one two refl two_mark other differ
           ∙ ap (valued other null) (sym live_is);
+      others = other_lists client r name (as_list r name quiet) steps (tt, (tt, (tt, tt))) (refl, (refl, tt)) removed done;
     }

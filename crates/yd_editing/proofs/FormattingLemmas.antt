@@ -23,6 +23,8 @@ use Rattle.yd_editing.specs.TextEdit.{counted_units, unit_at, format_between, fo
 use Rattle.yd_editing.specs.TextLaw.{IsQuietText, valued, valued_units, IsFormatted}
 use Rattle.yd_editing.proofs.IndexLemmas.{AreApart, unit_is_there, unit_below}
 use Rattle.yd_editing.proofs.DeleteLemmas.{apart_back, apart_kept}
+use Rattle.yd_editing.proofs.EditedListLemmas.{as_list}
+use Rattle.yd_editing.proofs.OthersLemmas.{other_lists}
 use Rattle.yd_editing.proofs.OwnListLemmas.{is_shown_by, taken, is_held, live_evolved, live_named, counted_named, units_apart}
 use Rattle.yd_editing.proofs.AroundLemmas.{SplitAt, split_at, index_is, unit_behind, apart_one, starts_with}
 use Rattle.yd_editing.proofs.InsertLemmas.{not_past, named_stays as keeps_named}
@@ -38,7 +40,8 @@ module _ (client : Client) (r : Received) (name : DocList) (index : ℕ) (key : 
   none_formatted done = record {
     held = is_held client r name quiet [] tt tt (λ x i. absurd i) done;
     own = ap (valued key null) stays ∙ sym (take-append-drop index (valued_units key r name));
-    others = λ other differ. ap (valued other null) stays;
+    keys = λ other differ. ap (valued other null) stays;
+    others = other_lists client r name (as_list r name quiet) [] tt tt (λ x i. absurd i) done;
   }
     where
       same : (x : Id) → HasId (after_edit client r []).deletes x ↔ HasId r.deletes x

@@ -7,6 +7,7 @@ use Rattle.std.specs.Prelude.{filter, take, drop, if◌then◌else◌}
 use Rattle.yd_words.specs.Each.{Each}
 use Rattle.yd_words.specs.Member.{IsIn}
 use Rattle.yd_words.proofs.FilterLemmas.{filter_alike, filter-all}
+use Rattle.yd_words.proofs.MemberLemmas.{in_left_part, in_right_part}
 use Rattle.yd_ids.specs.declared.id.Client.{Client}
 use Rattle.yd_ids.specs.declared.id.Id.{Id}
 use Rattle.yd_ids.specs.Set.{HasId}
@@ -28,6 +29,8 @@ use Rattle.yd_editing.specs.TextLaw.{IsQuietText, IsInserted}
 use Rattle.yd_editing.proofs.NamedLemmas.{has_named, named_has}
 use Rattle.yd_editing.proofs.RefusalLemmas.{neither, not_some}
 use Rattle.yd_editing.proofs.IndexLemmas.{at_place}
+use Rattle.yd_editing.proofs.EditedListLemmas.{as_list}
+use Rattle.yd_editing.proofs.OthersLemmas.{other_lists, deleted_same}
 use Rattle.yd_editing.proofs.OwnListLemmas.{is_shown_by, taken, is_held, counted_after, new_not_named, counted_named, units_apart, own_evolves}
 
 -- ---- the units of a run
@@ -83,6 +86,8 @@ module _ (client : Client) (r : Received) (name : DocList) (index : ℕ) (conten
         (λ o i. ap (λ t. not t && is_counted o.content) (named_stays client r [] o.id (same o.id)))
         ∙ sym (counted_named r name quiet) ∙ sym (take-append-drop index shown);
     contents = sym (none_of_none (units_of_content content) (length-units_of_content content ∙ none));
+    others = other_lists client r name (as_list r name quiet) [] tt tt (λ x i. absurd i) done;
+    deleted = deleted_same client r name quiet [] tt tt (λ x i. absurd i) done (λ x. named_stays client r [] x (same x)) (λ o i. absurd i);
   }
     where
       same : (x : Id) → HasId (after_edit client r []).deletes x ↔ HasId r.deletes x
@@ -124,6 +129,10 @@ module _ (client : Client) (r : Received) (name : DocList) (index : ℕ) (conten
         × (filter (is_shown_by (is_named r.deletes)) (units_behind (place_at os index) units) ≡ drop index os))
         (sym shown_is) (at_place (is_shown_by (is_named r.deletes)) units index (units_apart r name quiet) (subst (λ os. index ≤ length os) shown_is within))
 
+    news_there : (o : Operation) → IsIn o news → IsIn o (evolved_by client r steps name)
+    news_there o i = subst (λ os. IsIn o os) (sym (own_evolves client r name place content))
+        (in_right_part o (units_up_to place units) (news ++ units_behind place units) (in_left_part o news (units_behind place units) i))
+
     counted_is : counted_units (document_of (after_edit client r steps)) name ≡ take index shown ++ (news ++ drop index shown)
     counted_is = counted_after client r name quiet steps (makeable, tt) (refl, tt) (λ y i. absurd i) done
         ∙ old_test (evolved_by client r steps name)
@@ -132,7 +141,13 @@ module _ (client : Client) (r : Received) (name : DocList) (index : ℕ) (conten
         ∙ ap₂ (λ xs ys. xs ++ ys) around.0 (filter-append (is_shown_by (is_named r.deletes)) news (units_behind place units) ∙ ap₂ (λ xs ys. xs ++ ys) news_shown around.1)
 
     one_inserted : IsInserted client r name index content steps
-    one_inserted = record { held = is_held client r name quiet steps (makeable, tt) (refl, tt) (λ x i. absurd i) done; counted = counted_is; contents = contents_are }
+    one_inserted = record {
+      held = is_held client r name quiet steps (makeable, tt) (refl, tt) (λ x i. absurd i) done;
+      counted = counted_is;
+      contents = contents_are;
+      others = other_lists client r name (as_list r name quiet) steps (makeable, tt) (refl, tt) (λ x i. absurd i) done;
+      deleted = deleted_same client r name quiet steps (makeable, tt) (refl, tt) (λ x i. absurd i) done same news_there;
+    }
 
   either : (t : Bool) → nat_eq (len_of content) 0 ≡ t → refusal_of (basis_of client r)
       (if t then [] else make name (place_at (counted_units (document_of r) name) index) content ∷ []) ≡ None →

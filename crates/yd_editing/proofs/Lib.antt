@@ -11,6 +11,7 @@ pub mod LiveLemmas
 pub mod MapLemmas
 pub mod NamedLemmas
 pub mod OrderLemmas
+pub mod OthersLemmas
 pub mod OwnListLemmas
 pub mod PartedLemmas
 pub mod PlaceLemmas

@@ -1,5 +1,6 @@
 -- What is deleted after an edit of one list: of that list what is named, and of what lies around it the same as before.
-use Rattle.std.proofs.Common.{◌≡◌, ◌≢◌, ◌<◌, ℕ, zero, suc, Bool, true, false, ◌&&◌, ◌||◌, not, List, Option, Some, None, refl, sym, ap, ◌∙◌, subst, arith}
+use Rattle.std.proofs.Common.{◌≡◌, ◌≢◌, ◌⊎◌, ◌<◌, ℕ, zero, suc, Bool, true, false, ◌&&◌, ◌||◌, not, List, Option, Some, None, inl, inr, refl, sym, ap, ◌∙◌, subst, arith, true≢false}
+use Rattle.std.proofs.lemmas.Bool.{cases_Bool}
 use Rattle.std.specs.Prelude.{IfSome}
 use Rattle.yd_words.specs.Test.{is_some_and}
 use Rattle.yd_words.specs.Member.{IsIn}
@@ -13,7 +14,8 @@ use Rattle.yd_origins.specs.Table.{ids_of}
 use Rattle.yd_ops.specs.Received.{has_operation, all_taken}
 use Rattle.yd_ops.proofs.OneOfLemmas.{ids_stay}
 use Rattle.yd_meaning.specs.Held.{standing, is_lost}
-use Rattle.yd_meaning.specs.Names.{has_key, item_of_list}
+use Rattle.yd_meaning.specs.ListNames.{same_list_decides}
+use Rattle.yd_meaning.specs.Names.{same_list, has_key, item_of_list}
 use Rattle.yd_meaning.specs.Order.{rows_of, list_of, order_of}
 use Rattle.yd_meaning.specs.Deleted.{is_overwritten, is_deleted}
 use Rattle.yd_meaning.specs.Document.{document_with}
@@ -94,11 +96,15 @@ module _ (held news : List Operation) (evolved : DocList → List Operation) (is
   item_same None e = refl
   item_same (Some y) e = e
 
-  -- what lies no deeper than this is not of the list, so it is deleted as before
-  same_within : (n : ℕ) → ((x : Id) → has_operation (standing held) x ≡ true → depth x < n → list_of (standing held) x ≢ name) →
+  -- named and overwritten as before
+  abbrev IsAlike : Id → Type 0
+  IsAlike x = (after x ≡ named x) × (is_overwritten (standing new) (list_of (standing held) x) x ≡ is_overwritten (standing held) (list_of (standing held) x) x)
+
+  -- where all that lies no deeper than this is so, it is deleted as before
+  same_within : (n : ℕ) → ((x : Id) → has_operation (standing held) x ≡ true → depth x < n → IsAlike x) →
       (z : Id) → has_operation (standing held) z ≡ true → depth z < n → is_deleted new after z ≡ is_deleted held named z
-  same_within zero outside z e lt = absurd (omega (arith, lt))
-  same_within (suc n) outside z e lt = step (falls z e) (λ y f l. same_within n (λ x g less. outside x g (omega (arith, less))) y f l)
+  same_within zero alike z e lt = absurd (omega (arith, lt))
+  same_within (suc n) alike z e lt = step (falls z e) (λ y f l. same_within n (λ x g less. alike x g (omega (arith, less))) y f l)
     where
       step : IfSome (item_of_list (list_of (standing held) z)) (λ y. IsIn y (ids_of (rows_of (standing held))) × (depth y < depth z)) →
           ((y : Id) → has_operation (standing held) y ≡ true → depth y < n → is_deleted new after y ≡ is_deleted held named y) →
@@ -106,10 +112,8 @@ module _ (held news : List Operation) (evolved : DocList → List Operation) (is
       step below again = is_deleted_at new t.all_held after z (up z e)
           ∙ ap (λ list. after z || (is_overwritten (standing new) list z || is_some_and (is_deleted new after) (item_of_list list))) (sym (t.same_list z e))
           ∙ ap (λ b. b || (is_overwritten (standing new) (list_of (standing held) z) z || is_some_and (is_deleted new after) (item_of_list (list_of (standing held) z))))
-          (same_named z e (outside z e lt))
-          ∙ ap (λ order. named z || ((has_key (list_of (standing held) z) && not (is_same_neighbour (last_of order) (Some z)))
-          || is_some_and (is_deleted new after) (item_of_list (list_of (standing held) z))))
-          (others (list_of (standing held) z) (outside z e lt))
+          (alike z e lt).0
+          ∙ ap (λ b. named z || (b || is_some_and (is_deleted new after) (item_of_list (list_of (standing held) z)))) (alike z e lt).1
           ∙ ap (λ b. named z || (is_overwritten (standing held) (list_of (standing held) z) z || b))
           (item_same (item_of_list (list_of (standing held) z)) (each (item_of_list (list_of (standing held) z)) below))
           ∙ sym (is_deleted_at held is named z e)
@@ -119,13 +123,27 @@ module _ (held news : List Operation) (evolved : DocList → List Operation) (is
           each None b = tt
           each (Some y) b = again y (row_has (standing held) y b.0) (omega (arith, b.1, lt))
 
+  -- what is of another list is overwritten as before
+  other_alike : (x : Id) → list_of (standing held) x ≢ name →
+      is_overwritten (standing new) (list_of (standing held) x) x ≡ is_overwritten (standing held) (list_of (standing held) x) x
+  other_alike x differ = ap (λ order. has_key (list_of (standing held) x) && not (is_same_neighbour (last_of order) (Some x))) (others (list_of (standing held) x) differ)
+
   -- ---- lemmas for callers
 
   -- the parent of the list is deleted as before
   pub parent_same : (y : Id) → has_operation (standing held) y ≡ true → item_of_list name ≡ Some y → is_deleted new after y ≡ is_deleted held named y
-  parent_same y e item = same_within (suc (depth y)) outside y e (omega arith)
+  parent_same y e item = same_within (suc (depth y)) (λ x f lt. (same_named x f (outside x f lt), other_alike x (outside x f lt))) y e (omega arith)
     where
       outside : (x : Id) → has_operation (standing held) x ≡ true → depth x < suc (depth y) → list_of (standing held) x ≢ name
       outside x f lt same = let deeper : depth y < depth x = (subst (λ z. IfSome z (λ v. IsIn v (ids_of (rows_of (standing held))) × (depth v < depth x)))
           (ap item_of_list same ∙ item) (falls x f)).1 in
           absurd (omega (arith, lt, deeper))
+
+  -- where the list has no key, and nothing more is named, all that stood is deleted as before
+  pub stood_same : has_key name ≡ false → ((x : Id) → after x ≡ named x) → (y : Id) → has_operation (standing held) y ≡ true → is_deleted new after y ≡ is_deleted held named y
+  stood_same no_key same y e = same_within (suc (depth y)) (λ x f lt. (same x, either x (cases_Bool (same_list (list_of (standing held) x) name)))) y e (omega arith)
+    where
+      either : (x : Id) → (same_list (list_of (standing held) x) name ≡ true) ⊎ (same_list (list_of (standing held) x) name ≡ false) →
+          is_overwritten (standing new) (list_of (standing held) x) x ≡ is_overwritten (standing held) (list_of (standing held) x) x
+      either x (inl own) = rw (ap has_key ((same_list_decides (list_of (standing held) x) name).0 own) ∙ no_key) refl
+      either x (inr other) = other_alike x (λ own. true≢false (sym ((same_list_decides (list_of (standing held) x) name).1 own) ∙ other))

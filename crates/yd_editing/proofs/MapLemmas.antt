@@ -1,4 +1,4 @@
--- The edits of a map: what is set stands under its key, what is removed does not, and all else is as before.
+-- The edits of a map: what is set stands under its key, what is removed does not, and other keys and lists stay.
 use Rattle.std.proofs.Common.{append-nil, append_assoc, ◌≡◌, ◌≢◌, ℕ, Bool, true, false, not, ◌&&◌, List, [], ◌∷◌, ◌++◌, map, Option, Some, None, inl, inr, refl, sym, ap, ◌∙◌, subst, true≢false}
 use Rattle.std.proofs.lemmas.Bool.{false_from_ne_true}
 use Rattle.std.specs.Prelude.{if◌then◌else◌}
@@ -39,6 +39,7 @@ use Rattle.yd_editing.proofs.LiveLemmas.{last_live}
 use Rattle.yd_editing.proofs.EditedListLemmas as edited
 use Rattle.yd_editing.proofs.EditedListLemmas.{IsQuietList, live_before, other_evolves}
 use Rattle.yd_editing.proofs.OwnListLemmas.{own_evolves}
+use Rattle.yd_editing.proofs.OthersLemmas.{other_lists}
 use Rattle.yd_editing.proofs.AroundLemmas.{last_view, put_after}
 use Rattle.yd_editing.proofs.DeleteLemmas.{apart_parts}
 use Rattle.yd_editing.proofs.IndexLemmas.{AreApart, units_have, has_units}
@@ -134,7 +135,7 @@ module _ (client : Client) (r : Received) (parent : Parent) (key : List ℕ) (qu
         ∙ ap (λ os. if_shown now (last_unit os)) (evolved_other (key_list parent other) (two_lists parent key other differ))
         ∙ shown_alike now (is_named r.deletes) (units_of held (key_list parent other)) (same other (two_lists parent key other differ))
         ∙ sym (under_before other);
-    lists = λ list differ. (edited.is_held client r name (quiet_key r parent key quiet) steps makes own removed done).lists list ∙ evolved_other list differ;
+    lists = other_lists client r name (quiet_key r parent key quiet) steps makes own removed done;
   }
     where
       same : (other : List ℕ) → key_list parent other ≢ name → (front : List Operation) (l : Operation) → units_of held (key_list parent other) ≡ front ++ l ∷ [] →

@@ -1,7 +1,6 @@
 -- The laws of the edits of a map, as statements.
 use Rattle.std.specs.Prelude.{◌≡◌, ◌≢◌, ℕ, true, List, [], ◌∷◌, Some, None}
 use Rattle.yd_ids.specs.declared.id.Client.{Client}
-use Rattle.yd_ops.specs.declared.lists.List.{List as DocList}
 use Rattle.yd_ops.specs.declared.lists.Parent.{Parent}
 use Rattle.yd_ops.specs.Operation.{UnitContent, Operation, units_of_content}
 use Rattle.yd_ops.specs.Value.{ContentValue}
@@ -11,15 +10,16 @@ use Rattle.yd_shown.specs.Shown.{is_counted, own_list, key_list, unit_under}
 use Rattle.yd_editing.specs.Basis.{basis_of}
 use Rattle.yd_editing.specs.Step.{Step}
 use Rattle.yd_editing.specs.Law.{after_edit, IsMakeable, EditIsHeld}
+use Rattle.yd_editing.specs.Others.{OtherListsStay}
 use Rattle.yd_editing.specs.MapEdit.{set_steps, unset_steps, set_refusal, unset_refusal}
 use Rattle.yd_editing.specs.TextLaw.{IsQuietText}
 
--- every other key of the parent has the unit that it had, and every other list has its units
+-- every other key of the parent has the unit that it had, and every other list stays
 pub record OthersStay (old new : Document) (parent : Parent) (key : List ℕ) : Type 0 where
   pub keys : (other : List ℕ) → other ≢ key → unit_under new parent other ≡ unit_under old parent other
-  pub lists : (name : DocList) → name ≢ key_list parent key → new.units name ≡ old.units name
+  pub lists : OtherListsStay old new (key_list parent key)
 
--- after steps that set one unit under a key all is held and honest, the unit stands there, and all else is as before
+-- after steps that set one unit under a key all is held and honest, the unit stands there, and other keys and lists stay
 pub record IsSet (client : Client) (r : Received) (parent : Parent) (key : List ℕ) (unit : UnitContent) (steps : List Step) : Type 0 where
   pub held : EditIsHeld client r steps
   pub made : Operation
@@ -33,7 +33,7 @@ SetsStand = (client : Client) (r : Received) (parent : Parent) (key : List ℕ) 
     IsMakeable content → units_of_content content ≡ unit ∷ [] → is_counted unit ≡ true → set_refusal (basis_of client r) parent key content ≡ None →
     IsSet client r parent key unit (set_steps (document_of r) parent key content)
 
--- after steps that remove what stands under a key all is held and honest, the key has no value, and all else is as before
+-- after steps that remove what stands under a key all is held and honest, the key has no value, and other keys and lists stay
 pub record IsUnset (client : Client) (r : Received) (parent : Parent) (key : List ℕ) (steps : List Step) : Type 0 where
   pub held : EditIsHeld client r steps
   pub under : unit_under (document_of (after_edit client r steps)) parent key ≡ None

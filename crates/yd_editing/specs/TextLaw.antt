@@ -25,6 +25,7 @@ use Rattle.yd_editing.specs.Basis.{basis_of}
 use Rattle.yd_editing.specs.Made.{removed_by, update_of_edit}
 use Rattle.yd_editing.specs.TextEdit.{counted_units, insert_steps, delete_steps, format_steps, insert_refusal, delete_refusal, format_refusal, value_after}
 use Rattle.yd_editing.specs.Law.{after_edit, IsMakeable, MakesContent, made_by, EditIsHeld}
+use Rattle.yd_editing.specs.Others.{OtherListsStay}
 
 -- an honest document of which nothing waits, no deletion either, and a list of it without a key, whose parent is a root or live
 pub record IsQuietText (r : Received) (name : DocList) : Type 0 where
@@ -50,12 +51,14 @@ QuietTextsStay = (client : Client) (r : Received) (name : DocList) (steps : List
 -- ---- insertions
 
 -- after steps that insert a content all is held and honest, and the live counted units are the old ones with the made ones
--- at the index, which have the units of the content
+-- at the index, which have the units of the content. Every other list stays, and just those ids are deleted that were
 pub record IsInserted (client : Client) (r : Received) (name : DocList) (index : ℕ) (content : ContentValue) (steps : List Step) : Type 0 where
   pub held : EditIsHeld client r steps
   pub counted : counted_units (document_of (after_edit client r steps)) name
       ≡ take index (counted_units (document_of r) name) ++ (made_by client r steps ++ drop index (counted_units (document_of r) name))
   pub contents : map (λ (o : Operation). o.content) (made_by client r steps) ≡ units_of_content content
+  pub others : OtherListsStay (document_of r) (document_of (after_edit client r steps)) name
+  pub deleted : (x : Id) → (document_of (after_edit client r steps)).deleted x ≡ (document_of r).deleted x
 
 -- so it is with texts and embeds, whose units are all counted, and with every other content of counted units
 abbrev pub InsertsStand : Type 0
@@ -65,11 +68,13 @@ InsertsStand = (client : Client) (r : Received) (name : DocList) (index : ℕ) (
 
 -- ---- deletions
 
--- after steps that delete all is held and honest, and the live counted units are the old ones without those named
+-- after steps that delete all is held and honest, and the live counted units are the old ones without those named. Every
+-- other list stays
 pub record IsRemoved (client : Client) (r : Received) (name : DocList) (index len : ℕ) (steps : List Step) : Type 0 where
   pub held : EditIsHeld client r steps
   pub counted : counted_units (document_of (after_edit client r steps)) name
       ≡ take index (counted_units (document_of r) name) ++ drop len (drop index (counted_units (document_of r) name))
+  pub others : OtherListsStay (document_of r) (document_of (after_edit client r steps)) name
 
 -- so it is with each deletion that is not refused
 abbrev pub DeletesStand : Type 0
@@ -100,12 +105,14 @@ with_value value u = record { unit = u.unit; value = value }
 abbrev pub with_values : AnyTree → ℕ → ℕ → List Valued → List Valued
 with_values value index len units = take index units ++ (map (with_value value) (take len (drop index units)) ++ drop len (drop index units))
 
--- after steps that format all is held and honest; the units from the index on, so many, have the value for the key, and
--- every other unit and every other key are as before
+-- after steps that format all is held and honest, and the live counted units are the old ones. So many from the index on
+-- have the value for the key, and the others have the value that they had. For every other key all have the value that they
+-- had. Every other list stays
 pub record IsFormatted (client : Client) (r : Received) (name : DocList) (index len : ℕ) (key : List ℕ) (value : AnyTree) (steps : List Step) : Type 0 where
   pub held : EditIsHeld client r steps
   pub own : valued_units key (after_edit client r steps) name ≡ with_values value index len (valued_units key r name)
-  pub others : (other : List ℕ) → other ≢ key → valued_units other (after_edit client r steps) name ≡ valued_units other r name
+  pub keys : (other : List ℕ) → other ≢ key → valued_units other (after_edit client r steps) name ≡ valued_units other r name
+  pub others : OtherListsStay (document_of r) (document_of (after_edit client r steps)) name
 
 -- so it is with each format that is not refused
 abbrev pub FormatsStand : Type 0

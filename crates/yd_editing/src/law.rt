@@ -1,4 +1,8 @@
 //! The laws of edits, each the contract of an empty function.
+//!
+//! Those of single edits say of every other list that it *stays* (`OtherListsStay`). It has the units
+//! that it had. And a unit of it is deleted afterwards just where it was deleted before, or where the
+//! item to which the list belongs is deleted afterwards.
 
 ghost use Rattle.yd_editing.specs.TextLaw.{QuietTextsStay, InsertsStand, DeletesStand, FormatsStand};
 ghost use Rattle.yd_editing.specs.MapLaw.{SetsStand, UnsetsStand};
@@ -74,27 +78,30 @@ pub fn quiet_texts_stay()
 {}
 
 /// After an insertion the live counted units are the old ones with the made ones at the index.
+/// Every other list stays, and nothing more is deleted.
 pub fn inserts_stand()
     ensures { InsertsStand }
 {}
 
-/// After a deletion they are the old ones without those named.
+/// After a deletion they are the old ones without those named, and every other list stays.
 pub fn deletes_stand()
     ensures { DeletesStand }
 {}
 
-/// After a format so many units from the index on have the value for the key, and all else is as
-/// before.
+/// After a format they are the old ones, and so many from the index on have the value for the key.
+/// The others keep their value, all keep theirs for every other key, and every other list stays.
 pub fn formats_stand()
     ensures { FormatsStand }
 {}
 
-/// After a content is set under a key it stands there, and all else is as before.
+/// After a content is set under a key it stands there. Every other key of the parent has the unit
+/// that it had, and every other list stays.
 pub fn sets_stand()
     ensures { SetsStand }
 {}
 
-/// After what stands under a key is removed the key has no value, and all else is as before.
+/// After what stands under a key is removed the key has no value. Every other key of the parent has
+/// the unit that it had, and every other list stays.
 pub fn unsets_stand()
     ensures { UnsetsStand }
 {}

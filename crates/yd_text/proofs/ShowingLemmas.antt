@@ -10,6 +10,7 @@ use Rattle.yd_meaning.specs.Replica.{IsReplicaDocument}
 use Rattle.yd_editing.specs.Basis.{Basis, basis_of, basis_over}
 use Rattle.yd_editing.specs.Law.{IsHonestHeld, after_edit, made_by}
 use Rattle.yd_editing.specs.Made.{update_of_edit}
+use Rattle.yd_editing.specs.Others.{OtherListsStay}
 use Rattle.yd_editing.specs.Step.{Step}
 use Rattle.yd_editing.specs.TextEdit.{counted_units, insert_steps, delete_steps, format_steps, insert_refusal, delete_refusal, format_refusal}
 use Rattle.yd_editing.specs.TextLaw.{InsertsStand, DeletesStand, FormatsStand, with_values}
@@ -48,6 +49,13 @@ module _ (old : Kept) (is : IsReplicaDocument (own_document old) (received_of ol
         document_of (after_edit old.client before (steps (document_of before))) ≡ own_document new
     document_then is_then held = document_after new is_then (after_edit old.client before (steps (document_of before))) received_then held
 
+    -- so what is true of the defined documents is true of those of the replica
+    pub told_then : (P : Document → Document → Type 0) → IsReplicaDocument (own_document new) (received_of new) →
+        IsHonestHeld (after_edit old.client before (steps (document_of before))).operations →
+        P (document_of before) (document_of (after_edit old.client before (steps (document_of before)))) → P (own_document old) (own_document new)
+    told_then P is_then held p = subst (λ (d : Document). P (own_document old) d) (document_then is_then held)
+        (subst (λ (d : Document). P d (document_of (after_edit old.client before (steps (document_of before))))) (sym defined) p)
+
 -- ---- lemmas for callers
 
 module _ (old new : Kept) (is : IsReplicaDocument (own_document old) (received_of old)) (is_then : IsReplicaDocument (own_document new) (received_of new)) where
@@ -56,17 +64,16 @@ module _ (old new : Kept) (is : IsReplicaDocument (own_document old) (received_o
       let same = basis_same old is quiet.honest in
       let stands = law old.client (received_of old) name index content quiet makeable counted (subst (λ (b : Basis). insert_refusal b name index content ≡ None) same accepted) in
       let steps : Document → List Step = λ document. insert_steps document name index content in
-      let after = received_then old is quiet.honest new steps update edit in
-      let shown = document_then old is quiet.honest new steps update edit is_then stands.held.all_held in
+      let made : List Operation = made_by old.client (received_of old) (steps (document_of (received_of old))) in
+      let all = stands.held.all_held in
       record {
-        held = subst (λ (r : Received). IsHonestHeld r.operations) (sym after) stands.held.all_held;
-        made = made_by old.client (received_of old) (steps (document_of (received_of old)));
+        held = subst (λ (r : Received). IsHonestHeld r.operations) (sym (received_then old is quiet.honest new steps update edit)) all;
+        made = made;
         contents_are = stands.contents;
-        units = subst (λ (d : Document). counted_units d name ≡ take index (counted_units (own_document old) name)
-            ++ (made_by old.client (received_of old) (steps (document_of (received_of old))) ++ drop index (counted_units (own_document old) name))) shown
-            (subst (λ (d : Document). counted_units (document_of (after_edit old.client (received_of old) (steps (document_of (received_of old))))) name
-            ≡ take index (counted_units d name) ++ (made_by old.client (received_of old) (steps (document_of (received_of old))) ++ drop index (counted_units d name)))
-            (sym (defined old is quiet.honest)) stands.counted);
+        units = told_then old is quiet.honest new steps update edit
+            (λ d e. counted_units e name ≡ take index (counted_units d name) ++ (made ++ drop index (counted_units d name))) is_then all stands.counted;
+        others = told_then old is quiet.honest new steps update edit (λ d e. OtherListsStay d e name) is_then all stands.others;
+        deleted = λ x. told_then old is quiet.honest new steps update edit (λ d e. e.deleted x ≡ d.deleted x) is_then all (stands.deleted x);
       }
 
   pub deleted_shown : DeletesStand → DeletionsShow old new
@@ -74,14 +81,12 @@ module _ (old new : Kept) (is : IsReplicaDocument (own_document old) (received_o
       let same = basis_same old is quiet.honest in
       let stands = law old.client (received_of old) name index len quiet (subst (λ (b : Basis). delete_refusal b name index len ≡ None) same accepted) in
       let steps : Document → List Step = λ document. delete_steps document name index len in
-      let after = received_then old is quiet.honest new steps update edit in
-      let shown = document_then old is quiet.honest new steps update edit is_then stands.held.all_held in
+      let all = stands.held.all_held in
       record {
-        held = subst (λ (r : Received). IsHonestHeld r.operations) (sym after) stands.held.all_held;
-        units = subst (λ (d : Document). counted_units d name ≡ take index (counted_units (own_document old) name) ++ drop len (drop index (counted_units (own_document old) name)))
-            shown
-            (subst (λ (d : Document). counted_units (document_of (after_edit old.client (received_of old) (steps (document_of (received_of old))))) name
-            ≡ take index (counted_units d name) ++ drop len (drop index (counted_units d name))) (sym (defined old is quiet.honest)) stands.counted);
+        held = subst (λ (r : Received). IsHonestHeld r.operations) (sym (received_then old is quiet.honest new steps update edit)) all;
+        units = told_then old is quiet.honest new steps update edit
+            (λ d e. counted_units e name ≡ take index (counted_units d name) ++ drop len (drop index (counted_units d name))) is_then all stands.counted;
+        others = told_then old is quiet.honest new steps update edit (λ d e. OtherListsStay d e name) is_then all stands.others;
       }
 
   pub formatted_shown : FormatsStand → FormatsShow old new
@@ -89,14 +94,12 @@ module _ (old new : Kept) (is : IsReplicaDocument (own_document old) (received_o
       let same = basis_same old is quiet.honest in
       let stands = law old.client (received_of old) name index len key value quiet (subst (λ (b : Basis). format_refusal b name index len key value ≡ None) same accepted) in
       let steps : Document → List Step = λ document. format_steps document name index len key value in
-      let after = received_then old is quiet.honest new steps update edit in
-      let shown = document_then old is quiet.honest new steps update edit is_then stands.held.all_held in
+      let all = stands.held.all_held in
       record {
-        held = subst (λ (r : Received). IsHonestHeld r.operations) (sym after) stands.held.all_held;
-        own = subst (λ (d : Document). values_in d name key ≡ with_values value index len (values_in (own_document old) name key)) shown
-            (subst (λ (d : Document). values_in (document_of (after_edit old.client (received_of old) (steps (document_of (received_of old))))) name key
-            ≡ with_values value index len (values_in d name key)) (sym (defined old is quiet.honest)) stands.own);
-        others = λ other differs. subst (λ (d : Document). values_in d name other ≡ values_in (own_document old) name other) shown
-            (subst (λ (d : Document). values_in (document_of (after_edit old.client (received_of old) (steps (document_of (received_of old))))) name other
-            ≡ values_in d name other) (sym (defined old is quiet.honest)) (stands.others other differs));
+        held = subst (λ (r : Received). IsHonestHeld r.operations) (sym (received_then old is quiet.honest new steps update edit)) all;
+        own = told_then old is quiet.honest new steps update edit
+            (λ d e. values_in e name key ≡ with_values value index len (values_in d name key)) is_then all stands.own;
+        keys = λ other differs. told_then old is quiet.honest new steps update edit
+            (λ d e. values_in e name other ≡ values_in d name other) is_then all (stands.keys other differs);
+        others = told_then old is quiet.honest new steps update edit (λ d e. OtherListsStay d e name) is_then all stands.others;
       }

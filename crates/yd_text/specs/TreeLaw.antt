@@ -11,7 +11,8 @@ use Rattle.yd_editing.specs.TextLaw.{IsQuietText}
 use Rattle.yd_doc.specs.Editing.{own_basis, IsEdit}
 use Rattle.yd_doc.specs.Kept.{Kept, received_of, own_document}
 
--- all is held and honest; the unit stands under the key, and every other key and list is as before
+-- all is held and honest; the unit stands under the key. Every other key of the parent has the unit that it had, and every
+-- other list stays
 pub record ShowsSet (old new : Kept) (parent : Parent) (key : List ℕ) (unit : UnitContent) : Type 0 where
   pub held : IsHonestHeld (received_of new).operations
   pub made : Operation
@@ -25,7 +26,8 @@ SettingsShow old new = (parent : Parent) (key : List ℕ) (content : ContentValu
     IsQuietText (received_of old) (own_list parent) → IsMakeable content → units_of_content content ≡ unit ∷ [] → is_counted unit ≡ true →
     set_refusal (own_basis old) parent key content ≡ None → IsEdit old new (set_steps (own_document old) parent key content) update → ShowsSet old new parent key unit
 
--- all is held and honest; the key has no value, and every other key and list is as before
+-- all is held and honest; the key has no value. Every other key of the parent has the unit that it had, and every other list
+-- stays
 pub record ShowsUnset (old new : Kept) (parent : Parent) (key : List ℕ) : Type 0 where
   pub held : IsHonestHeld (received_of new).operations
   pub under : unit_under (own_document new) parent key ≡ None
