@@ -1,5 +1,5 @@
 -- Lines that are played one after another, and the first that is refused.
-use Rattle.std.proofs.Common.{◌≡◌, List, [], ◌∷◌, ◌++◌, Result, Ok, Err, IfErr, IsErrAnd, OnErr, inl, inr, refl, sym, ap, ◌∙◌, subst, append_assoc}
+use Rattle.std.proofs.Common.{◌≡◌, List, [], ◌∷◌, ◌++◌, Result, Ok, Err, IfErr, IsErrAnd, inl, inr, refl, sym, ap, ◌∙◌, subst, append_assoc}
 use Rattle.std.proofs.lemmas.List.{append-nil}
 use Rattle.yd_ids.specs.declared.id.Client.{Client}
 use Rattle.yd_ops.specs.Value.{UpdateValue}
@@ -10,7 +10,7 @@ use Rattle.yd_script.specs.Lines.{Numbered}
 use Rattle.yd_playing.specs.Desk.{Desk, Played, first_desk}
 use Rattle.yd_playing.specs.Ended.{MayEnd, text_ends}
 use Rattle.yd_playing.specs.Played.{Stop, SoFar, HasPlayed, LinesMayEnd, behind_updates}
-use Rattle.yd_playing.specs.Stopped.{StopsFor, IsStop, IsLeft}
+use Rattle.yd_playing.specs.Stopped.{LeavesPlayed, StopsFor, IsStop, IsLeft}
 use Rattle.yd_playing.specs.declared.fault.PlayFault.{PlayFault}
 use Rattle.yd_playing.specs.declared.fault.PlayFault.TheVariants.{NoMemory, Refused}
 
@@ -92,10 +92,23 @@ played_here client r desk lines behind left line us now document so_far next own
 played_here client r desk lines behind left line us now document so_far next own (inr (played, ends, is)) =
     (played.desk, behind, us ++ played.updates, one_more client r desk played.desk lines behind left line us played.updates so_far next (document, own, ends), is)
 
--- what holds after an error
-pub on_error : {X E : Type 0} (P : Type 0) (r : Result X E) → P → OnErr r P
-on_error P (Ok x) p = tt
-on_error P (Err e) p = p
+-- what a line leaves that stopped
+pub left_here : (client : Client) (r : Received) (desk : Desk) (lines behind left : List Numbered) (line : Numbered) (us : List UpdateValue) (now : Received) (document : Document)
+    (fault : PlayFault) → SoFar client r desk lines left us → left ≡ line ∷ behind → IsReplicaDocument document desk.received →
+    IsStop line.number (text_ends client document desk line.text) fault → IsLeft desk.received now (text_ends client document desk line.text) → LeavesPlayed client r now lines fault
+left_here client r desk lines behind left line us now document NoMemory so_far next own stop is =
+    played_here client r desk lines behind left line us now document so_far next own is
+left_here client r desk lines behind left line us now document (Refused number cause) so_far next own (same_number, refused) (inl same) = record {
+  desk = desk;
+  line = line;
+  behind = behind;
+  updates = us;
+  played_before = subst (λ (ls : List Numbered). SoFar client r desk lines ls us) next so_far;
+  received_is = same;
+  number_is = sym same_number;
+  is_refused = (document, own, refused);
+}
+left_here client r desk lines behind left line us now document (Refused number cause) so_far next own (same_number, refused) (inr (played, ends, is)) = absurd cc
 
 -- what holds of a fault that is passed on
 pub passed_on : {X : Type 0} (P : PlayFault → Type 0) (r : Result X PlayFault) (fault : PlayFault) → IsErrAnd r (λ f. f ≡ fault) → P fault → IfErr r P

@@ -1,13 +1,15 @@
--- The first line of a script that is refused, and why (own).
-use Rattle.std.specs.Prelude.{◌≡◌, ◌⊎◌, ℕ, List, None, Result, Ok, Err}
+-- The first line of a script that is refused, why, and what is received then (own).
+use Rattle.std.specs.Prelude.{◌≡◌, ◌⊎◌, ℕ, List, ◌∷◌, None, Result, Ok, Err}
 use Rattle.yd_ids.specs.declared.id.Client.{Client}
 use Rattle.yd_ops.specs.Received.{Received}
+use Rattle.yd_ops.specs.Value.{UpdateValue}
 use Rattle.yd_making.specs.declared.fault.EditFault.{EditFault}
 use Rattle.yd_making.specs.declared.fault.EditFault.TheVariants as edits
 use Rattle.yd_script.specs.Lines.{Numbered}
 use Rattle.yd_script.specs.Reading.{line_in}
-use Rattle.yd_playing.specs.Desk.{Played, first_desk}
-use Rattle.yd_playing.specs.Played.{LinesMayEnd}
+use Rattle.yd_playing.specs.Desk.{Desk, Played, first_desk}
+use Rattle.yd_playing.specs.Ended.{MayEnd}
+use Rattle.yd_playing.specs.Played.{HasPlayed, LinesMayEnd, SoFar}
 use Rattle.yd_causes.specs.declared.cause.LineCause.{LineCause}
 use Rattle.yd_causes.specs.declared.cause.LineCause.TheVariants.{BadLine, NoTarget, NoMark, Edit}
 use Rattle.yd_playing.specs.declared.fault.PlayFault.{PlayFault}
@@ -21,6 +23,26 @@ StopsAt client r lines number cause = LinesMayEnd client (first_desk r) lines (E
 abbrev pub StopsFor : Client → Received → List Numbered → PlayFault → Type 0
 StopsFor client r lines NoMemory = Unit {0}
 StopsFor client r lines (Refused number cause) = StopsAt client r lines number cause
+
+-- ---- what is received then
+
+-- the lines before the one with this number were played, and no other: what they left is what is received. On that desk this line is refused
+-- for this cause
+pub record LeavesBefore (client : Client) (r now : Received) (lines : List Numbered) (number : ℕ) (cause : LineCause) : Type 0 where
+  pub desk : Desk
+  pub line : Numbered
+  pub behind : List Numbered
+  pub updates : List UpdateValue
+  pub played_before : SoFar client r desk lines (line ∷ behind) updates
+  pub received_is : now ≡ desk.received
+  pub number_is : line.number ≡ number
+  pub is_refused : MayEnd client desk line.text (Err cause)
+
+-- a refused line leaves the replica with what exactly the lines before it left. Where memory is wanted, some of the lines, from the first on,
+-- were played
+abbrev pub LeavesPlayed : Client → Received → Received → List Numbered → PlayFault → Type 0
+LeavesPlayed client r now lines NoMemory = HasPlayed client r now lines
+LeavesPlayed client r now lines (Refused number cause) = LeavesBefore client r now lines number cause
 
 -- ---- one line
 

@@ -1,6 +1,6 @@
 //! The lines of a script, one after another.
 
-ghost use Rattle.std.specs.Prelude.{◌≡◌, Some, map, IfOk, IfErr, OnErr};
+ghost use Rattle.std.specs.Prelude.{◌≡◌, Some, map, IfOk, IfErr};
 ghost use Rattle.yd_words.specs.Each.{Each};
 ghost use Rattle.yd_ops.specs.Valid.{IsValidUpdate};
 ghost use Rattle.yd_ops.specs.View.{update_value};
@@ -13,8 +13,8 @@ ghost use Rattle.yd_doc.specs.Kept.{own_document, received_of};
 ghost use Rattle.yd_playing.specs.Answer.{PlaysAs, AreValid};
 ghost use Rattle.yd_playing.specs.Desk.{desk_of};
 ghost use Rattle.yd_playing.specs.Ended.{text_ends};
-ghost use Rattle.yd_playing.specs.Played.{ArePlayed, HasPlayed};
-ghost use Rattle.yd_playing.specs.Stopped.{StopsFor, IsUnread};
+ghost use Rattle.yd_playing.specs.Played.{ArePlayed};
+ghost use Rattle.yd_playing.specs.Stopped.{IsUnread, LeavesPlayed, StopsFor};
 
 use crate::desk::Desk;
 use crate::fault::PlayFault;
@@ -41,7 +41,7 @@ pub fn play(alloc: Global, replica: &mut Replica, script: &str) -> Result<Update
     ensures valid { IfOk result (λ updates. Each IsValidUpdate (map update_value updates)) }
     ensures stops { IfErr result (StopsFor replica.old.client (received_of replica.old)
         (script_lines script.now)) }
-    ensures front { OnErr result (HasPlayed replica.old.client (received_of replica.old)
+    ensures leaves { IfErr result (LeavesPlayed replica.old.client (received_of replica.old)
         (received_of replica.new) (script_lines script.now)) }
     ensures client { replica.new.client ≡ replica.old.client }
 {

@@ -10,9 +10,10 @@ use Rattle.yd_doc.specs.Kept.{own_document, received_of}
 use Rattle.yd_playing.specs.Answer.{updates_in}
 use Rattle.yd_playing.specs.Desk.{desk_of, first_desk}
 use Rattle.yd_playing.specs.Ended.{text_ends}
-use Rattle.yd_playing.specs.Played.{SoFar, HasPlayed}
-use Rattle.yd_playing.specs.Stopped.{StopsFor, IsLeft, IsStop}
-use Rattle.yd_playing.proofs.PlayedLemmas.{at_end, one_more, on_error, passed_on, played_here, stops_here}
+use Rattle.yd_playing.specs.Played.{SoFar}
+use Rattle.yd_playing.specs.Stopped.{LeavesPlayed, StopsFor, IsLeft, IsStop}
+use Rattle.yd_playing.specs.declared.fault.PlayFault.{PlayFault}
+use Rattle.yd_playing.proofs.PlayedLemmas.{at_end, left_here, one_more, passed_on, stops_here}
 use Rattle.yd_playing.proofs.ReceivedLemmas.{lines_received}
 use Rattle.yd_playing.proofs.playing.play.Goals as goal
 
@@ -36,8 +37,8 @@ loop-line-preserved c =
       valid = subst (Each IsValidUpdate) (sym more) (each_append IsValidUpdate us vs loop.invariant.valid c.in_ok-made.ensures.valid);
     }
 
-pub returns-in_err-push_made-clause-front : goal.returns-in_err-push_made-clause-front
-returns-in_err-push_made-clause-front c =
+pub returns-in_err-push_made-clause-leaves : goal.returns-in_err-push_made-clause-leaves
+returns-in_err-push_made-clause-leaves c =
     let loop = c.loop-line in
     let client = c.args.replica.now.client in
     let r = received_of c.args.replica.now in
@@ -47,26 +48,32 @@ returns-in_err-push_made-clause-front c =
     let next = desk_of c.play_line.new.replica c.play_line.new.desk in
     let us = map update_value loop.updates in
     let vs = updates_in c.in_ok-made.made in
-    on_error (HasPlayed client r (received_of c.play_line.new.replica) lines) c.from_residual-in_err-push_made.result (
+    let leaves : PlayFault → Type 0 = LeavesPlayed client r (received_of c.play_line.new.replica) lines in
+    passed_on leaves c.from_residual-in_err-push_made.result c.in_err-push_made.field-0.0 c.from_residual-in_err-push_made.ensures.1
+    (subst leaves (sym c.in_err-push_made.ensures.memory) (
       next,
       c.next.new.self,
       us ++ vs,
       one_more client r desk next lines c.next.new.self loop.lines text us vs loop.invariant.so_far c.in-Some.ensures
           (own_document loop.replica, c.in_ok-made.ensures.own, subst (λ (k : Client). text_ends k (own_document loop.replica) desk text.text ≡ Ok (record { updates = vs; desk = next })) loop.invariant.client c.in_ok-made.ensures.plays),
       refl,
-    )
+    ))
 
-pub returns-in_err-made-clause-front : goal.returns-in_err-made-clause-front
-returns-in_err-made-clause-front c =
+pub returns-in_err-made-clause-leaves : goal.returns-in_err-made-clause-leaves
+returns-in_err-made-clause-leaves c =
     let loop = c.loop-line in
     let client = c.args.replica.now.client in
     let r = received_of c.args.replica.now in
     let lines = script_lines c.args.script.now in
     let text = numbered_of c.in-Some.line in
     let desk = desk_of loop.replica loop.desk in
-    on_error (HasPlayed client r (received_of c.play_line.new.replica) lines) c.from_residual.result
-    (played_here client r desk lines c.next.new.self loop.lines text (map update_value loop.updates) (received_of c.play_line.new.replica) (own_document loop.replica) loop.invariant.so_far c.in-Some.ensures
-    c.in_err-made.ensures.own (subst (λ (k : Client). IsLeft desk.received (received_of c.play_line.new.replica) (text_ends k (own_document loop.replica) desk text.text)) loop.invariant.client c.in_err-made.ensures.plays.1))
+    let fault = c.in_err-made.field-0.0 in
+    let now = received_of c.play_line.new.replica in
+    passed_on (LeavesPlayed client r now lines) c.from_residual.result fault c.from_residual.ensures.1
+    (left_here client r desk lines c.next.new.self loop.lines text (map update_value loop.updates) now (own_document loop.replica) fault loop.invariant.so_far c.in-Some.ensures
+    c.in_err-made.ensures.own
+    (subst (λ (k : Client). IsStop text.number (text_ends k (own_document loop.replica) desk text.text) fault) loop.invariant.client c.in_err-made.ensures.plays.0)
+    (subst (λ (k : Client). IsLeft desk.received now (text_ends k (own_document loop.replica) desk text.text)) loop.invariant.client c.in_err-made.ensures.plays.1))
 
 pub returns-in_err-made-clause-stops : goal.returns-in_err-made-clause-stops
 returns-in_err-made-clause-stops c =
