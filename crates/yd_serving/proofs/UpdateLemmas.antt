@@ -1,4 +1,4 @@
--- An update that is served, or brought in step.
+-- A hub that is served and a peer that is brought in step, from what they begin with; an update likewise.
 use Rattle.std.proofs.Common.{◌≡◌, ◌≤◌, ℕ, true, false, List, [], ◌∷◌, length, Option, Some, None, Result, Ok, Err, refl, sym, ap, ◌∙◌, subst, arith}
 use Rattle.std.proofs.lemmas.List.{length-map}
 use Rattle.std.proofs.lemmas.Result.{err_from_is_err_and}
@@ -21,7 +21,7 @@ use Rattle.yd_serving.specs.Board.{Board, TradesFew}
 use Rattle.yd_serving.specs.Reason.{reason_of}
 use Rattle.yd_serving.specs.Serving.{IsLinked, ServesAll, ServesOn, events_of}
 use Rattle.yd_serving.specs.Syncing.{IsSyncLinked, Syncs, SyncsOn}
-use Rattle.yd_serving.specs.Updates.{IsAllOf, ServesUpdateOn, SyncsUpdateOn, hub_with, peer_with}
+use Rattle.yd_serving.specs.Updates.{IsAllOf, ServesFromOn, ServesUpdateOn, SyncsFromOn, SyncsUpdateOn, hub_with, peer_with}
 use Rattle.yd_serving.proofs.BoardLemmas.{trades_none}
 
 -- ---- memory ended
@@ -30,13 +30,13 @@ pub few_none : (count : ℕ) (b : Board) → TradesFew count b b
 few_none count b = record { events = []; told = []; few = omega arith; trades = trades_none b }
 
 -- before the loop, or behind it
-pub serves_few : (count : ℕ) (update : UpdateValue) (a b : Board) (result : Result Update ServeFault) → IsErrAnd result (λ fault. fault ≡ serves.NoMemory) → TradesFew count a b →
-    ServesUpdateOn count update a b result
-serves_few count update a b result is few = let p = err_from_is_err_and result is in rw (p.1, p.2) few
+pub serves_few : (count : ℕ) (first : HubState) (a b : Board) (result : Result Update ServeFault) → IsErrAnd result (λ fault. fault ≡ serves.NoMemory) → TradesFew count a b →
+    ServesFromOn count first a b result
+serves_few count first a b result is few = let p = err_from_is_err_and result is in rw (p.1, p.2) few
 
-pub syncs_few : (count : ℕ) (update : UpdateValue) (a b : Board) (result : Result (Option Update) SyncFault) → IsErrAnd result (λ fault. fault ≡ syncs.NoMemory) → TradesFew count a b →
-    SyncsUpdateOn count update a b result
-syncs_few count update a b result is few = let p = err_from_is_err_and result is in rw (p.1, p.2) few
+pub syncs_few : (count : ℕ) (first : PeerState) (a b : Board) (result : Result (Option Update) SyncFault) → IsErrAnd result (λ fault. fault ≡ syncs.NoMemory) → TradesFew count a b →
+    SyncsFromOn count first a b result
+syncs_few count first a b result is few = let p = err_from_is_err_and result is in rw (p.1, p.2) few
 
 pub serves_no_memory : {X : Type 0} (result : Result X ServeFault) → IsErrAnd result (λ fault. fault ≡ serves.NoMemory) → IsLinked result
 serves_no_memory result is = let p = err_from_is_err_and result is in rw (p.1, p.2) tt
@@ -66,24 +66,21 @@ synced_few count peer peer_now ending a b so = record {
 
 -- ---- the loop ended with an error
 
-pub serve_ends : (count : ℕ) (update : UpdateValue) (first hub : HubState) (a b : Board) (e : ServeFault) (result : Result Update ServeFault) → IsErrAnd result (λ fault. fault ≡ e) →
-    first ≡ hub_with update → ServesOn count first hub a b (Err e) → ServesUpdateOn count update a b result
-serve_ends count update first hub a b serves.NoLink result is same so = let p = err_from_is_err_and result is in
-    rw (p.1, p.2) (hub, subst (λ (h : HubState). ServesOn count h hub a b (Err serves.NoLink)) same so)
-serve_ends count update first hub a b serves.NoMemory result is same so = let p = err_from_is_err_and result is in
+pub serve_ends : (count : ℕ) (first hub : HubState) (a b : Board) (e : ServeFault) (result : Result Update ServeFault) → IsErrAnd result (λ fault. fault ≡ e) →
+    ServesOn count first hub a b (Err e) → ServesFromOn count first a b result
+serve_ends count first hub a b serves.NoLink result is so = let p = err_from_is_err_and result is in rw (p.1, p.2) (hub, so)
+serve_ends count first hub a b serves.NoMemory result is so = let p = err_from_is_err_and result is in
     rw (p.1, p.2) (record { events = events_of so.turns; told = so.told; few = many so.turns count so.few; trades = so.trades })
 
 pub serve_linked : (e : ServeFault) (result : Result Update ServeFault) → IsErrAnd result (λ fault. fault ≡ e) → IsLinked {X = Unit {0}} (Err e) → IsLinked result
 serve_linked serves.NoMemory result is linked = serves_no_memory result is
 serve_linked serves.NoLink result is linked = absurd linked
 
-pub sync_ends : (count : ℕ) (update : UpdateValue) (first peer : PeerState) (a b : Board) (e : SyncFault) (result : Result (Option Update) SyncFault) → IsErrAnd result (λ fault. fault ≡ e) →
-    first ≡ peer_with update → SyncsOn count first peer a b (Err e) → SyncsUpdateOn count update a b result
-sync_ends count update first peer a b syncs.NoLink result is same so = let p = err_from_is_err_and result is in
-    rw (p.1, p.2) (peer, subst (λ (q : PeerState). SyncsOn count q peer a b (Err syncs.NoLink)) same so)
-sync_ends count update first peer a b (syncs.Refused number fault) result is same so = let p = err_from_is_err_and result is in
-    rw (p.1, p.2) (peer, subst (λ (q : PeerState). Syncs count q peer a b (refused number fault)) same so)
-sync_ends count update first peer a b syncs.NoMemory result is same so = let p = err_from_is_err_and result is in rw (p.1, p.2) so
+pub sync_ends : (count : ℕ) (first peer : PeerState) (a b : Board) (e : SyncFault) (result : Result (Option Update) SyncFault) → IsErrAnd result (λ fault. fault ≡ e) →
+    SyncsOn count first peer a b (Err e) → SyncsFromOn count first a b result
+sync_ends count first peer a b syncs.NoLink result is so = let p = err_from_is_err_and result is in rw (p.1, p.2) (peer, so)
+sync_ends count first peer a b (syncs.Refused number fault) result is so = let p = err_from_is_err_and result is in rw (p.1, p.2) (peer, so)
+sync_ends count first peer a b syncs.NoMemory result is so = let p = err_from_is_err_and result is in rw (p.1, p.2) so
 
 pub sync_linked : (e : SyncFault) (result : Result (Option Update) SyncFault) → IsErrAnd result (λ fault. fault ≡ e) → IsSyncLinked {X = Unit {0}} (Err e) → IsSyncLinked result
 sync_linked syncs.NoMemory result is linked = syncs_no_memory result is
@@ -92,32 +89,25 @@ sync_linked syncs.NoLink result is linked = absurd linked
 
 -- ---- it ended well
 
-pub serve_answers : (count : ℕ) (update : UpdateValue) (reply : Update) (first hub : HubState) (r : Received) (a b : Board) → first ≡ hub_with update → ServesAll count first hub a b →
-    r ≡ hub.received → IsAllOf r (update_value reply) → ServesUpdateOn count update a b (Ok reply)
-serve_answers count update reply first hub r a b same so are all = record {
-  hub = hub;
-  served = subst (λ (h : HubState). ServesAll count h hub a b) same so;
-  all = subst (λ (s : Received). IsAllOf s (update_value reply)) are all;
-}
+pub serve_answers : (count : ℕ) (reply : Update) (first hub : HubState) (r : Received) (a b : Board) → ServesAll count first hub a b → r ≡ hub.received → IsAllOf r (update_value reply) →
+    ServesFromOn count first a b (Ok reply)
+serve_answers count reply first hub r a b so are all = record { hub = hub; served = so; all = subst (λ (s : Received). IsAllOf s (update_value reply)) are all }
 
-pub sync_answers : (count : ℕ) (update : UpdateValue) (reply : Update) (first peer : PeerState) (r : Received) (a b : Board) → first ≡ peer_with update → Syncs count first peer a b done →
-    peer.taken_step2 ≡ true → r ≡ peer.received → IsAllOf r (update_value reply) → SyncsUpdateOn count update a b (Ok (Some reply))
-sync_answers count update reply first peer r a b same so taken are all = record {
-  peer = peer;
-  synced = subst (λ (q : PeerState). Syncs count q peer a b done) same so;
-  taken = taken;
-  all = subst (λ (s : Received). IsAllOf s (update_value reply)) are all;
-}
+pub sync_answers : (count : ℕ) (reply : Update) (first peer : PeerState) (r : Received) (a b : Board) → Syncs count first peer a b done → peer.taken_step2 ≡ true → r ≡ peer.received →
+    IsAllOf r (update_value reply) → SyncsFromOn count first a b (Ok (Some reply))
+sync_answers count reply first peer r a b so taken are all = record { peer = peer; synced = so; taken = taken; all = subst (λ (s : Received). IsAllOf s (update_value reply)) are all }
 
-pub sync_misses : (count : ℕ) (update : UpdateValue) (first peer : PeerState) (a b : Board) → first ≡ peer_with update → Syncs count first peer a b done → peer.taken_step2 ≡ false →
-    SyncsUpdateOn count update a b (Ok None)
-sync_misses count update first peer a b same so missed = (peer, subst (λ (q : PeerState). Syncs count q peer a b done) same so, missed)
+-- ---- it began with an update
 
--- ---- how it begins
+pub hub_begins : (count : ℕ) (update : UpdateValue) (r : Received) (hub : HubState) (a b : Board) (result : Result Update ServeFault) → hub ≡ record { received = r; sessions = []; table = [] } →
+    r ≡ (hub_with update).received → ServesFromOn count hub a b result → ServesUpdateOn count update a b result
+hub_begins count update r hub a b result is has so =
+    let same : hub ≡ hub_with update = is ∙ ap (λ (s : Received). record { received = s; sessions = []; table = [] }) has in
+    subst (λ (h : HubState). ServesFromOn count h a b result) same so
 
-pub hub_begins : (update : UpdateValue) (r : Received) (hub : HubState) → hub ≡ record { received = r; sessions = []; table = [] } → r ≡ (hub_with update).received → hub ≡ hub_with update
-hub_begins update r hub is has = is ∙ ap (λ (s : Received). record { received = s; sessions = []; table = [] }) has
-
-pub peer_begins : (update : UpdateValue) (r : Received) (peer : PeerState) → peer ≡ record { received = r; own = None; table = []; taken_step2 = false; answered_step1 = false } →
-    r ≡ (peer_with update).received → peer ≡ peer_with update
-peer_begins update r peer is has = is ∙ ap (λ (s : Received). record { received = s; own = None; table = []; taken_step2 = false; answered_step1 = false }) has
+pub peer_begins : (count : ℕ) (update : UpdateValue) (r : Received) (peer : PeerState) (a b : Board) (result : Result (Option Update) SyncFault) →
+    peer ≡ record { received = r; own = None; table = []; taken_step2 = false; answered_step1 = false } → r ≡ (peer_with update).received → SyncsFromOn count peer a b result →
+    SyncsUpdateOn count update a b result
+peer_begins count update r peer a b result is has so =
+    let same : peer ≡ peer_with update = is ∙ ap (λ (s : Received). record { received = s; own = None; table = []; taken_step2 = false; answered_step1 = false }) has in
+    subst (λ (q : PeerState). SyncsFromOn count q a b result) same so

@@ -33,29 +33,45 @@ pub record IsAllOf (r : Received) (reply : UpdateValue) : Type 0 where
   pub deletes : AreOwnDeletes own r
   pub is : reply ≡ reply_of r own (clock_of [])
 
--- the update was served for so many turns, and this is all that the server then has
-pub record ServesUpdate (count : ℕ) (update reply : UpdateValue) (old new : Board) : Type 0 where
+-- this hub was served for so many turns, and this is all that it then has
+pub record ServesFrom (count : ℕ) (first : HubState) (reply : UpdateValue) (old new : Board) : Type 0 where
   pub hub : HubState
-  pub served : ServesAll count (hub_with update) hub old new
+  pub served : ServesAll count first hub old new
   pub all : IsAllOf hub.received reply
 
 -- so it was, or the board failed before that, or memory ended
-abbrev pub ServesUpdateOn : ℕ → UpdateValue → Board → Board → Result Update ServeFault → Type 0
-ServesUpdateOn count update old new (Ok reply) = ServesUpdate count update (update_value reply) old new
-ServesUpdateOn count update old new (Err serves.NoLink) = (hub : HubState) × LosesLink count (hub_with update) hub old new
-ServesUpdateOn count update old new (Err serves.NoMemory) = TradesFew count old new
+abbrev pub ServesFromOn : ℕ → HubState → Board → Board → Result Update ServeFault → Type 0
+ServesFromOn count first old new (Ok reply) = ServesFrom count first (update_value reply) old new
+ServesFromOn count first old new (Err serves.NoLink) = (hub : HubState) × LosesLink count first hub old new
+ServesFromOn count first old new (Err serves.NoMemory) = TradesFew count old new
 
--- a loop of a client with the update ended well, a step 2 was taken, and this is all that the client then has
-pub record SyncsUpdate (count : ℕ) (update reply : UpdateValue) (old new : Board) : Type 0 where
+-- the update was served for so many turns, and this is all that the server then has
+abbrev pub ServesUpdate : ℕ → UpdateValue → UpdateValue → Board → Board → Type 0
+ServesUpdate count update reply old new = ServesFrom count (hub_with update) reply old new
+
+-- so it was, or the board failed before that, or memory ended
+abbrev pub ServesUpdateOn : ℕ → UpdateValue → Board → Board → Result Update ServeFault → Type 0
+ServesUpdateOn count update old new result = ServesFromOn count (hub_with update) old new result
+
+-- a loop of this peer ended well, a step 2 was taken, and this is all that the peer then has
+pub record SyncsFrom (count : ℕ) (first : PeerState) (reply : UpdateValue) (old new : Board) : Type 0 where
   pub peer : PeerState
-  pub synced : Syncs count (peer_with update) peer old new done
+  pub synced : Syncs count first peer old new done
   pub taken : peer.taken_step2 ≡ true
   pub all : IsAllOf peer.received reply
 
 -- so it did; or it ended without a step 2, or at a message that is refused; or the board failed before that, or memory ended
+abbrev pub SyncsFromOn : ℕ → PeerState → Board → Board → Result (Option Update) SyncFault → Type 0
+SyncsFromOn count first old new (Ok (Some reply)) = SyncsFrom count first (update_value reply) old new
+SyncsFromOn count first old new (Ok None) = (peer : PeerState) × Syncs count first peer old new done × (peer.taken_step2 ≡ false)
+SyncsFromOn count first old new (Err (syncs.Refused number fault)) = (peer : PeerState) × Syncs count first peer old new (refused number fault)
+SyncsFromOn count first old new (Err syncs.NoLink) = (peer : PeerState) × SyncLosesLink count first peer old new
+SyncsFromOn count first old new (Err syncs.NoMemory) = TradesFew count old new
+
+-- a loop of a client with the update ended well, a step 2 was taken, and this is all that the client then has
+abbrev pub SyncsUpdate : ℕ → UpdateValue → UpdateValue → Board → Board → Type 0
+SyncsUpdate count update reply old new = SyncsFrom count (peer_with update) reply old new
+
+-- so it did; or it ended in one of the other ways
 abbrev pub SyncsUpdateOn : ℕ → UpdateValue → Board → Board → Result (Option Update) SyncFault → Type 0
-SyncsUpdateOn count update old new (Ok (Some reply)) = SyncsUpdate count update (update_value reply) old new
-SyncsUpdateOn count update old new (Ok None) = (peer : PeerState) × Syncs count (peer_with update) peer old new done × (peer.taken_step2 ≡ false)
-SyncsUpdateOn count update old new (Err (syncs.Refused number fault)) = (peer : PeerState) × Syncs count (peer_with update) peer old new (refused number fault)
-SyncsUpdateOn count update old new (Err syncs.NoLink) = (peer : PeerState) × SyncLosesLink count (peer_with update) peer old new
-SyncsUpdateOn count update old new (Err syncs.NoMemory) = TradesFew count old new
+SyncsUpdateOn count update old new result = SyncsFromOn count (peer_with update) old new result
