@@ -91,9 +91,9 @@ impl Replica {
     ///
     /// What waits is not looked at again until what it lacks is held. Each new run goes into its list by
     /// the integration scan, whose steps are runs. The call takes time with the update and with what is
-    /// deleted besides; of what is known, it copies the clocks of the clients and the spans of deletions,
-    /// and moves the entries behind a new one. No list is walked as a whole, and no deleted run unit by
-    /// unit. At the end the last run that came may be joined to what it goes on with: a text, or deleted
+    /// deleted besides; of what is known, it copies the clocks of the clients, and moves entries of one
+    /// piece for a new one, and the spans behind a new one. No list is walked as a whole, and no deleted
+    /// run unit by unit. At the end the last run that came may be joined to what it goes on with: a text, or deleted
     /// units in a list.
     ///
     /// Where the update says less of something that was received, this is told less where it stands. The
