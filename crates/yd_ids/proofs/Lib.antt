@@ -1,3 +1,4 @@
+pub mod BegunLemmas
 pub mod CoveringLemmas
 pub mod EntriesLemmas
 pub mod GatheringLemmas

@@ -1,17 +1,17 @@
 -- Maximal spans: where an id stands among them, and what one span in place of some keeps.
-use Rattle.std.proofs.Common.{◌≡◌, ℕ, zero, suc, ◌+◌, ◌<◌, ◌≤◌, ◌⊎◌, ◌↔◌, List, [], ◌∷◌, ◌++◌, length, get_or, take, drop, inl, inr, sym, subst, arith}
+use Rattle.std.proofs.Common.{◌≡◌, ℕ, zero, suc, ◌+◌, ◌<◌, ◌≤◌, ◌⊎◌, List, [], ◌∷◌, ◌++◌, length, get_or, take, drop, inl, inr, sym, subst, arith}
 use Rattle.std.specs.List.Sorted.{IsPartitionedBy, IsPermutation}
 use Rattle.std.proofs.lemmas.Bool.{cases_lt}
 use Rattle.std.proofs.lemmas.List.{get_or_default}
 use Rattle.std.proofs.lemmas.List.Sorted.{Contains-permutation, IsPermutation-sym}
 use Rattle.yd_words.specs.Each.{Each}
-use Rattle.yd_words.proofs.EachLemmas.{each_weaker, each_append, each_front, each_at}
+use Rattle.yd_words.proofs.EachLemmas.{each_weaker, each_append, each_front, each_at, each_drop}
 use Rattle.yd_ids.specs.declared.id.Id.{Id}
 use Rattle.yd_ids.specs.declared.id.Span.{Span}
 use Rattle.yd_ids.specs.Id.{IsSpan}
 use Rattle.yd_ids.specs.Set.{HasId, HaveSameIds, AreMaximal, AddsSpan}
-use Rattle.yd_ids.specs.Span.{InSpan, EndsBelow, Reaches, ends_below, EndsBefore, BeginsBy}
-use Rattle.yd_ids.proofs.SpanLemmas.{below_true, below_is, below_through, through, by_through, by_flipped, below_none, behind_none, in_reaches}
+use Rattle.yd_ids.specs.Span.{InSpan, Reaches, ends_below, reaches_into, EndsBefore, BeginsBy}
+use Rattle.yd_ids.proofs.SpanLemmas.{below_true, below_is, below_through, through, by_through, behind_none, in_reaches, reaches_true, reaches_is, reaches_through}
 
 -- ---- one of them
 
@@ -32,6 +32,12 @@ spans_parted xs c k m i j d le lt t = elim (cases_lt i j) [
   | inr ge ↦ let same : i ≡ j = omega arith in rw same t
 ]
 
+pub reached_parted : (s : Span) (xs : List Span) → AreMaximal xs → IsPartitionedBy (reaches_into s) xs
+reached_parted s xs m i j d le lt t = elim (cases_lt i j) [
+  | inl less ↦ reaches_is s (get_or xs i d) (reaches_through s (get_or xs i d) (get_or xs j d) (apart_at xs i j d m less lt) (reaches_true s (get_or xs j d) t))
+  | inr ge ↦ let same : i ≡ j = omega arith in rw same t
+]
+
 -- ---- parts of them
 
 pub maximal_front : (xs : List Span) (n : ℕ) → AreMaximal xs → AreMaximal (take n xs)
@@ -44,6 +50,10 @@ maximal_back xs zero m = m
 maximal_back [] (suc n) m = tt
 maximal_back (x ∷ xs) (suc n) m = maximal_back xs n m.3
 
+-- the span at a place ends before those from a later place on
+pub after_at : (xs : List Span) (k n : ℕ) (d : Span) → AreMaximal xs → k < n → Each (EndsBefore (get_or xs k d)) (drop n xs)
+after_at xs k n d m lt = each_drop (EndsBefore (get_or xs k d)) xs n (λ j e low le. subst (λ u. EndsBefore u (get_or xs j e)) (get_or_default xs k e d (omega arith)) (apart_at xs k j e m (omega arith) le))
+
 -- those before a place end before the span there
 pub before_at : (xs : List Span) (from n : ℕ) (d : Span) → AreMaximal xs → from ≤ n → n < length xs → Each (λ u. EndsBefore u (get_or xs n d)) (take from xs)
 before_at xs zero n d m le lt = tt
@@ -51,17 +61,9 @@ before_at [] (suc from) n d m le lt = tt
 before_at (x ∷ xs) (suc from) zero d m le lt = absurd (omega arith)
 before_at (x ∷ xs) (suc from) (suc n) d m le lt = (each_at (EndsBefore x) xs n d m.2 (omega arith), before_at xs from n d m.3 (omega arith) (omega arith))
 
--- a span that ends before the one at a place ends before all from there on
-pub ends_from : (s : Span) (xs : List Span) (n : ℕ) (d : Span) → AreMaximal xs → n < length xs → EndsBefore s (get_or xs n d) → Each (EndsBefore s) (drop n xs)
-ends_from s [] n d m lt e = absurd (omega arith)
-ends_from s (x ∷ xs) zero d m lt e = (e, each_weaker (EndsBefore x) (EndsBefore s) (λ u f. through s x u e f) xs m.2)
-ends_from s (x ∷ xs) (suc n) d m lt e = ends_from s xs n d m.3 (omega arith) e
-
--- a span that begins by the one at a place begins by all from there on
-pub begins_from : (s : Span) (xs : List Span) (n : ℕ) (d : Span) → AreMaximal xs → n < length xs → BeginsBy s (get_or xs n d) → Each (BeginsBy s) (drop n xs)
-begins_from s [] n d m lt e = absurd (omega arith)
-begins_from s (x ∷ xs) zero d m lt e = (e, each_weaker (EndsBefore x) (BeginsBy s) (λ u f. by_through s x u e f) xs m.2)
-begins_from s (x ∷ xs) (suc n) d m lt e = begins_from s xs n d m.3 (omega arith) e
+-- a span that begins by the first begins by all
+pub begins_by_all : (s t : Span) (ts : List Span) → AreMaximal (t ∷ ts) → BeginsBy s t → Each (BeginsBy s) (t ∷ ts)
+begins_by_all s t ts m b = (b, each_weaker (EndsBefore t) (BeginsBy s) (λ u e. by_through s t u b e) ts m.2)
 
 pub has_front : (xs ys : List Span) (id : Id) → HasId (xs ++ ys) id → HasId xs id ⊎ HasId ys id
 has_front [] ys id h = inr h
@@ -118,20 +120,6 @@ behind_has s (x ∷ xs) id r h (inr i) = behind_has s xs id r h.1 i
 pub once : (s : Span) (xs : List Span) (id : Id) → Each (EndsBefore s) xs → InSpan s id → HasId xs id → ⊥
 once s xs id h i = behind_has s xs id (in_reaches s id i) h
 
-pub has_at : (xs : List Span) (n : ℕ) (d : Span) (id : Id) → AreMaximal xs → n < length xs → Each (λ s. EndsBelow s id.client.0 (id.clock + 1)) (take n xs) → Each (λ s. Reaches s id.client.0 (id.clock + 1)) (drop n xs) →
-    HasId xs id ↔ InSpan (get_or xs n d) id
-has_at [] n d id m lt p q = absurd (omega arith)
-has_at (x ∷ xs) zero d id m lt p q = ((λ h. elim h [ inl i ↦ i | inr k ↦ absurd (behind_has x xs id q.0 m.2 k) ]), (λ i. inl i))
-has_at (x ∷ xs) (suc n) d id m lt p q =
-    let rest = has_at xs n d id m.3 (omega arith) p.1 q in
-    ((λ h. elim h [ inl i ↦ absurd (below_none x id p.0 i) | inr k ↦ rest.0 k ]), (λ i. inr (rest.1 i)))
-
-pub has_none : (xs : List Span) (n : ℕ) (id : Id) → length xs ≤ n → Each (λ s. EndsBelow s id.client.0 (id.clock + 1)) (take n xs) → HasId xs id → ⊥
-has_none [] n id le p h = h
-has_none (x ∷ xs) zero id le p h = absurd (omega arith)
-has_none (x ∷ xs) (suc n) id le p (inl i) = below_none x id p.0 i
-has_none (x ∷ xs) (suc n) id le p (inr h) = has_none xs n id (omega arith) p.1 h
-
 -- ---- one span between others
 
 pub maximal_around : (front : List Span) (w : Span) (back : List Span) → AreMaximal front → AreMaximal back → IsSpan w → 0 < w.len → Each (λ u. EndsBefore u w) front → Each (EndsBefore w) back → AreMaximal (front ++ w ∷ back)
@@ -149,10 +137,3 @@ nothing_added xs s e id = ((λ h. inl h), (λ h. elim h [ inl a ↦ a | inr i �
   where
     none : InSpan s id → ⊥
     none i = absurd (omega arith)
-
--- a span of one list that begins by one of another begins by all from there on
-pub begins_all : (xs ys : List Span) (i j : ℕ) (d e f : Span) → AreMaximal ys → i < length xs → j < length ys → BeginsBy (get_or xs i d) (get_or ys j e) → Each (BeginsBy (get_or xs i f)) (drop j ys)
-begins_all xs ys i j d e f m lt le b = begins_from (get_or xs i f) ys j e m le (subst (λ z. BeginsBy z (get_or ys j e)) (get_or_default xs i d f lt) b)
-
-pub begins_all_else : (xs ys : List Span) (i j : ℕ) (d e f : Span) → AreMaximal xs → i < length xs → j < length ys → (BeginsBy (get_or xs i d) (get_or ys j e) → ⊥) → Each (BeginsBy (get_or ys j f)) (drop i xs)
-begins_all_else xs ys i j d e f m lt le b = begins_all ys xs j i e d f m le lt (by_flipped (get_or xs i d) (get_or ys j e) b)

@@ -1,11 +1,11 @@
 -- Two spans: what their tests say, and what joining two that touch keeps.
-use Rattle.std.proofs.Common.{◌≡◌, ℕ, ◌+◌, ◌<◌, ◌≤◌, ◌⊎◌, ◌↔◌, Bool, true, false, cond, Ordering, Less, Equal, Greater, is_lt, nat_cmp, ◌||◌, ◌&&◌, inl, inr, refl, sym, arith, nat_eq, nat_lt}
+use Rattle.std.proofs.Common.{◌≡◌, ℕ, ◌+◌, ◌<◌, ◌≤◌, ◌⊎◌, ◌↔◌, Bool, true, false, cond, Ordering, Less, Equal, Greater, is_lt, nat_cmp, ◌||◌, ◌&&◌, not, inl, inr, refl, sym, arith, nat_eq, nat_lt}
 use Rattle.std.specs.Ordering.{ordering_then}
 use Rattle.std.proofs.lemmas.Bool.{cases_lt, ltb-true, ltb-false, lt-ltb, le-ltb, eq-eqb, eqb-true, eqb-false}
 use Rattle.yd_ids.specs.declared.id.Id.{Id}
 use Rattle.yd_ids.specs.declared.id.Span.{Span}
 use Rattle.yd_ids.specs.Id.{IsSpan}
-use Rattle.yd_ids.specs.Span.{InSpan, EndsBelow, Reaches, ends_below, EndsBefore, BeginsBy, joined}
+use Rattle.yd_ids.specs.Span.{InSpan, EndsBelow, Reaches, ReachesInto, ends_below, reaches_into, EndsBefore, BeginsBy, start_of, joined}
 
 -- ---- the tests
 
@@ -30,6 +30,33 @@ below_false s c k h = go (nat_lt s.client.0 c) refl (nat_eq s.client.0 c) refl (
 pub below_is : (s : Span) (c k : ℕ) → EndsBelow s c k → ends_below s c k ≡ true
 below_is s c k (inl lt) = rw (lt-ltb s.client.0 c lt)
 below_is s c k (inr h) = let (e, lt) = h in rw (le-ltb s.client.0 c (omega arith), eq-eqb s.client.0 c e, lt-ltb (s.clock + s.len) k lt)
+
+pub reaches_true : (s t : Span) → reaches_into s t ≡ true → ReachesInto s t
+reaches_true s t h = go (ends_below s t.client.0 t.clock) refl h
+  where
+    go : (e : Bool) → ends_below s t.client.0 t.clock ≡ e → not e ≡ true → ReachesInto s t
+    go true x y = absurd cc
+    go false x y = below_false s t.client.0 t.clock x
+
+pub reaches_false : (s t : Span) → reaches_into s t ≡ false → EndsBefore s t
+reaches_false s t h = go (ends_below s t.client.0 t.clock) refl h
+  where
+    go : (e : Bool) → ends_below s t.client.0 t.clock ≡ e → not e ≡ false → EndsBefore s t
+    go true x y = below_true s t.client.0 t.clock x
+    go false x y = absurd cc
+
+before_reaches : (s t : Span) → EndsBefore s t → ReachesInto s t → ⊥
+before_reaches s t (inl a) (inl b) = absurd (omega arith)
+before_reaches s t (inl a) (inr b) = absurd (omega arith)
+before_reaches s t (inr a) (inl b) = absurd (omega arith)
+before_reaches s t (inr a) (inr b) = absurd (omega arith)
+
+pub reaches_is : (s t : Span) → ReachesInto s t → reaches_into s t ≡ true
+reaches_is s t h = go (ends_below s t.client.0 t.clock) refl
+  where
+    go : (e : Bool) → ends_below s t.client.0 t.clock ≡ e → not e ≡ true
+    go true x = absurd (before_reaches s t (below_true s t.client.0 t.clock x) h)
+    go false x = refl
 
 pub by_flipped : (s t : Span) → (BeginsBy s t → ⊥) → BeginsBy t s
 by_flipped s t f = elim (cases_lt t.client.0 s.client.0) [
@@ -95,11 +122,21 @@ pub by_reaches : (s t : Span) → BeginsBy s t → Reaches t s.client.0 s.clock
 by_reaches s t (inl a) = inl a
 by_reaches s t (inr a) = inr (omega arith, omega arith)
 
--- ---- ids
+-- a span that reaches one reaches those before it
+pub reaches_through : (s t u : Span) → EndsBefore t u → ReachesInto s u → ReachesInto s t
+reaches_through s t u (inl a) (inl b) = inl (omega arith)
+reaches_through s t u (inl a) (inr b) = inl (omega arith)
+reaches_through s t u (inr a) (inl b) = inl (omega arith)
+reaches_through s t u (inr a) (inr b) = inr (omega arith, omega arith)
 
-pub below_none : (s : Span) (id : Id) → EndsBelow s id.client.0 (id.clock + 1) → InSpan s id → ⊥
-below_none s id (inl a) i = absurd (omega arith)
-below_none s id (inr a) i = absurd (omega arith)
+-- no two are before one another
+pub not_both : (s t : Span) → EndsBefore s t → EndsBefore t s → ⊥
+not_both s t (inl a) (inl b) = absurd (omega arith)
+not_both s t (inl a) (inr b) = absurd (omega arith)
+not_both s t (inr a) (inl b) = absurd (omega arith)
+not_both s t (inr a) (inr b) = absurd (omega arith)
+
+-- ---- ids
 
 -- where one reaches above an id, none behind it has the id
 pub behind_none : (s t : Span) (id : Id) → Reaches s id.client.0 (id.clock + 1) → EndsBefore s t → InSpan t id → ⊥
@@ -107,6 +144,18 @@ behind_none s t id (inl a) (inl b) i = absurd (omega arith)
 behind_none s t id (inl a) (inr b) i = absurd (omega arith)
 behind_none s t id (inr a) (inl b) i = absurd (omega arith)
 behind_none s t id (inr a) (inr b) i = absurd (omega arith)
+
+-- where a span begins at an id or before it, none before the span has the id
+pub begun_none : (t u : Span) (id : Id) → EndsBefore t u → ReachesInto (start_of id) u → InSpan t id → ⊥
+begun_none t u id (inl a) (inl b) i = absurd (omega arith)
+begun_none t u id (inl a) (inr b) i = absurd (omega arith)
+begun_none t u id (inr a) (inl b) i = absurd (omega arith)
+begun_none t u id (inr a) (inr b) i = absurd (omega arith)
+
+-- and where it begins behind the id, it has not
+pub later_none : (t : Span) (id : Id) → EndsBefore (start_of id) t → InSpan t id → ⊥
+later_none t id (inl a) i = absurd (omega arith)
+later_none t id (inr a) i = absurd (omega arith)
 
 pub in_reaches : (s : Span) (id : Id) → InSpan s id → Reaches s id.client.0 (id.clock + 1)
 in_reaches s id i = inr (omega arith, omega arith)
@@ -133,6 +182,28 @@ before_joined u s t e (inr a) (inr b) = inr (omega arith, omega arith)
 pub reaches_joined : (u s t : Span) → Reaches u s.client.0 s.clock → Reaches u (joined s t).client.0 (joined s t).clock
 reaches_joined u s t (inl a) = inl a
 reaches_joined u s t (inr a) = inr (omega arith, omega arith)
+
+-- the joined span reaches what the first one reaches, and ends before what both do
+pub joined_reaches : (s t u : Span) → ReachesInto s u → ReachesInto (joined s t) u
+joined_reaches s t u (inl a) = inl a
+joined_reaches s t u (inr a) = inr (omega arith, omega arith)
+
+pub joined_before : (s t u : Span) → s.client.0 ≡ t.client.0 → EndsBefore s u → EndsBefore t u → EndsBefore (joined s t) u
+joined_before s t u e (inl a) _ = inl a
+joined_before s t u e (inr a) (inl b) = absurd (omega arith)
+joined_before s t u e (inr a) (inr b) = inr (omega arith, omega arith)
+
+pub span_same : (s t : Span) → s.client.0 ≡ t.client.0 → s.clock ≡ t.clock → s.len ≡ t.len → s ≡ t
+span_same s t e f g = λ i. record { client = record { 0 = e i }; clock = f i; len = g i }
+
+-- a span between the first and the last that are joined adds nothing
+pub joined_again : (s t : Span) → joined (joined s t) t ≡ joined s t
+joined_again s t = span_same (joined (joined s t) t) (joined s t) refl (omega arith) (omega arith)
+
+pub joined_over : (s f t u : Span) → s.client.0 ≡ f.client.0 → s.client.0 ≡ t.client.0 → s.client.0 ≡ u.client.0 → BeginsBy f t → EndsBefore t u → joined (joined (joined s f) t) u ≡ joined (joined s f) u
+joined_over s f t u e g h (inl a) _ = absurd (omega arith)
+joined_over s f t u e g h (inr a) (inl b) = absurd (omega arith)
+joined_over s f t u e g h (inr a) (inr b) = span_same (joined (joined (joined s f) t) u) (joined (joined s f) u) refl (omega arith) (omega arith)
 
 pub joined_by : (s t u : Span) → BeginsBy s u → BeginsBy (joined s t) u
 joined_by s t u (inl a) = inl a

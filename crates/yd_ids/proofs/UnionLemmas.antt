@@ -9,7 +9,7 @@ use Rattle.yd_ids.specs.Id.{IsSpan}
 use Rattle.yd_ids.specs.Set.{HasId, AreMaximal, AddsSpan, AddsSpans, with_span, union_of}
 use Rattle.yd_ids.specs.Span.{InSpan, ends_below, EndsBefore, BeginsBy, joined}
 use Rattle.yd_ids.proofs.SetLemmas.{once}
-use Rattle.yd_ids.proofs.SpanLemmas.{below_true, below_false, through, before_begins, before_joined, joined_span, touch_client, in_joined}
+use Rattle.yd_ids.proofs.SpanLemmas.{below_true, below_false, through, before_begins, before_joined, joined_span, span_same, touch_client, in_joined}
 
 -- ---- the same ids, the same list
 
@@ -49,9 +49,6 @@ not_shorter : (s t : Span) (ss ts : List Span) → AreMaximal (s ∷ ss) → ((i
 not_shorter s t ss ts m f e g lt =
     let there : InSpan t (end_of s) = (sym e, omega arith, omega arith) in
     elim (f (end_of s) (inl there)) [ inl i ↦ absurd (omega arith) | inr k ↦ end_free s ss m.2 k ]
-
-span_same : (s t : Span) → s.client.0 ≡ t.client.0 → s.clock ≡ t.clock → s.len ≡ t.len → s ≡ t
-span_same s t e f g = λ i. record { client = record { 0 = e i }; clock = f i; len = g i }
 
 same_begin : (s t : Span) → BeginsBy s t → BeginsBy t s → (s.client.0 ≡ t.client.0) × (s.clock ≡ t.clock)
 same_begin s t (inl a) (inl b) = absurd (omega arith)

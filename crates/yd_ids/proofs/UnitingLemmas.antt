@@ -1,6 +1,8 @@
 -- A union: one span after another, in order of where they begin, is put behind the others.
-use Rattle.std.proofs.Common.{◌≡◌, ℕ, zero, suc, ◌+◌, ◌<◌, ◌≤◌, ◌⊎◌, ◌↔◌, Bool, true, false, cond, List, [], ◌∷◌, ◌++◌, length, get_or, set, drop, inl, inr, refl, sym, ap, ◌∙◌, subst, arith}
-use Rattle.std.proofs.lemmas.List.{drop_more, drop_all, get_or_default}
+use Rattle.std.proofs.Common.{◌≡◌, ℕ, zero, suc, ◌+◌, ◌<◌, ◌≤◌, ◌⊎◌, ◌↔◌, Bool, true, false, cond, List, [], ◌∷◌, ◌++◌, length, get_or, set, Some, None, inl, inr, refl, sym, ap, ◌∙◌, subst, arith}
+use Rattle.std.proofs.lemmas.List.{get_or_default}
+use Rattle.std.specs.Prelude.{slice_get}
+use Rattle.std.proofs.lemmas.Option.{same_Some}
 use Rattle.yd_words.specs.Each.{Each}
 use Rattle.yd_words.proofs.EachLemmas.{each_weaker, each_both}
 use Rattle.yd_ids.specs.declared.id.Id.{Id}
@@ -8,8 +10,8 @@ use Rattle.yd_ids.specs.declared.id.Span.{Span}
 use Rattle.yd_ids.specs.Id.{IsSpan}
 use Rattle.yd_ids.specs.Set.{HasId, AreMaximal, AddsSpans}
 use Rattle.yd_ids.specs.Span.{InSpan, Reaches, ends_below, EndsBefore, BeginsBy, joined}
-use Rattle.yd_ids.specs.Uniting.{with_last}
-use Rattle.yd_ids.proofs.SetLemmas.{span_at, maximal_back}
+use Rattle.yd_ids.specs.Uniting.{BeginsFirst, TakesNext, with_last}
+use Rattle.yd_ids.proofs.SetLemmas.{begins_by_all}
 use Rattle.yd_ids.proofs.SpanLemmas.{below_true, below_false, before_by, before_begins, by_reaches, touch_client, joined_span, joined_some, before_joined, joined_by, in_joined}
 
 -- ---- the code's two ways
@@ -107,26 +109,45 @@ has_with (x ∷ y ∷ xs) s id b (inl (inl i)) = inl i
 has_with (x ∷ y ∷ xs) s id b (inl (inr h)) = inr (has_with (y ∷ xs) s id b.1 (inl h))
 has_with (x ∷ y ∷ xs) s id b (inr i) = inr (has_with (y ∷ xs) s id b.1 (inr i))
 
+-- ---- which span comes next
+
+pub begins_first : (xs ys : List Span) (s t : Span) → Some s ≡ slice_get xs 0 → Some t ≡ slice_get ys 0 → AreMaximal ys → BeginsBy s t → BeginsFirst xs ys
+begins_first [] ys s t e f m b = absurd cc
+begins_first (x ∷ xs) [] s t e f m b = absurd cc
+begins_first (x ∷ xs) (y ∷ ys) s t e f m b = begins_by_all x y ys m (subst (BeginsBy x) (same_Some t y f) (subst (λ u. BeginsBy u t) (same_Some s x e) b))
+
+pub alone_first : (xs ys : List Span) (s : Span) → Some s ≡ slice_get xs 0 → None ≡ slice_get ys 0 → BeginsFirst xs ys
+alone_first [] ys s e f = absurd cc
+alone_first (x ∷ xs) [] s e f = tt
+alone_first (x ∷ xs) (y ∷ ys) s e f = absurd cc
+
+pub other_first : (xs ys : List Span) → None ≡ slice_get xs 0 → BeginsFirst ys xs ⊎ ((xs ≡ []) × (ys ≡ []))
+other_first [] [] e = inr (refl, refl)
+other_first [] (y ∷ ys) e = inl tt
+other_first (x ∷ xs) ys e = absurd cc
+
 -- ---- the merge
 
 -- the spans so far, of which some of both lists are still to come
-pub record IsUniting (left right both : List Span) (i j : ℕ) : Type 0 where
-  pub bound : (i ≤ length left) × (j ≤ length right)
+pub record IsUniting (left right both lefts rights : List Span) : Type 0 where
+  pub lefts_maximal : AreMaximal lefts
+  pub rights_maximal : AreMaximal rights
   pub maximal : AreMaximal both
-  pub left_order : Each (AllBy both) (drop i left)
-  pub right_order : Each (AllBy both) (drop j right)
-  pub ids : (id : Id) → (HasId both id ⊎ (HasId (drop i left) id ⊎ HasId (drop j right) id)) ↔ (HasId left id ⊎ HasId right id)
+  pub left_order : Each (AllBy both) lefts
+  pub right_order : Each (AllBy both) rights
+  pub ids : (id : Id) → (HasId both id ⊎ (HasId lefts id ⊎ HasId rights id)) ↔ (HasId left id ⊎ HasId right id)
 
 pub none_before : (xs : List Span) → Each (AllBy []) xs
 none_before [] = tt
 none_before (x ∷ xs) = (tt, none_before xs)
 
-pub uniting_begins : (left right both : List Span) → both ≡ [] → IsUniting left right both 0 0
-uniting_begins left right both e = subst (λ zs. IsUniting left right zs 0 0) (sym e) begun
+pub uniting_begins : (left right both : List Span) → AreMaximal left → AreMaximal right → both ≡ [] → IsUniting left right both left right
+uniting_begins left right both m n e = subst (λ zs. IsUniting left right zs left right) (sym e) begun
   where
-    begun : IsUniting left right [] 0 0
+    begun : IsUniting left right [] left right
     begun = record {
-      bound = (omega arith, omega arith);
+      lefts_maximal = m;
+      rights_maximal = n;
       maximal = tt;
       left_order = none_before left;
       right_order = none_before right;
@@ -151,65 +172,56 @@ left_ids {B} {B2} {T} {A} {R} {S} f g = (there, λ s. back (g.1 s))
     back (inr (inl (inr a))) = inr (inl a)
     back (inr (inr r)) = inr (inr r)
 
-right_ids : {B B2 T A R S : Type 0} → B2 ↔ (B ⊎ T) → (B ⊎ (A ⊎ (T ⊎ R))) ↔ S → (B2 ⊎ (A ⊎ R)) ↔ S
-right_ids {B} {B2} {T} {A} {R} {S} f g = (there, λ s. back (g.1 s))
+swap_ids : {B A R S : Type 0} → (B ⊎ (A ⊎ R)) ↔ S → (B ⊎ (R ⊎ A)) ↔ S
+swap_ids {B} {A} {R} {S} f = ((λ h. f.0 (swap h)), (λ s. swap (f.1 s)))
   where
-    there : B2 ⊎ (A ⊎ R) → S
-    there (inl b) = elim (f.0 b) [ inl x ↦ g.0 (inl x) | inr x ↦ g.0 (inr (inr (inl x))) ]
-    there (inr (inl a)) = g.0 (inr (inl a))
-    there (inr (inr r)) = g.0 (inr (inr (inr r)))
+    swap : {X Y : Type 0} → B ⊎ (X ⊎ Y) → B ⊎ (Y ⊎ X)
+    swap (inl b) = inl b
+    swap (inr (inl x)) = inr (inr x)
+    swap (inr (inr y)) = inr (inl y)
 
-    back : B ⊎ (A ⊎ (T ⊎ R)) → B2 ⊎ (A ⊎ R)
-    back (inl b) = inl (f.1 (inl b))
-    back (inr (inl a)) = inr (inl a)
-    back (inr (inr (inl x))) = inl (f.1 (inr x))
-    back (inr (inr (inr r))) = inr (inr r)
+-- the two lists in the other order
+flip : (left right both lefts rights : List Span) → IsUniting left right both lefts rights → IsUniting left right both rights lefts
+flip left right both lefts rights u = record {
+  lefts_maximal = u.rights_maximal;
+  rights_maximal = u.lefts_maximal;
+  maximal = u.maximal;
+  left_order = u.right_order;
+  right_order = u.left_order;
+  ids = λ id. swap_ids (u.ids id);
+}
 
--- those behind a place begin behind the one there
-behind_at : (xs : List Span) (n : ℕ) (d : Span) → AreMaximal xs → n < length xs → Each (BeginsBy (get_or xs n d)) (drop (n + 1) xs)
-behind_at xs n d m lt =
-    let back : AreMaximal (get_or xs n d ∷ drop (n + 1) xs) = subst AreMaximal (drop_more xs n d lt) (maximal_back xs n m) in
-    each_weaker (EndsBefore (get_or xs n d)) (BeginsBy (get_or xs n d)) (λ u e. before_begins (get_or xs n d) u e) (drop (n + 1) xs) back.2
+-- ---- lemmas for callers
 
-pub left_goes_on : (left right both : List Span) (i j : ℕ) (d : Span) → AreMaximal left → IsUniting left right both i j → i < length left → Each (BeginsBy (get_or left i d)) (drop j right) →
-    IsUniting left right (with_last both (get_or left i d)) (i + 1) j
-left_goes_on left right both i j d m u lt first =
-    let here = drop_more left i d lt in
-    let order : Each (AllBy both) (get_or left i d ∷ drop (i + 1) left) = subst (Each (AllBy both)) here u.left_order in
-    let is = span_at left i d m lt in
-    let bound = u.bound in
-    record {
-      bound = (omega arith, bound.1);
-      maximal = with_maximal both (get_or left i d) u.maximal is.0 is.1 order.0;
-      left_order = next_order both (get_or left i d) (drop (i + 1) left) order.1 (behind_at left i d m lt);
-      right_order = next_order both (get_or left i d) (drop j right) u.right_order first;
-      ids = λ id. left_ids ((λ h. with_has both (get_or left i d) id order.0 h), (λ h. has_with both (get_or left i d) id order.0 h))
-          (subst (λ zs. (HasId both id ⊎ (HasId zs id ⊎ HasId (drop j right) id)) ↔ (HasId left id ⊎ HasId right id)) here (u.ids id));
-    }
+pub left_goes_on : (left right both : List Span) (s : Span) (lefts rights : List Span) → IsUniting left right both (s ∷ lefts) rights → Each (BeginsBy s) rights → IsUniting left right (with_last both s) lefts rights
+left_goes_on left right both s lefts rights u first = record {
+  lefts_maximal = u.lefts_maximal.3;
+  rights_maximal = u.rights_maximal;
+  maximal = with_maximal both s u.maximal u.lefts_maximal.0 u.lefts_maximal.1 u.left_order.0;
+  left_order = next_order both s lefts u.left_order.1 (each_weaker (EndsBefore s) (BeginsBy s) (λ t e. before_begins s t e) lefts u.lefts_maximal.2);
+  right_order = next_order both s rights u.right_order first;
+  ids = λ id. left_ids ((λ h. with_has both s id u.left_order.0 h), (λ h. has_with both s id u.left_order.0 h)) (u.ids id);
+}
 
-pub right_goes_on : (left right both : List Span) (i j : ℕ) (d : Span) → AreMaximal right → IsUniting left right both i j → j < length right → Each (BeginsBy (get_or right j d)) (drop i left) →
-    IsUniting left right (with_last both (get_or right j d)) i (j + 1)
-right_goes_on left right both i j d m u lt first =
-    let here = drop_more right j d lt in
-    let order : Each (AllBy both) (get_or right j d ∷ drop (j + 1) right) = subst (Each (AllBy both)) here u.right_order in
-    let is = span_at right j d m lt in
-    let bound = u.bound in
-    record {
-      bound = (bound.0, omega arith);
-      maximal = with_maximal both (get_or right j d) u.maximal is.0 is.1 order.0;
-      left_order = next_order both (get_or right j d) (drop i left) u.left_order first;
-      right_order = next_order both (get_or right j d) (drop (j + 1) right) order.1 (behind_at right j d m lt);
-      ids = λ id. right_ids ((λ h. with_has both (get_or right j d) id order.0 h), (λ h. has_with both (get_or right j d) id order.0 h))
-          (subst (λ zs. (HasId both id ⊎ (HasId (drop i left) id ⊎ HasId zs id)) ↔ (HasId left id ⊎ HasId right id)) here (u.ids id));
-    }
+pub goes_on : (left right both lefts rights ls rs : List Span) (s : Span) → IsUniting left right both lefts rights → TakesNext lefts rights ls rs (Some s) → IsUniting left right (with_last both s) ls rs
+goes_on left right both lefts rights ls rs s u (inl ((first, taken), rest)) =
+    left_goes_on left right both s ls rs (subst (λ zs. IsUniting left right both zs rs) taken (subst (IsUniting left right both lefts) rest u)) (subst (Each (BeginsBy s)) rest first)
+goes_on left right both lefts rights ls rs s u (inr ((first, taken), rest)) =
+    let v : IsUniting left right both (s ∷ rs) ls = subst (λ zs. IsUniting left right both zs ls) taken (subst (IsUniting left right both rights) rest (flip left right both lefts rights u)) in
+    flip left right (with_last both s) rs ls (left_goes_on left right both s rs ls v (subst (Each (BeginsBy s)) rest first))
 
-pub uniting_ends : (left right both : List Span) (i j : ℕ) → IsUniting left right both i j → length left ≤ i → length right ≤ j → AddsSpans left both right
-uniting_ends left right both i j u le ge id = ((λ h. (u.ids id).0 (inl h)), (λ h. all ((u.ids id).1 h)))
+pub next_span : (left right both lefts rights ls rs : List Span) (s : Span) → IsUniting left right both lefts rights → TakesNext lefts rights ls rs (Some s) → IsSpan s
+next_span left right both lefts rights ls rs s u (inl ((first, taken), rest)) = let m : AreMaximal (s ∷ ls) = subst AreMaximal taken u.lefts_maximal in m.0
+next_span left right both lefts rights ls rs s u (inr ((first, taken), rest)) = let m : AreMaximal (s ∷ rs) = subst AreMaximal taken u.rights_maximal in m.0
+
+pub fewer : (lefts rights ls rs : List Span) (s : Span) → TakesNext lefts rights ls rs (Some s) → length ls + length rs < length lefts + length rights
+fewer lefts rights ls rs s (inl ((first, taken), rest)) = omega (arith, ap length taken, ap length rest)
+fewer lefts rights ls rs s (inr ((first, taken), rest)) = omega (arith, ap length taken, ap length rest)
+
+pub uniting_ends : (left right both lefts rights ls rs : List Span) → IsUniting left right both lefts rights → TakesNext lefts rights ls rs None → AddsSpans left both right
+uniting_ends left right both lefts rights ls rs u (none, nothing) id = ((λ h. (u.ids id).0 (inl h)), (λ h. all ((u.ids id).1 h)))
   where
-    none : (xs : List Span) (n : ℕ) → length xs ≤ n → HasId (drop n xs) id → ⊥
-    none xs n more h = subst (λ zs. HasId zs id) (drop_all n xs more) h
-
-    all : HasId both id ⊎ (HasId (drop i left) id ⊎ HasId (drop j right) id) → HasId both id
+    all : HasId both id ⊎ (HasId lefts id ⊎ HasId rights id) → HasId both id
     all (inl h) = h
-    all (inr (inl h)) = absurd (none left i le h)
-    all (inr (inr h)) = absurd (none right j ge h)
+    all (inr (inl h)) = absurd (subst (λ zs. HasId zs id) none h)
+    all (inr (inr h)) = absurd (subst (λ zs. HasId zs id) nothing h)

@@ -1,5 +1,5 @@
 -- Spans: their ids, and how two of them stand to each other.
-use Rattle.std.specs.Prelude.{◌≡◌, ℕ, ◌+◌, ◌-◌, min, max, ◌<◌, ◌≤◌, ◌⊎◌, Bool, ◌&&◌, ◌||◌, nat_eq, nat_lt}
+use Rattle.std.specs.Prelude.{◌≡◌, ℕ, ◌+◌, ◌-◌, min, max, ◌<◌, ◌≤◌, ◌⊎◌, Bool, ◌&&◌, ◌||◌, not, nat_eq, nat_lt}
 use Rattle.yd_ids.specs.declared.id.Id.{Id}
 use Rattle.yd_ids.specs.declared.id.Span.{Span}
 
@@ -23,6 +23,10 @@ ReachesInto span next = Reaches span next.client.0 next.clock
 abbrev pub ends_below : Span → ℕ → ℕ → Bool
 ends_below span client clock = nat_lt span.client.0 client || (nat_eq span.client.0 client && nat_lt (span.clock + span.len) clock)
 
+-- whether one span ends where the other begins, or above
+abbrev pub reaches_into : Span → Span → Bool
+reaches_into span next = not (ends_below span next.client.0 next.clock)
+
 -- one span ends below the other's first id, and they do not touch
 abbrev pub EndsBefore : Span → Span → Type 0
 EndsBefore span next = EndsBelow span next.client.0 next.clock
@@ -30,6 +34,10 @@ EndsBefore span next = EndsBelow span next.client.0 next.clock
 -- one span begins where the other does, or before
 abbrev pub BeginsBy : Span → Span → Type 0
 BeginsBy span next = (span.client.0 < next.client.0) ⊎ ((span.client.0 ≡ next.client.0) × (span.clock ≤ next.clock))
+
+-- the span without ids that stands at an id
+abbrev pub start_of : Id → Span
+start_of id = record { client = id.client; clock = id.clock; len = 0 }
 
 -- from the first id of two spans of a client to their last
 abbrev pub joined : Span → Span → Span

@@ -1,6 +1,6 @@
 //! The set of many spans, in any order.
 
-ghost use Rattle.std.specs.Prelude.{◌<◌, length, drop, IsTrue, IfOk};
+ghost use Rattle.std.specs.Prelude.{◌≡◌, ◌<◌, length, drop, IsTrue, IfOk};
 ghost use Rattle.yd_words.specs.Each.{Each};
 ghost use Rattle.yd_ids.specs.Gathering.{AreOrdered, IsApart};
 ghost use Rattle.yd_ids.specs.Id.{IsSpan};
@@ -11,15 +11,17 @@ use crate::id::Span;
 use crate::span::ends_below;
 use crate::uniting::add_last;
 use std::alloc::Global;
+use yd_pieces::Pieces;
 
 /// The maximal spans that have the ids of these.
-pub fn gathered(alloc: Global, mut spans: Vec<Span>) -> Result<Vec<Span>, NoMemory>
+pub fn gathered(alloc: Global, mut spans: Vec<Span>) -> Result<Pieces<Span>, NoMemory>
     requires { Each IsSpan spans.items }
     ensures maximal { IfOk result (λ set. AreMaximal set.items) }
     ensures ids { IfOk result (λ set. HaveSameIds set.items spans.items) }
 {
     if are_maximal(&spans) {
-        return Ok(spans);
+        let set = in_pieces(alloc, spans)?;
+        return Ok(set);
     }
     spans.sort_unstable();
     let set = of_ordered(alloc, &spans)?;
@@ -54,14 +56,38 @@ fn is_apart(spans: &[Span], at: usize) -> bool
     span.len > 0 && ends_below(span, next.client.0, next.clock)
 }
 
+/// The same spans in pieces. Few stay where they are.
+fn in_pieces(alloc: Global, spans: Vec<Span>) -> Result<Pieces<Span>, NoMemory>
+    ensures { IfOk result (λ list. list.items ≡ spans.items) }
+{
+    match Pieces::of_piece(alloc, spans) {
+        Ok(list) => Ok(list),
+        Err(spans) => {
+            let list = pushed(alloc, &spans)?;
+            Ok(list)
+        }
+    }
+}
+
+/// The same spans, pushed one after another.
+fn pushed(alloc: Global, spans: &[Span]) -> Result<Pieces<Span>, NoMemory>
+    ensures { IfOk result (λ list. list.items ≡ spans.now) }
+{
+    let mut list = Pieces::new(alloc);
+    for span in spans {
+        list.push(*span)?;
+    }
+    Ok(list)
+}
+
 /// The maximal spans that have the ids of these, each of which begins where the next does, or before.
-fn of_ordered(alloc: Global, spans: &[Span]) -> Result<Vec<Span>, NoMemory>
+fn of_ordered(alloc: Global, spans: &[Span]) -> Result<Pieces<Span>, NoMemory>
     requires spans { Each IsSpan spans.now }
     requires ordered { AreOrdered spans.now }
     ensures maximal { IfOk result (λ set. AreMaximal set.items) }
     ensures ids { IfOk result (λ set. HaveSameIds set.items spans.now) }
 {
-    let mut set = Vec::new(alloc);
+    let mut set = Pieces::new(alloc);
     for span in spans {
         if span.len > 0 {
             add_last(&mut set, *span)?;

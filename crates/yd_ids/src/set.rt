@@ -15,12 +15,14 @@ use crate::looking::{has_in, has_spans};
 use crate::uniting::united;
 use std::alloc::Global;
 use std::marker::Model;
+use yd_pieces::{Pieces, PiecesIter};
 
 /// A finite set of ids, seen as the list of its maximal spans, in order of the clients, then of the
-/// clocks. Behind it the list is kept in one piece, so that a look-up is a bisection.
+/// clocks. Behind it the list lies in pieces, so that a look-up is a bisection, and a change in the
+/// midst moves few spans.
 #[derive(Drop)]
 pub struct IdSet {
-    spans: Vec<Span>,
+    spans: Pieces<Span>,
 }
 
 impl Model for IdSet {
@@ -41,7 +43,7 @@ impl IdSet {
         ensures { result ≡ [] }
     {
         IdSet {
-            spans: Vec::new(alloc),
+            spans: Pieces::new(alloc),
         }
     }
 
@@ -58,7 +60,8 @@ impl IdSet {
     }
 
     /// Adds the span's ids; a span of length 0 has none. It takes time with the logarithm of how
-    /// many spans there are, and that of moving the spans behind.
+    /// many spans there are, and for each piece that it changes that of moving the spans of the
+    /// piece, and with the number of pieces.
     pub fn insert(&mut self, span: Span) -> Result<(), NoMemory>
         requires { IsSpan span }
         ensures added { OnOk result (AddsSpan self.old self.new span) }
@@ -105,22 +108,35 @@ impl IdSet {
         ensures ascending { result ≡ self.now }
         ensures maximal { AreMaximal self.now }
     {
-        SpanIter { rest: &self.spans }
+        SpanIter {
+            rest: self.spans.iter(),
+        }
     }
 
     /// The same set in memory of its own.
     pub fn copy(&self) -> Result<IdSet, NoMemory>
         ensures { IfOk result (λ copy. copy ≡ self.now) }
     {
-        let spans = Vec::from_slice(*self.spans.allocator(), &self.spans)?;
+        let spans = copied(&self.spans)?;
         Ok(IdSet { spans })
     }
+}
+
+/// The same spans in memory of their own.
+fn copied(spans: &Pieces<Span>) -> Result<Pieces<Span>, NoMemory>
+    ensures { IfOk result (λ copy. copy.items ≡ spans.now.items) }
+{
+    let mut copy = Pieces::new(*spans.allocator());
+    for span in spans.iter() {
+        copy.push(*span)?;
+    }
+    Ok(copy)
 }
 
 /// Maximal spans in order, seen as the list of those that are still to come.
 #[derive(Drop)]
 pub struct SpanIter<'a> {
-    rest: &'a [Span],
+    rest: PiecesIter<'a, Span>,
 }
 
 impl<'a> Model for SpanIter<'a> {
@@ -129,7 +145,7 @@ impl<'a> Model for SpanIter<'a> {
 
     ghost Value = { List Span };
 
-    ghost view = { λ it. it.rest.now };
+    ghost view = { λ it. it.rest };
 }
 
 impl<'a> Iterator for SpanIter<'a> {
@@ -140,8 +156,7 @@ impl<'a> Iterator for SpanIter<'a> {
     ghost remaining = { item_count (λ s. s) };
 
     fn next(&mut self) -> Option<Span> {
-        let (span, rest) = self.rest.split_first()?;
-        self.rest = rest;
+        let span = self.rest.next()?;
         Some(*span)
     }
 }

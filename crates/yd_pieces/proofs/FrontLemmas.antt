@@ -68,16 +68,23 @@ module _ {T A : Type 0} (p : T → Bool) (ps : List (Vec T A)) (last : List T) (
     element = e;
   }
 
--- the last element of all is in front of the end, where it passes
+-- where the last element of all passes, the end is a boundary
+pub end_boundary : {T : Type 0} (p : T → Bool) (front last : List T) (before : ℕ) → before ≡ length front → (0 < length last) × HoldsAt (λ y. p y ≡ true) last (length last - 1) →
+    IsBoundary p (front ++ last) (before + length last)
+end_boundary {T} p front last before is h = subst (λ n. IsBoundary p (front ++ last) (n + length last)) (sym is) (passes, λ lt. absurd (omega (arith, lt, length-append front last)))
+  where
+    place : length front + length last - 1 ≡ length front + (length last - 1)
+    place = omega (arith, h.0)
+
+    passes : 0 < length front + length last → HoldsAt (λ y. p y ≡ true) (front ++ last) (length front + length last - 1)
+    passes pos d = ap (λ k. p (get_or (front ++ last) k d)) place ∙ ap p (get_or-append-add front last (length last - 1) d) ∙ h.1 d
+
+-- and it is in front of the end
 pub front_end : {T : Type 0} (p : T → Bool) (front last : List T) (found : Option T) → (0 < length last) × HoldsAt (λ y. p y ≡ true) last (length last - 1) → found ≡ slice_get last (length last - 1) →
     IsLastPassed p (front ++ last) found
-front_end p front last found h e =
-    let n = length front + length last in
-    let len : length (front ++ last) ≡ n = length-append front last in
-    let place : n - 1 ≡ length front + (length last - 1) = omega (arith, h.0) in
-    record {
-      place = n;
-      bound = omega (arith, len);
-      boundary = (λ _ d. ap (λ k. p (get_or (front ++ last) k d)) place ∙ ap p (get_or-append-add front last (length last - 1) d) ∙ h.1 d, λ lt. absurd (omega (arith, lt, len)));
-      element = e ∙ sym (front_right front last (length last) h.0);
-    }
+front_end p front last found h e = record {
+  place = length front + length last;
+  bound = omega (arith, length-append front last);
+  boundary = end_boundary p front last (length front) refl h;
+  element = e ∙ sym (front_right front last (length last) h.0);
+}

@@ -12,6 +12,7 @@
 #![tactic(auto)]
 
 mod cutting;
+mod draining;
 mod keeping;
 mod pieces;
 mod searching;

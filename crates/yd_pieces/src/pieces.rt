@@ -1,10 +1,12 @@
 //! The list in pieces.
 
+ghost use Rattle.std.specs.List.{remove_range};
 ghost use Rattle.std.specs.List.Sorted.{IsPartitionPoint, IsPartitionedBy};
 ghost use Rattle.yd_pieces.specs.Pieces.{IsBoundary, IsLastPassed};
-ghost use Rattle.std.specs.Prelude.{true, false, take, drop, ◌≡◌, ◌<◌, ◌≤◌, ◌+◌, ◌++◌, ◌∷◌, [], length, filter, insert, remove, set, slice_index_or, option_copied, OnOk, OnErr, IfErr, IsOk};
+ghost use Rattle.std.specs.Prelude.{true, false, take, drop, ◌≡◌, ◌<◌, ◌≤◌, ◌+◌, ◌++◌, ◌∷◌, [], length, filter, insert, remove, set, slice_index_or, option_copied, OnOk, OnErr, IfOk, IfErr, IsOk};
 
 use crate::cutting::{FULL, close, insert_into, remove_from, set_in};
+use crate::draining::drain_from;
 use crate::keeping::keep;
 use crate::searching::{Test, front, point};
 use crate::seeking::{read, rest_of_piece};
@@ -54,6 +56,27 @@ impl<T: Drop> Pieces<T> {
             last: Vec::new(alloc),
             len: 0,
         }
+    }
+
+    /// The list of one piece, which is the vector itself: it takes no memory. A vector that is longer
+    /// than a piece comes back.
+    pub fn of_piece(alloc: Global, piece: Vec<T>) -> Result<Pieces<T>, Vec<T>>
+        ensures done { IfOk result (λ list. list.items ≡ piece.items) }
+        ensures value_returned { IfErr result (λ back. back ≡ piece) }
+    {
+        if piece.len() > FULL {
+            return Err(piece);
+        }
+        Ok(Pieces {
+            pieces: Vec::new(alloc),
+            len: piece.len(),
+            last: piece,
+        })
+    }
+
+    /// The allocator that gives the list its memory.
+    pub fn allocator(&self) -> &Global {
+        self.pieces.allocator()
     }
 
     /// How many elements there are.
@@ -197,6 +220,31 @@ impl<T: Drop> Pieces<T> {
         item
     }
 
+    /// Takes elements from a place on out, at most so many: those that lie in one piece. It answers how
+    /// many, which is one or more. It takes no memory.
+    fn drain_some(&mut self, at: usize, most: usize) -> usize
+        requires some { 0 < most }
+        requires inside { at + most ≤ length self.old.items }
+        ensures some { (0 < result) × (result ≤ most) }
+        ensures done { self.new.items ≡ remove_range self.old.items at (at + result) }
+        ensures room { self.old.room ≤ self.new.room }
+    {
+        let start = self.len - self.last.len();
+        let count = drain_from(&mut self.pieces, &mut self.last, start, at, most);
+        self.len -= count;
+        count
+    }
+
+    /// Takes the elements between two places out. It takes no memory, and for each piece that they lie
+    /// in time with its elements and with the number of pieces.
+    pub fn drain(&mut self, from: usize, to: usize)
+        requires { (from ≤ to) × (to ≤ length self.old.items) }
+        ensures done { self.new.items ≡ remove_range self.old.items from to }
+        ensures room { self.old.room ≤ self.new.room }
+    {
+        drain_each(self, from, to);
+    }
+
     /// Keeps the elements that pass, and drops the others. It takes no memory, and time with the
     /// number of elements.
     pub fn retain<P: Test<T>>(&mut self, test: &P)
@@ -204,5 +252,17 @@ impl<T: Drop> Pieces<T> {
         ensures room { self.old.room ≤ self.new.room }
     {
         self.len = keep(&mut self.pieces, &mut self.last, test);
+    }
+}
+
+/// Takes the elements between two places out, piece by piece.
+fn drain_each<T: Drop>(list: &mut Pieces<T>, from: usize, to: usize)
+    requires { (from ≤ to) × (to ≤ length list.old.items) }
+    ensures done { list.new.items ≡ remove_range list.old.items from to }
+    ensures room { list.old.room ≤ list.new.room }
+{
+    let mut left = to - from;
+    while left > 0 {
+        left -= list.drain_some(from, left);
     }
 }

@@ -105,6 +105,10 @@ pub fn point<T, P: Test<T>>(pieces: &[Vec<T>], last: &[T], before: usize, test: 
     ensures bound { result ≤ length (joined pieces.now ++ last.now) }
     ensures boundary { IsBoundary (P.passes test.now) (joined pieces.now ++ last.now) result }
 {
+    // Often all elements pass.
+    if is_last_passed(last, test) {
+        return before + last.len();
+    }
     let i = pieces_passed(pieces, test);
     let start = start_of(pieces, before, i);
     if i < pieces.len() {

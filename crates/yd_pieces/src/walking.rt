@@ -1,6 +1,6 @@
 //! The elements of a list in pieces, one after another.
 
-ghost use Rattle.std.specs.Prelude.{◌≡◌, ◌<◌, ◌++◌, [], All, length};
+ghost use Rattle.std.specs.Prelude.{◌≡◌, ◌<◌, ◌++◌, [], All, length, option_copied, slice_get};
 ghost use Rattle.std.specs.Iterator.{YieldsFirstRef, item_count};
 ghost use Rattle.yd_pieces.specs.Pieces.{joined, IsFilled};
 
@@ -39,6 +39,19 @@ impl<'a, T: Drop> PiecesIter<'a, T> {
             pieces,
             last,
         }
+    }
+
+    /// The element that comes next, without taking it. It takes no memory.
+    pub fn peek(&self) -> Option<&'a T>
+        ensures { option_copied result ≡ slice_get self.now 0 }
+    {
+        if let Some(item) = self.piece.first() {
+            return Some(item);
+        }
+        if let Some(piece) = self.pieces.first() {
+            return piece.first();
+        }
+        self.last.first()
     }
 }
 

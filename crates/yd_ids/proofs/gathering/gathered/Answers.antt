@@ -17,6 +17,6 @@ of_ordered-requires-clause-ordered c = subst AreOrdered (sym c.deref-2.ensures.v
 
 pub returns-clause-ids : goal.returns-clause-ids
 returns-clause-ids c =
-    same_through c.in_ok-set.set.items c.sort_unstable.new.self.items c.args.spans.items
-    (subst (HaveSameIds c.in_ok-set.set.items) c.deref-2.ensures.value c.in_ok-set.ensures.ids)
+    same_through c.in_ok-set-2.set.items c.sort_unstable.new.self.items c.args.spans.items
+    (subst (HaveSameIds c.in_ok-set-2.set.items) c.deref-2.ensures.value c.in_ok-set-2.ensures.ids)
     (same_back c.args.spans.items c.sort_unstable.new.self.items (permuted_same c.args.spans.items c.sort_unstable.new.self.items c.sort_unstable.ensures.permutation))

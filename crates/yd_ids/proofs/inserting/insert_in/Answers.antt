@@ -6,9 +6,9 @@ use Rattle.yd_ids.proofs.inserting.insert_in.Goals as goal
 pub returns-clause-added : goal.returns-clause-added
 returns-clause-added c =
     subst (λ new. AddsSpan c.args.spans.now.items new c.args.span) (sym c.in_ok-replace.ensures.done)
-    (inserted_ids c.args.spans.now.items c.place-from.result c.args.span _ _ (rw c.deref-2.ensures.value at c.joined_from-to.ensures))
+    (inserted_ids c.args.spans.now.items c.place-from.result c.args.span _ _ c.joined_from-to.ensures)
 
 pub returns-clause-kept : goal.returns-clause-kept
 returns-clause-kept c =
     subst AreMaximal (sym c.in_ok-replace.ensures.done)
-    (inserted_maximal c.args.spans.now.items c.place-from.result c.args.span _ _ c.requires.maximal (rw c.deref-2.ensures.value at c.joined_from-to.ensures))
+    (inserted_maximal c.args.spans.now.items c.place-from.result c.args.span _ _ c.requires.maximal c.joined_from-to.ensures)

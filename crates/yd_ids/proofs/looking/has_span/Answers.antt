@@ -1,26 +1,29 @@
-use Rattle.std.proofs.Common.{◌≡◌, ◌<◌, length, nat_lt, false, sym, ◌∙◌, arith, true≢false}
-use Rattle.std.proofs.lemmas.Bool.{le-ltb}
-use Rattle.yd_ids.proofs.CoveringLemmas.{covered_has, has_covered, has_span_there}
-use Rattle.yd_ids.proofs.SetLemmas.{span_at}
+use Rattle.std.proofs.Common.{◌<◌, None, Some, subst, sym, ◌∙◌, arith, true≢false}
+use Rattle.yd_pieces.specs.Pieces.{IsLastPassed}
+use Rattle.yd_ids.specs.Span.{reaches_into}
+use Rattle.yd_ids.proofs.BegunLemmas.{begun_span}
+use Rattle.yd_ids.proofs.CoveringLemmas.{first_of, covered_has, has_covered, has_span_there}
 use Rattle.yd_ids.proofs.looking.has_span.Goals as goal
 
 pub covers-requires-clause-is_span : goal.covers-requires-clause-is_span
-covers-requires-clause-is_span c = (span_at c.args.spans.now c.place-at.result _ c.requires.maximal c.if-at-spans.true).0
+covers-requires-clause-is_span c =
+    let last = subst (λ s. IsLastPassed (reaches_into s) c.args.spans.now.items (Some c.in-Some.found.now)) c.begun_by.ensures c.in-Some.ensures in
+    begun_span c.args.spans.now.items (first_of c.args.span) c.requires.maximal c.in-Some.found.now last
 
-pub returns-then-at-spans : goal.returns-then-at-spans
-returns-then-at-spans c =
-    let some : 0 < c.args.span.len = omega (arith, c.if-span-eq0.false) in (
-      (λ t. covered_has c.args.spans.now c.place-at.result _ c.args.span c.requires.maximal some c.place-at.ensures.before c.place-at.ensures.behind c.if-at-spans.true
-          (sym c.covers.ensures ∙ t)),
-      (λ all. c.covers.ensures
-          ∙ has_covered c.args.spans.now c.place-at.result _ c.args.span c.requires.maximal some c.place-at.ensures.before c.place-at.ensures.behind all c.if-at-spans.true),
+pub returns-in-Some : goal.returns-in-Some
+returns-in-Some c =
+    let xs = c.args.spans.now.items in
+    let found = c.in-Some.found.now in
+    let some : 0 < c.args.span.len = omega (arith, c.if-span-eq0.false) in
+    let last = subst (λ s. IsLastPassed (reaches_into s) xs (Some found)) c.begun_by.ensures c.in-Some.ensures in (
+      (λ t. covered_has xs c.args.span c.requires.maximal some found last (sym c.covers.ensures ∙ t)),
+      (λ all. c.covers.ensures ∙ has_covered xs c.args.span c.requires.maximal some found last all),
     )
 
-pub returns-else-at-spans : goal.returns-else-at-spans
-returns-else-at-spans c =
+pub returns-in-None : goal.returns-in-None
+returns-in-None c =
     let some : 0 < c.args.span.len = omega (arith, c.if-span-eq0.false) in
-    let past : nat_lt c.place-at.result (length c.args.spans.now) ≡ false = le-ltb _ _ c.if-at-spans.false in (
-      (λ t. absurd (true≢false (sym t ∙ past))),
-      (λ all. absurd (has_span_there c.args.spans.now c.place-at.result c.args.span c.args.span c.requires.maximal some c.place-at.ensures.before c.place-at.ensures.behind all
-          c.if-at-spans.false)),
+    let last = subst (λ s. IsLastPassed (reaches_into s) c.args.spans.now.items None) c.begun_by.ensures c.in-None.ensures in (
+      (λ t. absurd (true≢false (sym t))),
+      (λ all. absurd (has_span_there c.args.spans.now.items c.args.span c.requires.maximal some last all)),
     )
