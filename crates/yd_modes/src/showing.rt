@@ -26,7 +26,7 @@ use yd_value::Shown;
 /// toJSON). A type inside 100 others is not shown: an object with the key `$deep` stands for it.
 /// Calls nest no deeper than these types. It goes once along the units of each list that it shows,
 /// and under a key it looks at the last unit alone. A list is found by a hash of its name, and the
-/// keys of a map by one of the parent; those that share a code are looked at one by one. It changes
+/// keys of a map by one of the parent; where many share a slot, a bisection finds them. It changes
 /// nothing, and where it finds no memory there is no value.
 pub fn show(
     alloc: Global,

@@ -1,82 +1,17 @@
 -- Crowds: what a bisection finds, and how they gain a number and lose some.
-use Rattle.std.proofs.Common.{◌≡◌, ◌≢◌, ◌∙◌, ℕ, zero, suc, ◌<◌, ◌≤◌, ◌+◌, ◌-◌, ◌/◌, ◌⊎◌, inl, inr, Bool, true, false, cond, List, [], ◌∷◌, ◌++◌, Some, Less, Greater, Ordering, get_or, length, take, drop, refl, sym, ap, subst, arith, tests, true≢false, nat_lt}
+use Rattle.std.proofs.Common.{◌≡◌, ◌≢◌, ◌∙◌, ℕ, zero, suc, ◌<◌, ◌≤◌, ◌+◌, ◌-◌, ◌/◌, inl, inr, Bool, true, false, List, [], ◌∷◌, ◌++◌, Some, Less, Greater, Ordering, get_or, length, take, drop, refl, sym, ap, subst, arith, tests, true≢false, nat_lt}
 use Rattle.std.specs.Prelude.{slice_get, filter}
-use Rattle.std.specs.Ordering.{is_lt, is_gt, ordering_reverse}
+use Rattle.std.specs.Ordering.{is_eq, is_lt, is_gt, ordering_reverse}
 use Rattle.std.specs.declared.cmp.Ordering.TheVariants.{Equal}
 use Rattle.std.specs.Cmp.{IsTotalOrder}
-use Rattle.std.proofs.lemmas.Cmp.{tied_itself}
+use Rattle.std.proofs.lemmas.Cmp.{alike_right}
 use Rattle.std.proofs.lemmas.Option.{slice_get_within, slice_get-get_or}
 use Rattle.yd_ops.specs.declared.lists.List.{List as DocList}
 use Rattle.yd_words.proofs.OptionLemmas.{some_is}
 use Rattle.yd_words.proofs.TestLemmas.{split}
-use Rattle.yd_names.specs.Items.{IsAt}
-use Rattle.yd_names.specs.Crowds.{IsUpTo, IsInOrder, IsCrowd, IsPlace, IsJoined}
+use Rattle.yd_names.specs.Crowds.{IsInOrder, IsCrowd, IsPlace, IsTied, IsJoined}
 use Rattle.yd_names.proofs.CodesLemmas.{got_last, got_front, one_longer}
-
--- ---- a number more in a list, and some less
-
-got_inserted : (p : ℕ) (xs : List ℕ) (y i m : ℕ) → p ≤ length xs → slice_get (take p xs ++ y ∷ drop p xs) i ≡ Some m →
-    ((i < p) × (slice_get xs i ≡ Some m)) ⊎ (((i ≡ p) × (y ≡ m)) ⊎ ((j : ℕ) × (i ≡ suc j) × (p ≤ j) × (slice_get xs j ≡ Some m)))
-got_inserted zero xs y zero m le e = inr (inl (refl, some_is y m e))
-got_inserted zero xs y (suc i) m le e = inr (inr (i, refl, omega arith, e))
-got_inserted (suc p) [] y i m le e = absurd (omega arith)
-got_inserted (suc p) (x ∷ xs) y zero m le e = inl (omega arith, e)
-got_inserted (suc p) (x ∷ xs) y (suc i) m le e = elim (got_inserted p xs y i m (omega arith) e) [
-  | inl (lt, f) ↦ inl (omega arith, f)
-  | inr (inl (same, f)) ↦ inr (inl (ap suc same, f))
-  | inr (inr (j, same, more, f)) ↦ inr (inr (suc j, ap suc same, omega arith, f))
-]
-
-inserted_here : (p : ℕ) (xs : List ℕ) (y : ℕ) → p ≤ length xs → slice_get (take p xs ++ y ∷ drop p xs) p ≡ Some y
-inserted_here zero xs y le = refl
-inserted_here (suc p) [] y le = absurd (omega arith)
-inserted_here (suc p) (x ∷ xs) y le = inserted_here p xs y (omega arith)
-
-inserted_others : (p : ℕ) (xs : List ℕ) (y n : ℕ) → p ≤ length xs → IsAt xs n → IsAt (take p xs ++ y ∷ drop p xs) n
-inserted_others zero xs y n le (i, e) = (suc i, e)
-inserted_others (suc p) [] y n le (i, e) = absurd (omega arith)
-inserted_others (suc p) (x ∷ xs) y n le (zero, e) = (zero, e)
-inserted_others (suc p) (x ∷ xs) y n le (suc i, e) = let (j, f) = inserted_others p xs y n (omega arith) (i, e) in (suc j, f)
-
-module _ (test : ℕ → Bool) where
-  -- what is left stood there, and in the same order
-  left_from : (xs : List ℕ) (i m : ℕ) → slice_get (filter test xs) i ≡ Some m → (j : ℕ) × (i ≤ j) × (slice_get xs j ≡ Some m)
-  left_from [] i m e = absurd cc
-  left_from (x ∷ xs) i m e = go (λ i. left_from xs i m) (test x) i e
-    where
-      go : ((i : ℕ) → slice_get (filter test xs) i ≡ Some m → (j : ℕ) × (i ≤ j) × (slice_get xs j ≡ Some m)) → (b : Bool) (i : ℕ) → slice_get (cond b (x ∷ filter test xs) (filter test xs)) i ≡ Some m → (j : ℕ) × (i ≤ j) × (slice_get (x ∷ xs) j ≡ Some m)
-      go deep true zero e = (zero, omega arith, e)
-      go deep true (suc i) e = let (j, le, f) = deep i e in (suc j, omega arith, f)
-      go deep false i e = let (j, le, f) = deep i e in (suc j, omega arith, f)
-
-  left_passes : (xs : List ℕ) (m : ℕ) → IsAt (filter test xs) m → test m ≡ true
-  left_passes [] m (i, e) = absurd cc
-  left_passes (x ∷ xs) m (i, e) = go (left_passes xs m) (test x) refl i e
-    where
-      go : (IsAt (filter test xs) m → test m ≡ true) → (b : Bool) → test x ≡ b → (i : ℕ) → slice_get (cond b (x ∷ filter test xs) (filter test xs)) i ≡ Some m → test m ≡ true
-      go deep true t zero e = ap test (sym (some_is x m e)) ∙ t
-      go deep true t (suc i) e = deep (i, e)
-      go deep false t i e = deep (i, e)
-
-  pub passes_left : (xs : List ℕ) (m : ℕ) → test m ≡ true → IsAt xs m → IsAt (filter test xs) m
-  passes_left [] m t (i, e) = absurd cc
-  passes_left (x ∷ xs) m t (zero, e) = subst (λ b. IsAt (cond b (x ∷ filter test xs) (filter test xs)) m) (sym (ap test (some_is x m e) ∙ t)) (zero, e)
-  passes_left (x ∷ xs) m t (suc i, e) = go (test x) (passes_left xs m t (i, e))
-    where
-      go : (b : Bool) → IsAt (filter test xs) m → IsAt (cond b (x ∷ filter test xs) (filter test xs)) m
-      go true (j, f) = (suc j, f)
-      go false at = at
-
-  left_in_order : (cmp : DocList → DocList → Ordering) (names : List DocList) (xs : List ℕ) → IsInOrder cmp names xs → IsInOrder cmp names (filter test xs)
-  left_in_order cmp names [] sorted i j m n lt e f = absurd cc
-  left_in_order cmp names (x ∷ xs) sorted i j m n lt e f =
-      go (left_in_order cmp names xs (λ i j m n lt e f. sorted (suc i) (suc j) m n (omega arith) e f)) (test x) i j lt e f
-    where
-      go : IsInOrder cmp names (filter test xs) → (b : Bool) (i j : ℕ) → i < j → slice_get (cond b (x ∷ filter test xs) (filter test xs)) i ≡ Some m → slice_get (cond b (x ∷ filter test xs) (filter test xs)) j ≡ Some n → IsUpTo cmp names m n
-      go deep true i zero lt e f = absurd (omega arith)
-      go deep true zero (suc j) lt e f = let (k, le, g) = left_from xs j n f in sorted zero (suc k) m n (omega arith) e g
-      go deep true (suc i) (suc j) lt e f = deep i j m n (omega arith) e f
-      go deep false i j lt e f = deep i j m n lt e f
+use Rattle.yd_names.proofs.InsertingLemmas.{got_inserted, inserted_here, inserted_others, left_from, left_passes, left_in_order}
 
 -- ---- the name with a number of a crowd
 
@@ -104,6 +39,14 @@ less : (o : Ordering) → is_lt o ≡ true → o ≡ Less
 less Less e = refl
 less Equal e = absurd (true≢false (sym e))
 less Greater e = absurd (true≢false (sym e))
+
+pub is_equal : (o : Ordering) → is_eq o ≡ true → o ≡ Equal
+is_equal Less e = absurd (true≢false (sym e))
+is_equal Equal e = refl
+is_equal Greater e = absurd (true≢false (sym e))
+
+pub not_equal : (o : Ordering) → is_eq o ≡ false → o ≢ Equal
+not_equal o e same = true≢false (sym (ap is_eq same) ∙ e)
 
 neither : (o : Ordering) → is_lt o ≡ false → is_gt o ≡ false → o ≡ Equal
 neither Less e f = absurd (true≢false e)
@@ -198,19 +141,16 @@ module _ (cmp : DocList → DocList → Ordering) (total : IsTotalOrder cmp) whe
           goes_under c.sorted low high (low + (high - low) / 2) h (get_or crowd (low + (high - low) / 2) 0) one middle_at (name_at one e) (omega arith) (omega arith) not
 
     -- behind the last place there is none
-    pub not_behind : (place : ℕ) → IsPlace cmp names crowd name place → length crowd ≤ place → (n : ℕ) → IsAt crowd n → slice_get names n ≢ Some name
-    not_behind place p le n (i, e) f = true≢false (sym (p.front i n name (let lt = slice_get_within crowd i n e in omega arith) e f) ∙ ap is_lt (tied_itself total name))
+    pub not_behind : (place : ℕ) → IsPlace cmp names crowd name place → length crowd ≤ place → (n : ℕ) → IsTied cmp names crowd name n → ⊥
+    not_behind place p le n t = let (i, e) = t.at in true≢false (sym (p.front i n t.list (let lt = slice_get_within crowd i n e in omega arith) e t.there) ∙ ap is_lt t.tied)
 
     -- and where another stands at the place, there is none either
     pub not_elsewhere : (place number : ℕ) (other : DocList) → IsInOrder cmp names crowd → IsPlace cmp names crowd name place → slice_get crowd place ≡ Some number →
-        slice_get names number ≡ Some other → (cmp other name ≢ Equal) → (n : ℕ) (one : DocList) → IsAt crowd n → slice_get names n ≡ Some one → cmp one name ≢ Equal
-    not_elsewhere place number other sorted p at there apart n one (i, e) f tied = elim (split place i) [
-      | inl le ↦ apart (neither (cmp other name) (p.rest place number other (omega arith) at there) (go le))
-      | inr lt ↦ true≢false (sym (p.front i n one lt e f) ∙ ap is_lt tied)
-    ]
+        slice_get names number ≡ Some other → cmp other name ≢ Equal → (n : ℕ) → IsTied cmp names crowd name n → ⊥
+    not_elsewhere place number other sorted p at there apart n t = go t.at.0 t.list t.at.1 t.there t.tied
       where
-        go : place ≤ i → is_gt (cmp other name) ≡ false
-        go le = elim (split i place) [
+        up_to : (i : ℕ) (one : DocList) → slice_get crowd i ≡ Some n → slice_get names n ≡ Some one → cmp one name ≡ Equal → place ≤ i → is_gt (cmp other name) ≡ false
+        up_to i one e f tied le = elim (split i place) [
           | inl ge ↦ let same : i ≡ place = omega arith in
               let numbers : n ≡ number = some_is n number (sym e ∙ ap (λ i. slice_get crowd i) same ∙ at) in
               let is : other ≡ one = some_is other one (sym there ∙ ap (λ n. slice_get names n) (sym numbers) ∙ f) in
@@ -218,6 +158,20 @@ module _ (cmp : DocList → DocList → Ordering) (total : IsTotalOrder cmp) whe
           | inr less ↦ ap is_gt (total.antisymm other name ∙ ap ordering_reverse (sym (total.congr one name other tied)) ∙ sym (total.antisymm other one))
               ∙ sorted place i number n less at e other one there f
         ]
+
+        go : (i : ℕ) (one : DocList) → slice_get crowd i ≡ Some n → slice_get names n ≡ Some one → cmp one name ≡ Equal → ⊥
+        go i one e f tied = elim (split place i) [
+          | inl le ↦ apart (neither (cmp other name) (p.rest place number other (omega arith) at there) (up_to i one e f tied le))
+          | inr lt ↦ true≢false (sym (p.front i n one lt e f) ∙ ap is_lt tied)
+        ]
+
+    -- what is as another has the same place
+    pub placed_alike : (other : DocList) (place : ℕ) → cmp name other ≡ Equal → IsPlace cmp names crowd other place → IsPlace cmp names crowd name place
+    placed_alike other place tied p = record {
+      within = p.within;
+      front = λ i n a lt e f. ap is_lt (alike_right total name other a tied) ∙ p.front i n a lt e f;
+      rest = λ i n a le e f. ap is_lt (alike_right total name other a tied) ∙ p.rest i n a le e f;
+    }
 
     -- ---- one name more
 

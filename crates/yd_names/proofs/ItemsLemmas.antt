@@ -1,12 +1,12 @@
 -- Items that have lists, where names come and go, and the first of them in a span.
 use Rattle.std.proofs.Common.{◌≡◌, ◌∙◌, ℕ, zero, suc, ◌+◌, ◌-◌, ◌*◌, ◌<◌, ◌≤◌, ◌⊎◌, nat_lt, get_or, le_of_eq, true, false, true≢false, List, [], ◌∷◌, ◌++◌, Option, Some, None, Result, Ok, Err, inl, inr, refl, sym, ap, subst, arith, tests, Less}
-use Rattle.std.specs.Prelude.{IfSome, map, slice_get, IsTrue, IsSome, OnOk, take, length}
-use Rattle.std.specs.Result.{is_ok}
+use Rattle.std.specs.Prelude.{IfSome, slice_get, IsTrue, IsSome, OnOk, OnErr, take, length}
+use Rattle.std.specs.Result.{is_ok, is_err}
 use Rattle.std.specs.Option.{option_to_list}
 use Rattle.std.specs.Ordering.{nat_cmp, is_gt}
 use Rattle.std.specs.BTreeSet.{BTreeSet, contains}
 use Rattle.std.specs.List.Sorted.{IsPartitionedBy}
-use Rattle.std.proofs.lemmas.List.{map-append, take-map, length-map, length-append}
+use Rattle.std.proofs.lemmas.List.{length-append}
 use Rattle.yd_ids.specs.declared.id.Span.{Span}
 use Rattle.yd_ids.specs.declared.id.Id.{Id}
 use Rattle.yd_ids.specs.Id.{IsSpan}
@@ -23,7 +23,6 @@ use Rattle.yd_meaning.specs.Names.{item_of_list, item_of_parent}
 use Rattle.yd_names.specs.Items.{code_of_item, HasList, HasItems, IsRising, IsAt, IsOther, IsFirstFrom, IsFirstItem, IsFirstClock, IsLookedThrough, earlier, span_behind}
 use Rattle.yd_names.specs.Names.{IsLastOf}
 use Rattle.yd_names.proofs.CodesLemmas.{got_before}
-use Rattle.yd_names.proofs.NamesLemmas.{got_in_front}
 
 -- ---- names that come and go
 
@@ -35,24 +34,19 @@ pushed_items names more name old new e has kept added = subst (λ ns. HasItems n
   | inr (f, same) ↦ subst (λ z. IfSome z (λ id. new (code_of_item id))) (ap item_of_list same ∙ h.own) added
 ])
 
--- and those that stay are known as they were
-pub fewer_items : (names fewer : List DocList) (known : ℕ → Type 0) (len : ℕ) → fewer ≡ take len names → HasItems names known → HasItems fewer known
-fewer_items names fewer known len e has = subst (λ ns. HasItems ns known) (sym e)
-    (λ item h. has item (record { number = h.number; list = h.list; there = got_in_front len names h.number h.list h.there; own = h.own }))
-
--- the codes of all names come and go with them
-pub pushed_codes : (f : DocList → ℕ) (names : List DocList) (name : DocList) (old new : List ℕ) (code : ℕ) → old ≡ map f names → code ≡ f name → new ≡ old ++ code ∷ [] →
-    new ≡ map f (names ++ name ∷ [])
-pushed_codes f names name old new code e same more = more ∙ ap (λ cs. cs ++ code ∷ []) e ∙ ap (λ c. map f names ++ c ∷ []) same ∙ sym (map-append f names (name ∷ []))
-
-pub popped_codes : (f : DocList → ℕ) (names : List DocList) (old new : List ℕ) → old ≡ map f names → new ≡ take (length old - 1) old → new ≡ map f (take (length names - 1) names)
-popped_codes f names old new e less = less ∙ ap (λ cs. take (length cs - 1) cs) e ∙ ap (λ n. take (n - 1) (map f names)) (length-map names f)
-    ∙ take-map f (length names - 1) names
-
 -- what holds where a call succeeds holds where it did
 pub on_success : {T E P : Type 0} (z : Result T E) → is_ok z ≡ true → OnOk z P → P
 on_success (Ok x) e p = p
 on_success (Err x) e p = absurd (true≢false (sym e))
+
+pub on_failure : {T E P : Type 0} (z : Result T E) → is_err z ≡ true → OnErr z P → P
+on_failure (Ok x) e p = absurd (true≢false (sym e))
+on_failure (Err x) e p = p
+
+-- and what holds anyway holds where it fails
+pub on_any : {T E P : Type 0} (z : Result T E) → P → OnErr z P
+on_any (Ok x) p = tt
+on_any (Err x) p = p
 
 pub without_last : {X : Type 0} (xs ys : List X) (last : Option X) → xs ≡ ys ++ option_to_list last → IsSome last → ys ≡ take (length xs - 1) xs
 without_last xs ys None e some = absurd (true≢false (sym some))

@@ -5,6 +5,9 @@ mod ItemsLemmas
 mod SlotsLemmas
 mod SearchLemmas
 mod OrderLemmas
+mod InsertingLemmas
 mod CrowdsLemmas
 mod CodedLemmas
 mod GroupsLemmas
+mod ParentsLemmas
+mod OwnedLemmas

@@ -1,16 +1,15 @@
--- The order of names is total, and tells names apart.
+-- The orders of names tell parents and names apart.
 use Rattle.std.proofs.Common.{◌≡◌, ◌∙◌, ℕ, List, [], ◌∷◌, Option, Some, None, Less, Greater, Ordering, nat_cmp, refl, sym, ap, arith}
 use Rattle.std.specs.Ordering.{ordering_then}
 use Rattle.std.specs.declared.cmp.Ordering.TheVariants.{Equal}
-use Rattle.std.specs.Cmp.{IsTotalOrder}
 use Rattle.std.specs.Cmp.Lexicographic.{slice_cmp}
-use Rattle.std.proofs.lemmas.Cmp.{ranked, nat_list_cmp_total, on_total, then_total}
+use Rattle.std.proofs.lemmas.Cmp.{ranked}
 use Rattle.yd_ids.proofs.IdLemmas.{same_numbers}
 use Rattle.yd_ops.specs.declared.lists.List.{List as DocList}
 use Rattle.yd_ops.specs.declared.lists.Parent.{Parent}
 use Rattle.yd_ops.specs.declared.lists.Parent.TheVariants.{Root, Item}
 use Rattle.yd_meaning.specs.ListNames.{one_list}
-use Rattle.yd_names.specs.Order.{parent_numbers, key_numbers, parent_cmp, key_cmp, own_cmp, list_cmp}
+use Rattle.yd_names.specs.Order.{parent_numbers, parent_cmp, key_cmp, own_cmp, list_cmp}
 
 both_equal : (o p : Ordering) → ordering_then o p ≡ Equal → (o ≡ Equal) × (p ≡ Equal)
 both_equal Less p e = absurd cc
@@ -51,12 +50,6 @@ one_key (Some a) None e = absurd cc
 one_key (Some a) (Some b) e = ap (λ key. Some key) (ap behind_first (one_row (0 ∷ a) (0 ∷ b) e))
 
 -- ---- lemmas for callers
-
-pub own_total : IsTotalOrder own_cmp
-own_total = on_total (λ (list : DocList). list.parent) (on_total parent_numbers nat_list_cmp_total)
-
-pub list_total : IsTotalOrder list_cmp
-list_total = then_total own_total (on_total (λ (list : DocList). list.key) (on_total key_numbers nat_list_cmp_total))
 
 pub same_own : (a b : DocList) → own_cmp a b ≡ Equal → a.parent ≡ b.parent
 same_own a b e = one_parent a.parent b.parent e

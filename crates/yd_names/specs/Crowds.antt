@@ -1,6 +1,7 @@
--- Numbers of names in the order of the names (own).
+-- Numbers of names in an order of the names (own).
 use Rattle.std.specs.Prelude.{◌≡◌, ◌<◌, ◌≤◌, ℕ, true, false, List, [], ◌∷◌, ◌++◌, Some, length, slice_get}
 use Rattle.std.specs.declared.cmp.Ordering.{Ordering}
+use Rattle.std.specs.declared.cmp.Ordering.TheVariants.{Equal}
 use Rattle.std.specs.Ordering.{is_lt, is_gt}
 use Rattle.yd_ops.specs.declared.lists.List.{List as DocList}
 use Rattle.yd_names.specs.Items.{IsAt}
@@ -23,6 +24,13 @@ pub record IsPlace (cmp : DocList → DocList → Ordering) (names : List DocLis
   pub within : place ≤ length crowd
   pub front : (i n : ℕ) (a : DocList) → i < place → slice_get crowd i ≡ Some n → slice_get names n ≡ Some a → is_lt (cmp a name) ≡ true
   pub rest : (i n : ℕ) (a : DocList) → place ≤ i → slice_get crowd i ≡ Some n → slice_get names n ≡ Some a → is_lt (cmp a name) ≡ false
+
+-- the name with a number of the crowd is as another
+pub record IsTied (cmp : DocList → DocList → Ordering) (names : List DocList) (crowd : List ℕ) (name : DocList) (number : ℕ) : Type 0 where
+  pub at : IsAt crowd number
+  pub list : DocList
+  pub there : slice_get names number ≡ Some list
+  pub tied : cmp list name ≡ Equal
 
 -- with one name more, and its number
 pub record IsJoined (cmp : DocList → DocList → Ordering) (names : List DocList) (name : DocList) (crowd more : List ℕ) : Type 0 where

@@ -5,4 +5,5 @@ pub mod Groups
 pub mod Items
 pub mod Names
 pub mod Order
+pub mod Parents
 pub mod Slots

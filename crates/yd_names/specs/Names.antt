@@ -1,25 +1,17 @@
 -- What contracts see of a `Names` and an `ItemNames`: the names of lists, each under the number of its place (own).
-use Rattle.std.specs.Prelude.{◌≡◌, ◌≢◌, ◌<◌, ◌⊎◌, ℕ, List, Option, Some, None, length, map, slice_get}
+use Rattle.std.specs.Prelude.{◌≡◌, ◌≢◌, ◌<◌, ◌⊎◌, ℕ, List, Option, Some, None, length, slice_get}
 use Rattle.yd_ops.specs.declared.lists.List.{List as DocList}
 use Rattle.yd_ops.specs.declared.lists.Parent.{Parent}
-use Rattle.yd_names.specs.Coding.{code_of_parent, code_of_list}
+use Rattle.yd_names.specs.Coding.{code_of_list}
 use Rattle.yd_names.specs.Crowds.{IsCrowd}
 use Rattle.yd_names.specs.Items.{IsAt}
 use Rattle.yd_names.specs.Order.{list_cmp}
-
--- the code of the parent of a list
-abbrev pub code_of_own : DocList → ℕ
-code_of_own list = code_of_parent list.parent
 
 -- each name is found by its code, or in the crowd
 pub record AreCoded (names : List DocList) (codes crowd : List ℕ) : Type 0 where
   pub each : length codes ≡ length names
   pub found : (n : ℕ) (name : DocList) → slice_get names n ≡ Some name → (slice_get codes n ≡ Some (code_of_list name)) ⊎ IsAt crowd n
   pub in_order : IsCrowd list_cmp names crowd
-
--- and by those of their parents
-abbrev pub AreOwned : List DocList → List ℕ → Type 0
-AreOwned names parents = parents ≡ map code_of_own names
 
 -- the list with a number is one of the parent's
 pub record IsOf (names : List DocList) (parent : Parent) (number : ℕ) : Type 0 where

@@ -1,8 +1,8 @@
-//! A list of codes of which many may be the same, in groups.
+//! Places in groups, each of which has a code and knows its last place.
 
-ghost use Rattle.std.specs.Prelude.{◌≡◌, ◌<◌, ◌-◌, ◌++◌, ◌∷◌, [], ℕ, List, Some, length, take, slice_get, IfSome, IfOk, OnOk, OnErr};
+ghost use Rattle.std.specs.Prelude.{◌≡◌, ◌≢◌, ◌<◌, ◌-◌, ◌++◌, ◌∷◌, [], ℕ, Some, length, take, slice_get, IfSome, IfOk, OnOk, OnErr};
 ghost use Rattle.yd_names.specs.Codes.{last_place};
-ghost use Rattle.yd_names.specs.Groups.{KeepsGroups};
+ghost use Rattle.yd_names.specs.Groups.{with_place, with_group, KeepsFront, KeepsGroups};
 
 use crate::codes::Codes;
 use crate::slots::{Slots, narrowed, place_of};
@@ -10,33 +10,32 @@ use std::alloc::Global;
 use std::marker::Model;
 use yd_ops::NoMemory;
 
-/// Codes in a row. How often a code stands there costs the others no time.
+/// Places in a row, each in a group. How many places a group has costs the others no time.
 #[derive(Drop)]
 pub struct Groups {
-    // Each code once.
+    // The codes of the groups, by number.
     codes: Codes,
-    // The numbers of the codes, by place.
+    // The numbers of the groups, by place.
     numbers: Vec<u32>,
-    // The places of each number.
+    // The places of each group.
     places: Slots,
 }
 
 impl Model for Groups {
-    ghost use Rattle.std.specs.Prelude.{ℕ, List};
-    ghost use Rattle.yd_names.specs.Groups.{codes_of, AreGrouped};
+    ghost use Rattle.yd_names.specs.Groups.{AreGrouped, GroupTable};
 
-    ghost Value = { List ℕ };
+    ghost Value = { GroupTable };
 
-    ghost view = { λ it. codes_of it.codes it.numbers.items };
+    ghost view = { λ it. record { codes = it.codes; numbers = it.numbers.items } };
 
     ghost invariant = { λ it. AreGrouped it.codes it.numbers.items
         it.places.heads.items it.places.before.items };
 }
 
 impl Groups {
-    /// No code.
+    /// No place.
     pub fn new(alloc: Global) -> Groups
-        ensures { result ≡ [] }
+        ensures { result.numbers ≡ [] }
     {
         Groups {
             codes: Codes::new(alloc),
@@ -48,40 +47,71 @@ impl Groups {
         }
     }
 
-    /// The last place of a code.
-    pub fn last_of(&self, code: u32) -> Option<usize>
-        ensures { result ≡ last_place code self.now }
+    /// The codes of the groups, by number.
+    pub fn codes(&self) -> &Codes
+        ensures { result.now ≡ self.now.codes }
     {
-        match self.codes.last_of(code) {
-            Some(number) => place_of(self.places.heads[number]),
-            None => None,
-        }
+        &self.codes
     }
 
-    /// The last place before another with the same code.
+    /// The number of the group of a place.
+    pub fn number_of(&self, place: usize) -> usize
+        requires { place < length self.now.numbers }
+        ensures number { slice_get self.now.numbers place ≡ Some result }
+        ensures low { result < length self.now.codes }
+    {
+        self.numbers[place] as usize
+    }
+
+    /// The last place of a group.
+    pub fn last_of(&self, number: usize) -> Option<usize>
+        requires { number < length self.now.codes }
+        ensures { result ≡ last_place number self.now.numbers }
+    {
+        place_of(self.places.heads[number])
+    }
+
+    /// The last place before another in its group.
     pub fn before(&self, place: usize) -> Option<usize>
-        requires { place < length self.now }
-        ensures { IfSome (slice_get self.now place)
-            (λ code. result ≡ last_place code (take place self.now)) }
+        requires { place < length self.now.numbers }
+        ensures { IfSome (slice_get self.now.numbers place)
+            (λ number. result ≡ last_place number (take place self.now.numbers)) }
     {
         place_of(self.places.before[place])
     }
 
-    /// One code more, at the end.
-    pub fn push(&mut self, code: u32) -> Result<(), NoMemory>
-        ensures pushed { OnOk result (self.new ≡ self.old ++ code ∷ []) }
+    /// One place more in a group, at the end.
+    pub fn push(&mut self, number: usize) -> Result<(), NoMemory>
+        requires { number < length self.old.codes }
+        ensures pushed { OnOk result (self.new ≡ with_place self.old number) }
         ensures unchanged { OnErr result (self.new ≡ self.old) }
     {
+        let narrow = narrowed(number)?;
         self.numbers.reserve(1)?;
-        let number = number_for(&mut self.codes, &mut self.places.heads, code)?;
-        self.places.push(number as usize)?;
+        self.places.push(number)?;
+        self.numbers.push_reserved(narrow);
+        Ok(())
+    }
+
+    /// One group more with a code, which has one place more, at the end.
+    pub fn push_group(&mut self, code: u32) -> Result<(), NoMemory>
+        ensures pushed { OnOk result (self.new ≡ with_group self.old code) }
+        ensures fresh { (n : ℕ) → slice_get self.old.numbers n ≢ Some (length self.old.codes) }
+        ensures kept { OnErr result (KeepsFront (length self.old.numbers) self.old self.new) }
+    {
+        self.numbers.reserve(1)?;
+        let number = open(&mut self.codes, &mut self.places.heads, code)?;
+        if self.places.push(number as usize).is_err() {
+            leave(&mut self.codes, &mut self.places.heads, number as usize);
+            return Err(NoMemory);
+        }
         self.numbers.push_reserved(number);
         Ok(())
     }
 
-    /// Takes the last code away.
+    /// Takes the last place away, and its group where it has no other.
     pub fn pop(&mut self)
-        ensures { self.new ≡ take (length self.old - 1) self.old }
+        ensures { KeepsFront (length self.old.numbers - 1) self.old self.new }
     {
         if let Some(number) = self.numbers.pop() {
             self.places.pop(number as usize);
@@ -89,9 +119,9 @@ impl Groups {
         }
     }
 
-    /// Keeps the first codes alone, in time of what it drops.
+    /// Keeps the first places alone, and their groups, in time of what it drops.
     pub fn truncate(&mut self, len: usize)
-        ensures { self.new ≡ take len self.old }
+        ensures { KeepsFront len self.old self.new }
     {
         while self.numbers.len() > len {
             self.pop();
@@ -99,16 +129,13 @@ impl Groups {
     }
 }
 
-/// The number of a code, which is added at the end where it is new.
-fn number_for(codes: &mut Codes, heads: &mut Vec<u32>, code: u32) -> Result<u32, NoMemory>
+/// One group more with a code, and without a place.
+fn open(codes: &mut Codes, heads: &mut Vec<u32>, code: u32) -> Result<u32, NoMemory>
     requires { length heads.old.items ≡ length codes.old }
-    ensures number { IfOk result (λ number. slice_get codes.new number ≡ Some code) }
+    ensures number { IfOk result (λ number. number ≡ length codes.old) }
+    ensures opened { OnOk result (codes.new ≡ codes.old ++ code ∷ []) }
     ensures kept { KeepsGroups codes.old codes.new heads.old.items heads.new.items }
 {
-    if let Some(number) = codes.last_of(code) {
-        let number = narrowed(number)?;
-        return Ok(number);
-    }
     let number = narrowed(heads.len())?;
     heads.reserve(1)?;
     codes.push(code)?;
@@ -116,7 +143,7 @@ fn number_for(codes: &mut Codes, heads: &mut Vec<u32>, code: u32) -> Result<u32,
     Ok(number)
 }
 
-/// Takes the last code away, where it has this number and stands nowhere.
+/// Takes the last group away, where it has this number and no place.
 fn leave(codes: &mut Codes, heads: &mut Vec<u32>, number: usize)
     requires { number < length heads.old.items }
     ensures { KeepsGroups codes.old codes.new heads.old.items heads.new.items }

@@ -1,17 +1,13 @@
 //! Names of lists, with the lists of each parent, and the items that have lists in the order of their ids.
 
-ghost use Rattle.std.specs.Prelude.{◌≡◌, ◌≢◌, true, false, ◌++◌, ◌∷◌, [], ℕ, Some, length, map, take, slice_get, IfSome, IfNone, OnOk, OnErr};
+ghost use Rattle.std.specs.Prelude.{◌≡◌, ◌≢◌, true, false, ◌++◌, ◌∷◌, [], ℕ, Some, length, take, slice_get, IfSome, IfNone, OnOk, OnErr};
 ghost use Rattle.yd_ids.specs.Id.{IsSpan};
-ghost use Rattle.yd_names.specs.Codes.{last_place};
-ghost use Rattle.yd_names.specs.Coding.{code_of_parent};
 ghost use Rattle.yd_names.specs.Items.{HasList, IsFirstItem};
-ghost use Rattle.yd_names.specs.Names.{code_of_own, IsOf, IsLastOf, top_of};
+ghost use Rattle.yd_names.specs.Names.{IsOf, IsLastOf, top_of};
 
-use crate::coding::code_of_parent;
-use crate::groups::Groups;
 use crate::items::{Items, span_behind};
 use crate::names::Names;
-use crate::same::is_same_parent;
+use crate::parents::Parents;
 use std::alloc::Global;
 use std::marker::Model;
 use yd_ids::{Id, Span};
@@ -22,7 +18,7 @@ use yd_ops::{List, NoMemory, Parent};
 #[derive(Drop)]
 pub struct ItemNames {
     names: Names,
-    parents: Groups,
+    parents: Parents,
     items: Items,
 }
 
@@ -30,14 +26,15 @@ impl Model for ItemNames {
     ghost use Rattle.std.specs.Prelude.{List};
     ghost use Rattle.yd_ops.specs.declared.lists.List.{List as DocList};
     ghost use Rattle.yd_names.specs.Items.{IsRising, IsKnown, HasItems};
-    ghost use Rattle.yd_names.specs.Names.{AreOwned};
+    ghost use Rattle.yd_names.specs.Parents.{AreOwned};
 
     ghost Value = { List DocList };
 
     ghost view = { λ it. it.names };
 
     ghost invariant = { λ it. HasItems it.names (IsKnown it.items.rising.items it.items.others)
-        × IsRising it.items.rising.items × AreOwned it.names it.parents };
+        × IsRising it.items.rising.items
+        × AreOwned it.names it.parents.groups it.parents.crowd.items };
 }
 
 impl ItemNames {
@@ -47,7 +44,7 @@ impl ItemNames {
     {
         ItemNames {
             names: Names::new(alloc),
-            parents: Groups::new(alloc),
+            parents: Parents::new(alloc),
             items: Items::new(alloc),
         }
     }
@@ -74,32 +71,16 @@ impl ItemNames {
         self.names.number_of(name)
     }
 
-    /// The last of a parent's lists, or the last one before another of them. So all lists of a parent
-    /// are found from the last one on. It takes a look-up by a hash; parents that share a code are looked
-    /// at one by one.
+    /// The last of a parent's lists, or the last one before another of them. So all lists of a
+    /// parent are found from the last one on. The last one takes a look-up by a hash, and a
+    /// bisection where many parents share a slot. Each one before it takes no look-up.
     pub fn last_of(&self, parent: &Parent, before: Option<usize>) -> Option<usize>
         requires { IfSome before (λ n. IsOf self.now parent.now n) }
         ensures { IsLastOf self.now parent.now (top_of self.now before) result }
     {
-        let mut next = self.last_coded(parent, before);
-        while let Some(number) = next {
-            if is_same_parent(&self.names.as_slice()[number].parent, parent) {
-                return Some(number);
-            }
-            next = self.parents.before(number);
-        }
-        None
-    }
-
-    /// The last list whose parent has the code of another, or the last one before one of this.
-    fn last_coded(&self, parent: &Parent, before: Option<usize>) -> Option<usize>
-        requires { IfSome before (λ n. IsOf self.now parent.now n) }
-        ensures { result ≡ last_place (code_of_parent parent.now)
-            (take (top_of self.now before) (map code_of_own self.now)) }
-    {
         match before {
-            None => self.parents.last_of(code_of_parent(parent)),
-            Some(number) => self.parents.before(number),
+            None => self.parents.last_of(self.names.as_slice(), parent),
+            Some(number) => self.parents.groups.before(number),
         }
     }
 
@@ -137,16 +118,17 @@ impl ItemNames {
         ensures pushed { OnOk result (self.new ≡ self.old ++ name ∷ []) }
         ensures unchanged { OnErr result (self.new ≡ self.old) }
     {
+        let len = self.names.len();
         self.items.add(&name.parent)?;
-        self.parents.push(code_of_parent(&name.parent))?;
+        self.parents.push(self.names.as_slice(), &name)?;
         if self.names.push(name).is_err() {
-            self.parents.pop();
+            self.parents.truncate(len);
             return Err(NoMemory);
         }
         Ok(())
     }
 
-    /// Keeps the first names alone, in time of what it drops.
+    /// Keeps the first names alone, in time of what it drops and of the crowds.
     pub fn truncate(&mut self, len: usize)
         ensures { self.new ≡ take len self.old }
     {

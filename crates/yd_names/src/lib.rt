@@ -22,8 +22,10 @@ mod item_names;
 mod items;
 mod names;
 mod order;
+mod parents;
 mod same;
 mod slots;
+mod sought;
 
 pub use item_names::ItemNames;
 pub use names::Names;

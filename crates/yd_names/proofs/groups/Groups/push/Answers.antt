@@ -1,22 +1,12 @@
-use Rattle.std.proofs.Common.{◌≡◌, ◌∙◌, ◌++◌, ◌∷◌, [], sym, ap, subst}
-use Rattle.yd_names.specs.Groups.{codes_of, AreGrouped}
-use Rattle.yd_names.proofs.GroupsLemmas.{placed, placed_codes}
+use Rattle.std.proofs.Common.{◌<◌, ◌∙◌, ◌++◌, ◌∷◌, [], length, sym, ap, subst}
+use Rattle.yd_names.specs.Groups.{AreGrouped, GroupTable}
+use Rattle.yd_names.proofs.GroupsLemmas.{placed}
 use Rattle.yd_names.proofs.groups.Groups.push.Goals as goal
 
 pub invariant_of-self-2 : goal.invariant_of-self-2
 invariant_of-self-2 c =
-    subst (λ ns. AreGrouped c.number_for.new.codes ns c.push.new.self.heads.items c.push.new.self.before.items)
-    (sym (c.push_reserved.ensures.items ∙ ap (λ ns. ns ++ c.in_ok-number.number ∷ []) c.reserve.ensures.items))
-    (placed c.number_for.new.codes c.self.inside.numbers.items c.number_for.new.heads.items c.self.inside.places.before.items known.0
-    c.args.code c.in_ok-number.number c.push.new.self.heads.items c.push.new.self.before.items c.in_ok-number.ensures.number c.push.ensures.size
-    (c.in_ok-push.ensures.pushed c.self.inside.numbers.items known.0.places))
-  where
-    known : AreGrouped c.number_for.new.codes c.self.inside.numbers.items c.number_for.new.heads.items c.self.inside.places.before.items
-        × (codes_of c.number_for.new.codes c.self.inside.numbers.items ≡ codes_of c.self.inside.codes c.self.inside.numbers.items)
-    known = c.number_for.ensures.kept c.self.inside.numbers.items c.self.inside.places.before.items c.self.invariant
-
-pub returns-clause-pushed : goal.returns-clause-pushed
-returns-clause-pushed c =
-    ap (λ ns. codes_of c.number_for.new.codes ns) (c.push_reserved.ensures.items ∙ ap (λ ns. ns ++ c.in_ok-number.number ∷ []) c.reserve.ensures.items)
-    ∙ placed_codes c.number_for.new.codes c.self.inside.numbers.items c.args.code c.in_ok-number.number c.in_ok-number.ensures.number
-    ∙ ap (λ cs. cs ++ c.args.code ∷ []) ((c.number_for.ensures.kept c.self.inside.numbers.items c.self.inside.places.before.items c.self.invariant).1 ∙ c.self.view_is)
+    subst (λ ns. AreGrouped c.self.inside.codes ns c.push.new.self.heads.items c.push.new.self.before.items)
+    (sym (c.push_reserved.ensures.items ∙ ap (λ ns. ns ++ c.in_ok-narrow.narrow ∷ []) c.reserve.ensures.items ∙ ap (λ n. c.self.inside.numbers.items ++ n ∷ []) c.in_ok-narrow.ensures))
+    (placed c.self.inside.codes c.self.inside.numbers.items c.self.inside.places.heads.items c.self.inside.places.before.items c.self.invariant
+    c.args.number c.push.new.self.heads.items c.push.new.self.before.items (subst (λ (g : GroupTable). c.args.number < length g.codes) (sym c.self.view_is) c.requires) c.push.ensures.size
+    (c.in_ok-push.ensures.pushed c.self.inside.numbers.items c.self.invariant.places))
