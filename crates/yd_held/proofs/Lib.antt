@@ -27,6 +27,7 @@ pub mod StillHeldLemmas
 pub mod TellingLemmas
 pub mod TryingLemmas
 pub mod TurnLemmas
+pub mod TwinLemmas
 pub mod UndoneLemmas
 pub mod UnreadyLemmas
 pub mod WalkLemmas

@@ -11,3 +11,4 @@ pub mod Stand
 pub mod Telling
 pub mod Trying
 pub mod Turn
+pub mod Twin

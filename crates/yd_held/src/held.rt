@@ -15,6 +15,7 @@ ghost use Rattle.yd_held.specs.Turn.{TellsOrder, LosesOne};
 use crate::changing::{Changed, change};
 use crate::fault::NoMemory;
 use crate::parts::{Before, HeldParts};
+use crate::twin::caught_up;
 use std::alloc::Global;
 use std::marker::Model;
 use yd_ids::Vector;
@@ -23,13 +24,16 @@ use yd_ops::{List, Update};
 use yd_received::Received;
 
 /// What was received, and what is held of it: each unit that has all that it needs.
+/// Behind it is a twin of the clocks, which is put back where memory ends in a `take`.
 #[derive(Drop)]
 pub struct Held {
     parts: HeldParts,
+    twin: Option<Vector>,
 }
 
 impl Model for Held {
     ghost use Rattle.yd_held.specs.Held.{HeldValue, held_value, HoldsAll};
+    ghost use Rattle.yd_held.specs.Twin.{IsTwinOf};
     ghost use Rattle.yd_any.specs.contracts.any_value.AnyList as any_list;
     ghost use Rattle.yd_any.specs.contracts.json_value.Json as json;
     ghost use Rattle.std.specs.Coded.{codes};
@@ -40,7 +44,8 @@ impl Model for Held {
 
     ghost view = { λ it. held_value it.parts };
 
-    ghost invariant = { λ it. HoldsAll (held_value it.parts) };
+    ghost invariant = { λ it. HoldsAll (held_value it.parts)
+        × IsTwinOf it.parts.vector it.twin };
 }
 
 /// What a `take` did.
@@ -77,6 +82,7 @@ impl Held {
                 names: Names::new(alloc),
                 lacks: Vec::new(alloc),
             },
+            twin: None,
         }
     }
 
@@ -116,11 +122,11 @@ impl Held {
     /// Takes in the operations of an update, and holds what can be held then. What lacks something
     /// is noted by it, once for each client, and tried again as soon as that is held; then it is
     /// noted no more. So it takes some look-ups for each new run, for each entry that is held, and
-    /// for each time that one is tried, and a copy of the clocks and of what is lacked. The names of
-    /// new lists go behind the others. Where an operation says less than one that was there, what is
-    /// held stays so, one pass over the entries finds of which less is told, and each client is tried
-    /// again. Where one that was in a list is gone, all that is received is held anew. Where memory
-    /// ends nothing was taken.
+    /// for each time that one is tried, and a copy of what is lacked. The clocks are copied too, unless
+    /// the last `take` was kept ([`Held::keep`]). The names of new lists go behind the others. Where an
+    /// operation says less than one that was there, what is held stays so, one pass over the entries
+    /// finds of which less is told, and each client is tried again. Where one that was in a list is
+    /// gone, all that is received is held anew. Where memory ends nothing was taken.
     pub fn take(&mut self, update: Update) -> Result<Taken, NoMemory>
         requires { IsValidUpdate (update_value update) }
         ensures received { OnOk result (taken_of self.new.received
@@ -144,7 +150,8 @@ impl Held {
         ensures back { IfOk result (λ taken. back_to taken.before self.new ≡ self.old) }
         ensures unchanged { OnErr result (self.new ≡ self.old) }
     {
-        let mut before = self.parts.before()?;
+        let twin = self.twin.take();
+        let mut before = self.parts.before(twin)?;
         match change(&mut self.parts, &mut before, update) {
             Ok(
                 Changed {
@@ -169,6 +176,30 @@ impl Held {
         }
     }
 
+    /// Keeps a `take`: the clocks from before it are brought up to date, and the next `take` needs no
+    /// copy. It takes a raise of a clock for each entry that became held. Where most entries did, or
+    /// all was held anew, or memory ends, the next `take` makes the copy. Nothing changes that is told.
+    pub fn keep(&mut self, taken: Taken)
+        requires { TellsOrder taken.anew taken.told.items taken.order.items
+            (back_to taken.before self.old) self.old }
+        ensures { self.new ≡ self.old }
+    {
+        let Taken {
+            anew,
+            order,
+            before,
+            ..
+        } = taken;
+        // Where most entries became held, a copy takes no more time than these did.
+        if anew || order.len() > self.parts.received.entries().len() / 2 {
+            return;
+        }
+        self.twin = match caught_up(&self.parts, before.vector, &order) {
+            Ok(twin) => Some(twin),
+            Err(NoMemory) => None,
+        };
+    }
+
     /// Joins an entry to the one before it, where both are texts in one list, and it goes on where the
     /// run of the other ends. No operation changes, and what is held stays so. It takes time with the
     /// number of units that are appended, and moves entries of one piece. Where memory ends nothing
@@ -186,6 +217,7 @@ impl Held {
         requires { HoldsAll (back_to before self.old) }
         ensures { self.new ≡ back_to before self.old }
     {
+        self.twin = None;
         self.parts.put_back(before);
     }
 }

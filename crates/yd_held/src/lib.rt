@@ -4,12 +4,13 @@
 //! lost, however the operations came ([`Held::take`]). It keeps the clock that each client has
 //! reached, and numbers the lists by their names ([`Held::names`]). What waits is noted by what it
 //! lacks, and tried again when that is held. Text that comes a letter at a time can be joined, and
-//! then takes one entry ([`Held::join`]). A call that finds no memory has changed nothing.
+//! then takes one entry ([`Held::join`]). A call that finds no memory has changed nothing. What was
+//! before a `take` is put back ([`Held::put_back`]), or kept for the next one ([`Held::keep`]).
 //!
 //! ```rust
 //! let mut held = Held::new(alloc);
 //! let taken = held.take(update)?;
-//! held.put_back(taken.before);
+//! held.keep(taken);
 //! ```
 #![tactic(auto)]
 
@@ -25,6 +26,7 @@ mod placing;
 mod readiness;
 mod telling;
 mod trying;
+mod twin;
 
 pub use fault::NoMemory;
 pub use held::{Held, Taken};

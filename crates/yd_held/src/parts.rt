@@ -3,10 +3,12 @@
 ghost use Rattle.std.specs.Prelude.{◌≡◌, IfOk};
 ghost use Rattle.yd_held.specs.Held.{held_value};
 ghost use Rattle.yd_held.specs.Changing.{IsOf, back_to, received_before};
+ghost use Rattle.yd_held.specs.Twin.{IsTwinOf};
 ghost use Rattle.yd_received.specs.Received.{IsReceived};
 
 use crate::fault::NoMemory;
 use crate::noting::Lack;
+use crate::twin::same_again;
 use yd_ids::Vector;
 use yd_names::Names;
 use yd_received::{Entries, Received};
@@ -50,16 +52,17 @@ pub enum Kept {
 }
 
 impl HeldParts {
-    /// What it is before a change that only adds to it. It copies clients and what is lacked, and no
-    /// units.
-    pub(crate) fn before(&self) -> Result<Before, NoMemory>
+    /// What it is before a change that only adds to it. It copies what is lacked, and the clocks
+    /// where they have no twin.
+    pub(crate) fn before(&self, twin: Option<Vector>) -> Result<Before, NoMemory>
+        requires { IsTwinOf self.now.vector twin }
         ensures { IfOk result (IsOf (held_value self.now)) }
     {
         let alloc = self.received.allocator();
         Ok(Before {
             runs: self.received.runs().len(),
             kept: Kept::Count(self.names.len()),
-            vector: self.vector.copy()?,
+            vector: same_again(&self.vector, twin)?,
             lacks: Vec::from_slice(alloc, &self.lacks)?,
         })
     }

@@ -15,6 +15,10 @@ use Rattle.yd_state.specs.Grown.{GrownValue, ids_of, AreWaiting, AreOwnDeletions
 use Rattle.yd_state.specs.Growing.{GrowsTo, LosesNone, Grows}
 use Rattle.yd_state.proofs.TakeLemmas.{joined_lists, still_sound, still_seen}
 
+-- what stays the same of what is kept does so of what was taken
+pub kept_same : (taken kept joined : HeldValue) → kept ≡ taken → StaysSame kept joined → StaysSame taken joined
+kept_same taken kept joined e = subst (λ k. StaysSame k joined) e
+
 module _ (s : GrownValue) (whole : IsWhole s) (k : HeldValue) (same : StaysSame s.held k) (it : KeptValue) (joins : JoinsHeld s.kept it) where
   -- with the store that is joined
   abbrev mid : GrownValue

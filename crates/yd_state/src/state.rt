@@ -98,12 +98,13 @@ impl State {
     /// Receives an update, holds what can be held then, and puts it into its lists, where the
     /// integration scan puts it. Runs of which all is new are kept, and not copied. It answers whether
     /// the update brought something. It looks at what came, at what waits, and at what is deleted
-    /// besides, and at what is known by look-ups alone. A few new spans of deleted ids move those behind
-    /// them, and many take one pass over all. The sets are copied at their first growth, and at the
-    /// first one after memory ended. Where the update says less of something that was received, the
-    /// entries are copied and walked, and each client is tried again; what is gone already is told so
-    /// once more. Where a unit that a list had is lost, all lists grow anew. Where memory ends, nothing
-    /// has changed that is told.
+    /// besides, and at what is known by look-ups alone. A few new spans of deleted ids move those of
+    /// their pieces, and many take one pass over all. The sets are copied at their first growth, and at
+    /// the first one after memory ended. The clocks of clients are copied once where memory ended before,
+    /// or where most entries came just before. Where the update says less of something that was
+    /// received, the entries are copied and walked, and each client is tried again; what is gone already
+    /// is told so once more. Where a unit that a list had is lost, all lists grow anew. Where memory
+    /// ends, nothing has changed that is told.
     pub fn take(&mut self, update: Update) -> Result<bool, NoMemory>
         requires { IsValidUpdate (update_value update) }
         ensures received { OnOk result (received_in self.new
@@ -132,11 +133,14 @@ impl State {
             more,
         ) {
             Ok(()) => {
-                join(&mut self.held, &mut self.kept, taken.single);
+                let brings = taken.brings;
+                let single = taken.single;
+                self.held.keep(taken);
+                join(&mut self.held, &mut self.kept, single);
                 // That both are sound says that they still tell what they told.
                 let _ = self.held.received();
                 let _ = self.kept.store();
-                Ok(taken.brings || deletes)
+                Ok(brings || deletes)
             }
             Err(NoMemory) => {
                 // That the store is sound says that its lists tell units still.

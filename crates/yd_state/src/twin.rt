@@ -62,7 +62,7 @@ impl TwinSet {
 
     /// What the set grows to with the ids of another one; None where it has them all. Then it takes a
     /// look-up for each span of the other, and no memory. Else it is the twin that is handed out, with
-    /// what it misses and the other ids: few spans move those behind them, and many take one pass.
+    /// what it misses and the other ids: few spans move those of their pieces, and many take one pass.
     pub(crate) fn grown(&mut self, more: &IdSet) -> Result<Option<IdSet>, NoMemory>
         ensures grown { IfOk result (λ grown. grown_to self.old grown ≡ union_of self.old more.now) }
         ensures unchanged { self.new ≡ self.old }

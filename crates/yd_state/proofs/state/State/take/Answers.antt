@@ -5,6 +5,7 @@ use Rattle.yd_ids.specs.Set.{HasId}
 use Rattle.yd_ops.specs.View.{update_value}
 use Rattle.yd_state.specs.Brings.{BringsUnknown}
 use Rattle.yd_held.specs.Held.{HeldValue}
+use Rattle.yd_held.specs.Turn.{TellsOrder}
 use Rattle.yd_state.specs.declared.sets.Sets.{Sets}
 use Rattle.yd_state.specs.Grown.{GrownValue, seen_of, IsWhole}
 use Rattle.yd_received.specs.Received.{taken_of, LowersOne}
@@ -15,10 +16,10 @@ use Rattle.yd_state.specs.Settling.{CanSettle}
 use Rattle.yd_state.proofs.BringsLemmas.{either_tells}
 use Rattle.yd_state.proofs.DocumentLemmas.{seen_sound}
 use Rattle.yd_state.proofs.GrowingLemmas.{grows_then, loses_then}
-use Rattle.yd_state.proofs.JoinedLemmas.{joined_whole, joined_grows, joined_loses}
+use Rattle.yd_state.proofs.JoinedLemmas.{kept_same, joined_whole, joined_grows, joined_loses}
 use Rattle.yd_state.proofs.PlacingLawLemmas.{held_lists}
 use Rattle.yd_state.proofs.TakeLemmas.{grown_of, can_settle, settled_whole, still_sound, still_seen}
-use Rattle.yd_state.proofs.state.State.take.Goals.{then-taken, else-taken}
+use Rattle.yd_state.proofs.state.State.take.Goals.{then-brings, else-brings}
 use Rattle.yd_state.proofs.state.State.take.Goals as goal
 
 pub settle-requires : goal.settle-requires
@@ -30,33 +31,37 @@ settle-requires c =
     (can_settle anew c.self.inside.held k c.self.invariant.holds c.in_ok-taken.ensures.holds
     c.in_ok-taken.taken.told.items c.in_ok-taken.taken.order.items c.in_ok-taken.ensures.order c.self.inside.kept c.self.invariant.keeps))
 
-pub invariant_of-self-in-Ok-1 : goal.invariant_of-self-in-Ok-1
-invariant_of-self-in-Ok-1 c = joined_whole (grown_of c.take.new.self c.settle.new.kept c.settle.new.sets)
+pub keep-requires : goal.keep-requires
+keep-requires c = subst (λ (h : HeldValue). TellsOrder c.in_ok-taken.taken.anew c.in_ok-taken.taken.told.items c.in_ok-taken.taken.order.items h c.take.new.self)
+    (sym c.in_ok-taken.ensures.back) c.in_ok-taken.ensures.order
+
+pub invariant_of-self-in-Ok : goal.invariant_of-self-in-Ok
+invariant_of-self-in-Ok c = joined_whole (grown_of c.take.new.self c.settle.new.kept c.settle.new.sets)
     (settled_whole c.self.inside.held c.self.inside.kept c.self.inside.sets c.self.invariant (update_value c.args.update) c.requires
     c.take.new.self c.in_ok-taken.ensures.holds c.in_ok-taken.ensures.received c.in_ok-more.more c.in_ok-more.ensures
     c.in_ok-taken.taken.anew c.in_ok-taken.taken.told.items c.in_ok-taken.taken.order.items c.in_ok-taken.ensures.order
     c.settle.new.kept c.settle.new.sets c.in-Ok.ensures.named c.in-Ok.ensures.settled)
-    c.join.new.held c.join.ensures.held c.join.new.kept c.join.ensures.kept c.received-in-Ok.ensures.holds
+    c.join.new.held (kept_same c.take.new.self c.keep.new.self c.join.new.held c.keep.ensures c.join.ensures.held) c.join.new.kept c.join.ensures.kept c.received-in-Ok.ensures.holds
     (record { lists = c.store.ensures.lists; told = c.store.ensures.told })
 
-pub returns-after-taken-clause-sound : goal.returns-after-taken-clause-sound
-returns-after-taken-clause-sound c = seen_sound (grown_of c.join.new.held c.join.new.kept c.settle.new.sets)
+pub returns-after-brings-clause-sound : goal.returns-after-brings-clause-sound
+returns-after-brings-clause-sound c = seen_sound (grown_of c.join.new.held c.join.new.kept c.settle.new.sets)
     (joined_whole (grown_of c.take.new.self c.settle.new.kept c.settle.new.sets)
     (settled_whole c.self.inside.held c.self.inside.kept c.self.inside.sets c.self.invariant (update_value c.args.update) c.requires
     c.take.new.self c.in_ok-taken.ensures.holds c.in_ok-taken.ensures.received c.in_ok-more.more c.in_ok-more.ensures
     c.in_ok-taken.taken.anew c.in_ok-taken.taken.told.items c.in_ok-taken.taken.order.items c.in_ok-taken.ensures.order
     c.settle.new.kept c.settle.new.sets c.in-Ok.ensures.named c.in-Ok.ensures.settled)
-    c.join.new.held c.join.ensures.held c.join.new.kept c.join.ensures.kept c.received-in-Ok.ensures.holds
+    c.join.new.held (kept_same c.take.new.self c.keep.new.self c.join.new.held c.keep.ensures c.join.ensures.held) c.join.new.kept c.join.ensures.kept c.received-in-Ok.ensures.holds
     (record { lists = c.store.ensures.lists; told = c.store.ensures.told }))
 
-pub returns-after-taken-clause-brings : goal.returns-after-taken-clause-brings
-returns-after-taken-clause-brings c =
+pub returns-after-brings-clause-brings : goal.returns-after-brings-clause-brings
+returns-after-brings-clause-brings c =
     let update = update_value c.args.update in
     let one = c.in_ok-taken.taken.brings in
     let more = c.brings_deletion-deletes.result in
-    let either : c.if-taken.result ≡ one || more = elim c.if-taken.branch [
-      | then-taken w ↦ w.result-is ∙ w.if-taken.true ∙ sym (ap (λ b. b || more) w.if-taken.true)
-      | else-taken w ↦ w.result-is ∙ sym (ap (λ b. b || more) w.if-taken.false)
+    let either : c.if-brings.result ≡ one || more = elim c.if-brings.branch [
+      | then-brings w ↦ w.result-is ∙ w.if-brings.true ∙ sym (ap (λ b. b || more) w.if-brings.true)
+      | else-brings w ↦ w.result-is ∙ sym (ap (λ b. b || more) w.if-brings.false)
     ] in
     let deletes : IsTrue more ↔ (((x : Id) → HasId c.in_ok-more.more x → HasId c.self.inside.sets.named x ⊎ HasId c.self.inside.sets.deletes x) → ⊥) =
     subst (λ named. IsTrue more ↔ (((x : Id) → HasId c.in_ok-more.more x → HasId named x ⊎ HasId c.self.inside.sets.deletes x) → ⊥)) c.ids.ensures
@@ -93,8 +98,8 @@ returns-in_err-more-clause-sound c = subst IsSound c.self.view_is (seen_sound _ 
 pub returns-in_err-taken-clause-sound : goal.returns-in_err-taken-clause-sound
 returns-in_err-taken-clause-sound c = seen_sound (grown_of c.take.new.self c.self.inside.kept c.self.inside.sets) (subst (λ (h : HeldValue). IsWhole (grown_of h c.self.inside.kept c.self.inside.sets)) (sym c.in_err-taken.ensures.unchanged) c.self.invariant)
 
-pub returns-after-taken-clause-grows : goal.returns-after-taken-clause-grows
-returns-after-taken-clause-grows c =
+pub returns-after-brings-clause-grows : goal.returns-after-brings-clause-grows
+returns-after-brings-clause-grows c =
     let old : GrownValue = grown_of c.self.inside.held c.self.inside.kept c.self.inside.sets in
     let new : GrownValue = grown_of c.take.new.self c.settle.new.kept c.settle.new.sets in
     let whole : IsWhole new = settled_whole c.self.inside.held c.self.inside.kept c.self.inside.sets c.self.invariant (update_value c.args.update) c.requires
@@ -102,11 +107,11 @@ returns-after-taken-clause-grows c =
     c.in_ok-taken.taken.anew c.in_ok-taken.taken.told.items c.in_ok-taken.taken.order.items c.in_ok-taken.ensures.order
     c.settle.new.kept c.settle.new.sets c.in-Ok.ensures.named c.in-Ok.ensures.settled in
     subst (λ s. Grows s (seen_of (grown_of c.join.new.held c.join.new.kept c.settle.new.sets))) c.self.view_is
-    (joined_grows new whole c.join.new.held c.join.ensures.held c.join.new.kept c.join.ensures.kept (seen_of old)
+    (joined_grows new whole c.join.new.held (kept_same c.take.new.self c.keep.new.self c.join.new.held c.keep.ensures c.join.ensures.held) c.join.new.kept c.join.ensures.kept (seen_of old)
     (grows_then old new c.self.invariant whole c.in_ok-taken.taken.anew (λ anew. (c.in_ok-taken.ensures.anew anew).1) c.in-Ok.ensures.settled.grows))
 
-pub returns-after-taken-clause-loses : goal.returns-after-taken-clause-loses
-returns-after-taken-clause-loses c =
+pub returns-after-brings-clause-loses : goal.returns-after-brings-clause-loses
+returns-after-brings-clause-loses c =
     let old : GrownValue = grown_of c.self.inside.held c.self.inside.kept c.self.inside.sets in
     let new : GrownValue = grown_of c.take.new.self c.settle.new.kept c.settle.new.sets in
     let whole : IsWhole new = settled_whole c.self.inside.held c.self.inside.kept c.self.inside.sets c.self.invariant (update_value c.args.update) c.requires
@@ -118,6 +123,6 @@ returns-after-taken-clause-loses c =
     ⊎ LowersOne (operations_of (update_value c.args.update)) (received_in s).operations) c.self.view_is
     (elim (loses_then old new c.self.invariant less c.in_ok-taken.taken.anew c.in_ok-taken.taken.told.items c.in_ok-taken.taken.order.items c.in_ok-taken.ensures.order
     (λ anew. (c.in_ok-taken.ensures.anew anew).0)) [
-      | inl none ↦ inl (joined_loses new whole c.join.new.held c.join.ensures.held c.join.new.kept c.join.ensures.kept (seen_of old) none)
+      | inl none ↦ inl (joined_loses new whole c.join.new.held (kept_same c.take.new.self c.keep.new.self c.join.new.held c.keep.ensures c.join.ensures.held) c.join.new.kept c.join.ensures.kept (seen_of old) none)
       | inr lowers ↦ inr lowers
     ])
