@@ -1,6 +1,6 @@
 //! The entries to undo and to do again.
 
-ghost use Rattle.std.specs.Prelude.{◌≡◌, ◌<◌, ◌++◌, ◌∷◌, [], IfOk, IfErr, OnOk, OnErr};
+ghost use Rattle.std.specs.Prelude.{◌≡◌, ◌<◌, ◌≤◌, ◌++◌, ◌∷◌, [], suc, length, IfOk, IfErr, OnOk, OnErr};
 ghost use Rattle.yd_ops.specs.Valid.{IsValidUpdate};
 ghost use Rattle.yd_ops.specs.View.{update_value};
 ghost use Rattle.yd_undo.specs.Stacks.{newest, newest_entry, after_note, after_undo, after_redo, exchanged, IsUndone, IsUndoCause};
@@ -73,9 +73,7 @@ impl Undo {
         let mut noted = self.noted.copy()?;
         noted.union(&update.deletes)?;
         self.undo.push(entry)?;
-        if self.undo.len() > self.depth as usize {
-            self.undo.remove(0);
-        }
+        keep_newest(&mut self.undo, self.depth);
         self.redo.clear();
         self.noted = noted;
         Ok(())
@@ -135,5 +133,15 @@ impl Undo {
         ensures { self.new ≡ exchanged self.old }
     {
         swap(&mut self.undo, &mut self.redo);
+    }
+}
+
+/// Drops the oldest entry where there is one more than are kept.
+fn keep_newest(entries: &mut Vec<Entry>, depth: u32)
+    requires { length entries.old.items ≤ suc depth }
+    ensures { entries.new.items ≡ newest depth entries.old.items }
+{
+    if entries.len() > depth as usize {
+        entries.remove(0);
     }
 }
